@@ -65,14 +65,14 @@ extern "C" {
 enum {
     WISPUDDERA_READ = 0,         /* a value was read */
     WISPUDDERA_INCOMPLETE = 1,   /* as many bytes are missing as the field `missing` says */
-    WISPUDDERA_TOO_LARGE = 2,    /* a length is above what its record may have */
+    WISPUDDERA_TOO_LARGE = 2,    /* a length is above its record's limit */
     WISPUDDERA_LENGTH_VALUE = 3, /* a length doesn't fit what it counts */
     WISPUDDERA_VERIFY = 4,       /* a value breaks its rule */
     WISPUDDERA_SWITCH = 5,       /* no form is read for a type */
     WISPUDDERA_TAG = 6,          /* a fixed tag differs */
     WISPUDDERA_COMPLETE = 7,     /* bytes are missing where no further bytes could help */
     WISPUDDERA_NONE = 8,         /* what was asked for isn't there */
-    WISPUDDERA_OUTSIDE = 9,      /* the offset lies behind the end of the bytes */
+    WISPUDDERA_OUTSIDE = 9,      /* the offset is past the end of the bytes */
     WISPUDDERA_NO_ROOM = 10,     /* the buffer is too short for what is told, or for what is to be held */
     WISPUDDERA_ABOVE_LIMIT = 11, /* the length of a handshake message is above the limit of its conversation */
     WISPUDDERA_INTERRUPTED = 12  /* another record stands between two parts of a handshake message */
@@ -96,10 +96,10 @@ static inline const char *wispuddera_status_text(uint32_t status) {
     return status < sizeof texts / sizeof *texts ? texts[status] : "no status";
 }
 
-/* Where bytes stand. */
+/* A range of the caller's bytes. */
 typedef struct {
-    size_t offset; /* how many bytes stand in front */
-    size_t length; /* how many bytes stand there */
+    size_t offset; /* how many bytes come before it */
+    size_t length; /* how many bytes it has */
 } wispuddera_place;
 
 /* A record (RFC 5246, section 6.2.1). */
@@ -146,7 +146,7 @@ typedef struct {
     bool has_extensions;
 } wispuddera_server_hello;
 
-/* Where what was asked for stands. */
+/* The place of what was looked up. */
 typedef struct {
     size_t missing;
     wispuddera_place place;
@@ -155,7 +155,7 @@ typedef struct {
 /* A number of a list. */
 typedef struct {
     size_t missing;
-    size_t count; /* how many numbers the list has */
+    size_t count; /* the length of the list */
     uint16_t value;
 } wispuddera_number;
 
@@ -211,8 +211,8 @@ typedef struct {
     wispuddera_place public_key;          /* without the number of unused bits */
     wispuddera_place extensions;          /* wispuddera_read_x509_extension; of no bytes where there are none */
     wispuddera_place signature;           /* without the number of unused bits */
-    int64_t not_before;                   /* the first second in which it is valid, since 1970-01-01 00:00:00 UTC */
-    int64_t not_after;                    /* the last one */
+    int64_t not_before;                   /* the first second of its validity, since 1970-01-01 00:00:00 UTC */
+    int64_t not_after;                    /* the last second of its validity, since 1970-01-01 00:00:00 UTC */
     size_t next;
     uint32_t key_bits; /* of WISPUDDERA_KEY_RSA how many bits the modulus has; else 0 */
     uint8_t key_kind;
@@ -538,7 +538,7 @@ typedef struct {
     uint32_t state;
 } wispuddera_flow;
 
-/* Begins a conversation of which nothing was said. */
+/* Begins a conversation without events. */
 void wispuddera_flow_start(wispuddera_flow *flow);
 
 /* Follows one more event. */
@@ -644,7 +644,7 @@ uint32_t wispuddera_conversation_stop(const wispuddera_conversation *conversatio
 /* Whether the part of the handshake that can be read came to its end; in TLS 1.3 that is with the ServerHello. */
 bool wispuddera_conversation_established(const wispuddera_conversation *conversation);
 
-/* Whether a session was taken up: in TLS 1.3 by the pre_shared_key of the ServerHello (RFC 8446, section 4.2.11). */
+/* Whether a session was resumed; in TLS 1.3, by the ServerHello's pre_shared_key (RFC 8446, section 4.2.11). */
 bool wispuddera_conversation_resumed(const wispuddera_conversation *conversation);
 
 /* ---- Certificates of X.509 (RFC 5280), in DER ----

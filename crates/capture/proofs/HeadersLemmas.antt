@@ -1,4 +1,4 @@
--- Extension headers of IPv6, of which so many may still come.
+-- Extension headers of IPv6, by how many may still come.
 use Rattle.std.proofs.Common.{◌≡◌, ◌≢◌, ℕ, zero, suc, ◌-◌, refl, ap, arith}
 use Rattle.layouts.specs.Layout.{chain}
 use Rattle.capture.specs.Transport.{transport}
@@ -11,7 +11,8 @@ pub none_left : (next : ℕ) → headers 0 next ≡ transport next
 unfolding headers
 none_left next = refl
 
-pub one_more : (n next : ℕ) → n ≢ 0 → headers n next ≡ chain (step next) (step_then (headers (n - 1)) next)
+pub one_more : (n next : ℕ) → n ≢ 0
+    → headers n next ≡ chain (step next) (step_then (headers (n - 1)) next)
 unfolding headers
 one_more zero next some = absurd (some refl)
 one_more (suc n) next some =

@@ -1,4 +1,4 @@
--- Link types that have no row.
+-- Link types that aren't in the table.
 use Rattle.std.proofs.Common.{◌≡◌, ◌∙◌, ap, ℕ, ◌==◌}
 use Rattle.layouts.specs.Layout.{Layout, choose, done, refuse}
 use Rattle.layouts.specs.declared.result.ErrorKind.TheVariants.{Switch}
@@ -8,7 +8,9 @@ use Rattle.capture.specs.Link.{IPV4, IPV6, PPPOE, behind, link, loopback, ppp_li
 skipped : (n k : ℕ) (l m : Layout ℕ) → (n ≡ k → ⊥) → choose (n == k) l m ≡ m
 skipped n k l m other = ap (λ t. choose t l m) (eqb_other n k other)
 
-pub no_row : (n : ℕ) → (n ≡ 0 → ⊥) → (n ≡ 1 → ⊥) → (n ≡ 9 → ⊥) → (n ≡ 50 → ⊥) → (n ≡ 51 → ⊥) → (n ≡ 101 → ⊥) → (n ≡ 108 → ⊥) → (n ≡ 113 → ⊥) → (n ≡ 228 → ⊥) → (n ≡ 229 → ⊥) → (n ≡ 276 → ⊥) → link n ≡ refuse Switch
+pub no_row : (n : ℕ) → (n ≡ 0 → ⊥) → (n ≡ 1 → ⊥) → (n ≡ 9 → ⊥) → (n ≡ 50 → ⊥) → (n ≡ 51 → ⊥)
+    → (n ≡ 101 → ⊥) → (n ≡ 108 → ⊥) → (n ≡ 113 → ⊥) → (n ≡ 228 → ⊥) → (n ≡ 229 → ⊥) → (n ≡ 276 → ⊥)
+    → link n ≡ refuse Switch
 unfolding link
 no_row n a b c d e f g h i j k =
     skipped n 0 loopback _ a

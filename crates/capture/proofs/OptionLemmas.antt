@@ -9,7 +9,7 @@ unfolding option_in
 none_left zero kind xs h = refl
 none_left (suc n) kind xs h = absurd (omega arith)
 
--- One byte has no length behind its kind.
+-- A single byte has no length behind its kind.
 pub short : (n kind : ℕ) (xs : Bytes) → length xs < 2 → None ≡ option_in n kind xs
 unfolding option_in
 short zero kind xs h = refl
@@ -39,8 +39,9 @@ one_more (suc n) kind (k ∷ len ∷ b) some h =
     same
 one_more n kind xs some h = absurd (omega arith)
 
--- An option of another kind.
-pub another : (n kind : ℕ) (xs : Bytes) → n ≢ 0 → 2 ≤ length xs → get_or xs 0 0 ≢ 0 → get_or xs 0 0 ≢ 1
+-- An option of another kind is skipped.
+pub another : (n kind : ℕ) (xs : Bytes) → n ≢ 0 → 2 ≤ length xs → get_or xs 0 0 ≢ 0
+    → get_or xs 0 0 ≢ 1
     → 2 ≤ get_or xs 1 0 → get_or xs 1 0 - 2 ≤ length (drop 2 xs) → get_or xs 0 0 ≢ kind
     → option_in n kind xs ≡ option_in (n - 1) kind (drop (get_or xs 1 0 - 2) (drop 2 xs))
 another n kind xs some h end padding len whole other =

@@ -1,4 +1,4 @@
--- Lists of which no more than the first 16 are kept.
+-- Lists of which only the first 16 elements are kept.
 use Rattle.std.proofs.Common.{◌≡◌, ℕ, zero, suc, ◌<◌, ◌≤◌, List, [], ◌∷◌, ◌++◌, Ok, Err, length, take, refl, sym, ap, ◌∙◌, arith, append-nil, append_assoc, length-append, length-take, take_all}
 use Rattle.std.proofs.lemmas.List.{take-append-le}
 use Rattle.layouts.specs.Bytes.{Bytes}
@@ -13,37 +13,48 @@ again zero xs ys = refl
 again (suc n) [] ys = refl
 again (suc n) (x ∷ xs) ys = ap (λ l. x ∷ l) (again n xs ys)
 
--- One more has room behind fewer.
-pub fits : (xs new : List ℕ) (n v : ℕ) → n < 16 → new ≡ take n xs ++ v ∷ [] → new ≡ take 16 (take n xs ++ v ∷ [])
+-- One more element fits behind fewer than 16.
+pub fits : (xs new : List ℕ) (n v : ℕ) → n < 16 → new ≡ take n xs ++ v ∷ []
+    → new ≡ take 16 (take n xs ++ v ∷ [])
 fits xs new n v few is = is ∙ sym (take_all 16 (take n xs ++ v ∷ [])
     (omega (arith, few, length-append (take n xs) (v ∷ []), length-take n xs)))
 
--- Behind all nothing has room.
-pub is_full : (xs ys : List ℕ) (n : ℕ) → length xs ≡ 16 → 16 ≤ n → take n xs ≡ take 16 (take n xs ++ ys)
+-- Nothing fits behind 16.
+pub is_full : (xs ys : List ℕ) (n : ℕ) → length xs ≡ 16 → 16 ≤ n
+    → take n xs ≡ take 16 (take n xs ++ ys)
 is_full xs ys n all many = let whole = take_all n xs (omega (arith, all, many)) in
-    whole ∙ sym (take_all 16 xs (omega (arith, all))) ∙ sym (take-append-le 16 xs ys (omega (arith, all)))
+    whole ∙ sym (take_all 16 xs (omega (arith, all)))
+    ∙ sym (take-append-le 16 xs ys (omega (arith, all)))
     ∙ ap (λ l. take 16 (l ++ ys)) (sym whole)
 
--- None more leave them as they are.
-pub none_behind : (xs ys : List ℕ) (n : ℕ) → length xs ≡ 16 → ys ≡ [] → take n xs ≡ take 16 (take n xs ++ ys)
-none_behind xs ys n all none = sym (ap (λ l. take 16 (take n xs ++ l)) none ∙ ap (take 16) (append-nil (take n xs))
+-- Appending nothing changes nothing.
+pub none_behind : (xs ys : List ℕ) (n : ℕ) → length xs ≡ 16 → ys ≡ []
+    → take n xs ≡ take 16 (take n xs ++ ys)
+none_behind xs ys n all none =
+    sym (ap (λ l. take 16 (take n xs ++ l)) none ∙ ap (take 16) (append-nil (take n xs))
     ∙ take_all 16 (take n xs) (omega (arith, all, length-take n xs)))
 
--- Some, and then others.
-pub joined : (xs ys zs mid new : List ℕ) → mid ≡ take 16 (xs ++ ys) → new ≡ take 16 (mid ++ zs) → new ≡ take 16 (xs ++ (ys ++ zs))
-joined xs ys zs mid new h g = g ∙ ap (λ l. take 16 (l ++ zs)) h ∙ again 16 (xs ++ ys) zs ∙ ap (take 16) (append_assoc xs ys zs)
+-- Appending twice is appending both.
+pub joined : (xs ys zs mid new : List ℕ) → mid ≡ take 16 (xs ++ ys) → new ≡ take 16 (mid ++ zs)
+    → new ≡ take 16 (xs ++ (ys ++ zs))
+joined xs ys zs mid new h g = g ∙ ap (λ l. take 16 (l ++ zs)) h ∙ again 16 (xs ++ ys) zs
+    ∙ ap (take 16) (append_assoc xs ys zs)
 
 module _ (l : Layout ℕ) (b : Bytes) where
-  -- An item is read, and the others behind it.
-  pub first : (r : Bytes) (v : ℕ) (xs mid new : List ℕ) → reading l b ≡ Ok (v, r) → length r < length b
-      → mid ≡ take 16 (xs ++ v ∷ []) → new ≡ take 16 (mid ++ items_in l r) → new ≡ take 16 (xs ++ items_in l b)
+  -- An item is parsed, and the others behind it.
+  pub first : (r : Bytes) (v : ℕ) (xs mid new : List ℕ) → reading l b ≡ Ok (v, r)
+      → length r < length b
+      → mid ≡ take 16 (xs ++ v ∷ []) → new ≡ take 16 (mid ++ items_in l r)
+      → new ≡ take 16 (xs ++ items_in l b)
   first r v xs mid new e short h g = joined xs (v ∷ []) (items_in l r) mid new h g
       ∙ ap (λ ys. take 16 (xs ++ ys)) (sym (items_first l b v r e short))
 
-  -- None is read, or it takes nothing.
-  pub ended : (xs : List ℕ) (n : ℕ) (e : Refusal) → length xs ≡ 16 → reading l b ≡ Err e → take n xs ≡ take 16 (take n xs ++ items_in l b)
+  -- No item is parsed, or the parsed one is empty.
+  pub ended : (xs : List ℕ) (n : ℕ) (e : Refusal) → length xs ≡ 16 → reading l b ≡ Err e
+      → take n xs ≡ take 16 (take n xs ++ items_in l b)
   ended xs n e all f = none_behind xs (items_in l b) n all (items_none l b e f)
 
-  pub still : (xs : List ℕ) (n v : ℕ) (r : Bytes) → length xs ≡ 16 → reading l b ≡ Ok (v, r) → length b ≤ length r
+  pub still : (xs : List ℕ) (n v : ℕ) (r : Bytes) → length xs ≡ 16 → reading l b ≡ Ok (v, r)
+      → length b ≤ length r
       → take n xs ≡ take 16 (take n xs ++ items_in l b)
   still xs n v r all f long = none_behind xs (items_in l b) n all (items_still l b v r f long)

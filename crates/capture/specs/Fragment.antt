@@ -1,4 +1,4 @@
--- Fragments of datagrams (RFC 791, section 3.2; RFC 8200, section 4.5).
+-- IP fragments (RFC 791, section 3.2; RFC 8200, section 4.5).
 use Rattle.std.specs.Prelude.{ℕ, zero, suc, ◌+◌, ◌-◌, ◌*◌, ◌/◌, ◌%◌, ◌==◌, ◌&&◌, not, nat_le, Bool, true, Option, Some, None, length, if◌then◌else◌}
 use Rattle.layouts.specs.Bytes.{Bytes}
 use Rattle.layouts.specs.Layout.{Layout, done, refuse, number, block, rest, look, window, complete, test, choose, mapped, ◌>>=◌, ◌>>◌}
@@ -11,17 +11,17 @@ use Rattle.capture.specs.declared.fragment.Piece.{Piece as LentPiece}
 use Rattle.capture.specs.declared.fragment.PieceStep.{PieceStep as LentPieceStep}
 use Rattle.capture.specs.declared.fragment.PieceStep.TheVariants as piece_step
 
--- What a header says of a datagram's fragment, and the bytes of that.
+-- A fragment of a datagram: the fields of its header, and its bytes.
 pub record Fragment : Type 0 where
   pub source : Address
   pub destination : Address
   pub identification : ℕ
-  -- the protocol of what the datagram holds; in IPv6 the header that its fragments begin with
+  -- the datagram's protocol; in IPv6 the first header behind the Fragment header
   pub protocol : ℕ
-  -- where its bytes stand among those of the datagram, and whether others stand behind
+  -- the offset of its bytes in the datagram, and whether more fragments follow
   pub offset : ℕ
   pub has_more : Bool
-  -- how many bytes that count for the datagram's length stand in front of all fragments
+  -- the length of the headers that count for the datagram's length and come before all fragments
   pub in_front : ℕ
   pub is_header_right : Bool
   pub payload : Bytes
@@ -39,7 +39,8 @@ view_fragment f = record {
   payload = f.payload.now;
 }
 
--- A fragment of IPv4: the bit MF (0x2000) and the offset, 13 bits that count 8 bytes each. It ends where its total length says.
+-- An IPv4 fragment. MF is the bit 0x2000; the offset is 13 bits, in units of 8 bytes. The fragment
+-- ends at its total length.
 unfoldable pub fragment_v4 : Layout Fragment
 fragment_v4 = do
   lengths ← lengths_v4
@@ -60,7 +61,7 @@ fragment_v4 = do
     payload = payload;
   })
 
--- What a Fragment header says, and the bytes behind it.
+-- The fields of a Fragment header, and the bytes behind it.
 pub record Piece : Type 0 where
   pub next : ℕ
   pub offset : ℕ
@@ -68,21 +69,28 @@ pub record Piece : Type 0 where
   pub payload : Bytes
 
 abbrev pub view_piece : LentPiece → Piece
-view_piece p = record { next = p.next; offset = p.offset; identification = p.identification; payload = p.payload.now }
+view_piece p =
+    record {
+      next = p.next;
+      offset = p.offset;
+      identification = p.identification;
+      payload =
+          p.payload.now;
+    }
 
--- What a header leads to, in front of a fragment.
+-- What follows a header, in the search for a Fragment header.
 pub data PieceStep : Type 0 where
-  -- a header of this number
+  -- another header, of this number
   Further : ℕ → PieceStep
-  -- a part of a datagram that was cut
+  -- a fragment
   Cut : Piece → PieceStep
 
 abbrev pub view_piece_step : LentPieceStep → PieceStep
 view_piece_step (piece_step.Further next) = Further next
 view_piece_step (piece_step.Cut p) = Cut (view_piece p)
 
--- Next header; reserved; offset (13 bits), reserved (2), the bit M; identification (RFC 8200, section 4.5). A header that says that its
--- fragment is the whole datagram leads to the next one (RFC 6946).
+-- Next header; reserved; offset (13 bits), reserved (2), the bit M; identification (RFC 8200,
+-- section 4.5). A fragment that is the whole datagram is skipped to the next header (RFC 6946).
 unfoldable pub piece : Layout PieceStep
 piece = do
   next ← number 1
@@ -91,9 +99,16 @@ piece = do
   identification ← number 4
   payload ← look rest
   done (if (offset / 8 == 0) && (offset % 2 == 0) then Further next
-      else Cut (record { next = next; offset = offset; identification = identification; payload = payload }))
+      else Cut (record {
+        next = next;
+        offset = offset;
+        identification = identification;
+        payload =
+            payload;
+      }))
 
--- What a header of that number leads to: 51 is the Authentication Header (RFC 4302, section 2.2), 44 a Fragment header.
+-- What follows a header of this number: 51 is the Authentication Header (RFC 4302, section 2.2), 44
+-- a Fragment header.
 unfoldable pub piece_step_at : ℕ → Layout PieceStep
 piece_step_at next =
     choose (is_extension next) (mapped Further (skipped 8)) (
@@ -105,13 +120,13 @@ abbrev pub piece_then : (ℕ → Layout Piece) → PieceStep → Layout Piece
 piece_then f (Further next) = f next
 piece_then f (Cut p) = done p
 
--- The fragment behind at most so many headers.
+-- The fragment behind at most this many headers.
 unfoldable pub piece_behind : ℕ → ℕ → Layout Piece
 piece_behind zero next = refuse Switch
 piece_behind (suc n) next = piece_step_at next >>= piece_then (piece_behind n)
 
--- A fragment of IPv6, behind at most 16 headers, which ends where its payload length says. What stands between the header and the Fragment
--- header, which has 8 bytes, stands in front of the whole datagram too.
+-- An IPv6 fragment, behind at most 16 headers, up to the payload length. The headers between the
+-- IPv6 header and the Fragment header, which is 8 bytes, belong to the whole datagram too.
 unfoldable pub fragment_v6 : Layout Fragment
 fragment_v6 = do
   front ← front_v6
@@ -130,7 +145,7 @@ fragment_v6 = do
     payload = piece.payload;
   })
 
--- What a datagram holds whose fragments were put together, by the protocol that the first of them says: all of these bytes.
+-- The content of a reassembled datagram, all of the bytes, by the protocol of its first fragment.
 abbrev pub joined_content : Address → ℕ → Layout Content
 joined_content (V4 n) protocol = complete (protected protocol)
 joined_content (V6 upper lower) protocol = complete (headers 16 protocol)
@@ -138,4 +153,10 @@ joined_content (V6 upper lower) protocol = complete (headers 16 protocol)
 unfoldable pub joined : Address → Address → ℕ → Bool → Layout Datagram
 joined source destination protocol right = do
   content ← joined_content source protocol
-  done (record { source = source; destination = destination; is_header_right = right; content = content })
+  done (record {
+    source = source;
+    destination = destination;
+    is_header_right =
+        right;
+    content = content;
+  })

@@ -1,4 +1,4 @@
--- Datagrams of the Internet Protocol (RFC 791; RFC 8200).
+-- IP datagrams (RFC 791; RFC 8200).
 use Rattle.std.specs.Prelude.{ℕ, zero, suc, ◌+◌, ◌-◌, ◌*◌, ◌/◌, ◌%◌, ◌==◌, ◌||◌, ◌&&◌, nat_le, Bool, true, if◌then◌else◌}
 use Rattle.layouts.specs.Layout.{Layout, done, number, block, window, complete, test, choose, mapped, ◌>>=◌, ◌>>◌}
 use Rattle.layouts.specs.declared.result.ErrorKind.TheVariants.{Verify, LengthValue}
@@ -13,7 +13,7 @@ use Rattle.capture.specs.declared.ip.LengthsV4.{LengthsV4 as StoredLengthsV4}
 use Rattle.capture.specs.declared.ip.Step.{Step}
 use Rattle.capture.specs.declared.ip.Step.TheVariants.{Next, Part, Last}
 
--- An address, as the number that its bytes spell; of the 16 bytes of IPv6, the upper and the lower 8.
+-- An address as a big-endian number. An IPv6 address is two: the upper 8 bytes and the lower 8.
 pub data Address : Type 0 where
   V4 : ℕ → Address
   V6 : ℕ → ℕ → Address
@@ -25,7 +25,7 @@ view_address (address.V6 upper lower) = V6 upper lower
 pub record Datagram : Type 0 where
   pub source : Address
   pub destination : Address
-  -- whether the checksum of a header of IPv4 is right; one of IPv6 has none
+  -- whether the IPv4 header's checksum is correct; IPv6 has none
   pub is_header_right : Bool
   pub content : Content
 
@@ -37,13 +37,13 @@ view_datagram d = record {
   content = view_content d.content;
 }
 
--- More fragments follow (the bit MF), or others come before (the offset, 13 bits): it is not the whole datagram (RFC
--- 791, section 3.1).
+-- Whether more fragments follow (the bit MF) or others come before (the offset, 13 bits), so that
+-- it isn't the whole datagram (RFC 791, section 3.1).
 abbrev pub is_fragment_v4 : ℕ → Bool
 is_fragment_v4 flags = nat_le 1 (flags % 16384)
 
--- The number of the next header; a length, in words of that many bytes; and what is left behind the header's first 8
--- bytes.
+-- The number of the next header; a length, in words of this many bytes; and the rest of the header,
+-- the length counting from behind its first 8 bytes.
 unfoldable pub skipped : ℕ → Layout ℕ
 skipped word = do
   next ← number 1
@@ -51,11 +51,11 @@ skipped word = do
   block (len * word + 6)
   done next
 
--- 51 is the Authentication Header, which says what follows it (RFC 4302, section 2).
+-- 51 is the Authentication Header, which has the number of the next header (RFC 4302, section 2).
 unfoldable pub protected : ℕ → Layout Content
 protected protocol = choose (protocol == 51) (skipped 4 >>= transport) (transport protocol)
 
--- A part of a datagram holds no header of a protocol, but in the first.
+-- A fragment isn't read: only the first has the protocol's header.
 unfoldable pub content_v4 : ℕ → ℕ → Layout Content
 content_v4 flags protocol = choose (is_fragment_v4 flags) (done Fragment) (protected protocol)
 
@@ -68,8 +68,9 @@ pub record LengthsV4 : Type 0 where
 abbrev pub view_lengths_v4 : StoredLengthsV4 → LengthsV4
 view_lengths_v4 l = record { header = l.header; total = l.total; words = l.words }
 
--- Version and length of the header in words of 4 bytes; type of service; total length (RFC 791, section 3.1). A total length of 0 is that of
--- a datagram which the sender's network card was to cut into smaller ones, and which was captured before.
+-- Version, and the header's length in words of 4 bytes; type of service; total length (RFC 791,
+-- section 3.1). A total length of 0 comes from a datagram captured before the sender's network card
+-- segmented it.
 unfoldable pub lengths_v4 : Layout LengthsV4
 lengths_v4 = do
   first ← number 1
@@ -80,7 +81,7 @@ lengths_v4 = do
   test (total == 0 || nat_le (first % 16 * 4) total) LengthValue
   done (record { header = first % 16 * 4; total = total; words = first * 256 + service + total })
 
--- What of a header's further fields is kept, and the sum of their words.
+-- The further fields of a header, and the sum of their words.
 pub record FieldsV4 : Type 0 where
   pub flags : ℕ
   pub protocol : ℕ
@@ -89,7 +90,15 @@ pub record FieldsV4 : Type 0 where
   pub words : ℕ
 
 abbrev pub view_fields_v4 : LentFieldsV4 → FieldsV4
-view_fields_v4 f = record { flags = f.flags; protocol = f.protocol; source = f.source; destination = f.destination; words = f.words }
+view_fields_v4 f =
+    record {
+      flags = f.flags;
+      protocol = f.protocol;
+      source = f.source;
+      destination =
+          f.destination;
+      words = f.words;
+    }
 
 -- Identification; flags and fragment offset; time to live; protocol; checksum; source; destination.
 unfoldable pub fields_v4 : Layout FieldsV4
@@ -106,15 +115,17 @@ fields_v4 = do
     protocol = protocol;
     source = source;
     destination = destination;
-    words = identification + flags + (lifetime * 256 + protocol) + checksum + words4 source + words4 destination;
+    words = identification + flags + (lifetime * 256 + protocol) + checksum + words4 source + words4
+        destination;
   })
 
--- What the datagram holds, which ends where its total length says, or where that is 0 with what was captured.
+-- The content, which ends at the total length, or with the captured bytes if that is 0.
 unfoldable pub held_v4 : ℕ → ℕ → Layout Content → Layout Content
-held_v4 header total content = choose (total == 0) (complete content) (window (total - header) (complete content))
+held_v4 header total content =
+    choose (total == 0) (complete content) (window (total - header) (complete content))
 
--- The header, with options up to its length, and what the datagram holds, which ends where its total length says: what follows is
--- padding of the link, and no part of it.
+-- The header with its options, and the content up to the total length. What follows is the link's
+-- padding.
 unfoldable pub ipv4 : Layout Datagram
 ipv4 = do
   lengths ← lengths_v4
@@ -128,13 +139,13 @@ ipv4 = do
     content = content;
   })
 
--- Hop-by-Hop Options, Routing, Destination Options, Mobility: 8 bytes, and as many times 8 as the header says (RFC
--- 8200, section 4).
+-- Hop-by-Hop Options, Routing, Destination Options, Mobility: 8 bytes, and as many times 8 as the
+-- header's length (RFC 8200, section 4).
 unfoldable pub is_extension : ℕ → Bool
 is_extension next = (next == 0) || ((next == 43) || ((next == 60) || (next == 135)))
 
--- A Fragment header: next header, reserved, offset (13 bits) and the bit M, identification (RFC 8200, section 4.5).
--- A fragment that is the whole datagram is read (RFC 6946).
+-- A Fragment header: next header, reserved, offset (13 bits) and the bit M, identification (RFC
+-- 8200, section 4.5). A fragment that is the whole datagram is parsed (RFC 6946).
 unfoldable pub fragment_header : Layout Step
 fragment_header = do
   next ← number 1
@@ -143,8 +154,8 @@ fragment_header = do
   block 4
   done (if (offset / 8 == 0) && (offset % 2 == 0) then Next next else Part)
 
--- What a header of that number leads to: 51 is the Authentication Header (RFC 4302, section 2.2), 44 a Fragment header;
--- another is no extension header.
+-- What follows a header of this number: 51 is the Authentication Header (RFC 4302, section 2.2), 44
+-- a Fragment header. Any other is no extension header.
 unfoldable pub step : ℕ → Layout Step
 step next =
     choose (is_extension next) (mapped Next (skipped 8)) (
@@ -152,13 +163,13 @@ step next =
     choose (next == 44) fragment_header (
     done Last)))
 
--- What the datagram holds, behind that step: f reads on at the next header.
+-- The content, after that step. f reads on at the next header.
 abbrev pub step_then : (ℕ → Layout Content) → ℕ → Step → Layout Content
 step_then f last (Next next) = f next
 step_then f last Part = done Fragment
 step_then f last Last = transport last
 
--- At most so many extension headers, one behind the other, and what the datagram holds.
+-- At most this many extension headers, one after the other, and the content.
 unfoldable pub headers : ℕ → ℕ → Layout Content
 headers zero next = transport next
 headers (suc n) next = step next >>= step_then (headers n) next
@@ -169,8 +180,8 @@ address_v6 = do
   lower ← number 8
   done (V6 upper lower)
 
--- Version, traffic class and flow label; payload length; next header; hop limit (RFC 8200, section 3): the length and the next
--- header.
+-- Version, traffic class and flow label; payload length; next header; hop limit (RFC 8200, section
+-- 3). The value is the payload length and the next header.
 unfoldable pub front_v6 : Layout (ℕ × ℕ)
 front_v6 = do
   first ← number 1
@@ -181,19 +192,25 @@ front_v6 = do
   block 1
   done (len, next)
 
--- The payload, behind a header that says this length and this next header, with at most 16 extension headers. A length of 0 in front of
--- TCP is that of a datagram which the sender's network card was to cut into smaller ones, and which was captured before: it ends with what was
--- captured.
+-- The payload, by the payload length and next header, with at most 16 extension headers. A length
+-- of 0 before TCP comes from a datagram captured before the sender's network card segmented it: it
+-- ends with the captured bytes.
 unfoldable pub held_v6 : ℕ → ℕ → Layout Content
 held_v6 said next =
     choose ((said == 0) && (next == 6)) (complete (headers 16 next)) (
     payload_length said next >>= λ len. window len (complete (headers 16 next)))
 
--- The same, source, destination, and the payload.
+-- The first 8 bytes of the header, source, destination, and the payload.
 unfoldable pub ipv6 : Layout Datagram
 ipv6 = do
   front ← front_v6
   source ← address_v6
   destination ← address_v6
   content ← held_v6 front.0 front.1
-  done (record { source = source; destination = destination; is_header_right = true; content = content })
+  done (record {
+    source = source;
+    destination = destination;
+    is_header_right =
+        true;
+    content = content;
+  })

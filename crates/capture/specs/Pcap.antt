@@ -1,4 +1,4 @@
--- Files of captured packets (draft-ietf-opsawg-pcap).
+-- Pcap files (draft-ietf-opsawg-pcap).
 use Rattle.std.specs.Prelude.{ℕ, ◌+◌, ◌*◌, ◌%◌, ◌==◌, nat_le}
 use Rattle.layouts.specs.Bytes.{Bytes}
 use Rattle.layouts.specs.Layout.{Layout, done, refuse, number, block, test, choose, ◌>>=◌, ◌>>◌}
@@ -17,7 +17,8 @@ abbrev pub nanoseconds : TimeUnit → ℕ
 nanoseconds Microsecond = 1000
 nanoseconds Nanosecond = 1
 
--- What the magic number says: the order of bytes, and the unit of the fraction of a second (section 4).
+-- What the magic number stands for: the byte order, and the unit of the fraction of a second
+-- (section 4).
 pub record Format : Type 0 where
   pub order : Order
   pub unit : TimeUnit
@@ -28,7 +29,7 @@ view_format f = record { order = f.order; unit = f.unit }
 abbrev pub is : Order → TimeUnit → Layout Format
 is o u = done (record { order = o; unit = u })
 
--- 0xa1b2c3d4 or 0xa1b23c4d, in the order of the machine that wrote it.
+-- 0xa1b2c3d4 or 0xa1b23c4d, in the byte order of the machine that wrote it.
 unfoldable pub format_of : ℕ → Layout Format
 format_of magic =
     choose (magic == 0xa1b2c3d4) (is Big Microsecond) (
@@ -37,7 +38,7 @@ format_of magic =
     choose (magic == 0x4d3cb2a1) (is Little Nanosecond) (
     refuse Tag))))
 
--- What a file says of its packets.
+-- A file header.
 pub record Header : Type 0 where
   pub format : Format
   pub snap_length : ℕ
@@ -50,8 +51,8 @@ view_header h = record {
   link_type = h.link_type;
 }
 
--- Magic number, major version (2), minor version, two reserved fields, the snap length; and the link type in the lower
--- 16 bits of the last field (section 4).
+-- Magic number, major version (2), minor version, two reserved fields, snap length; and the link
+-- type in the lower 16 bits of the last field (section 4).
 unfoldable pub header : Layout Header
 header = do
   magic ← number 4
@@ -63,8 +64,8 @@ header = do
   link ← number_by format.order 4
   done (record { format = format; snap_length = snap_length; link_type = link % 65536 })
 
--- A packet: when it was captured, in nanoseconds since 1970-01-01 00:00 UTC; how long it was, in bytes; and those that
--- were captured.
+-- A packet: its capture time, in nanoseconds since 1970-01-01 00:00 UTC; its length on the wire, in
+-- bytes; and the captured bytes.
 pub record Packet : Type 0 where
   pub time : ℕ
   pub original_length : ℕ
@@ -73,8 +74,8 @@ pub record Packet : Type 0 where
 abbrev pub view_packet : LentPacket → Packet
 view_packet p = record { time = p.time; original_length = p.original_length; bytes = p.bytes.now }
 
--- Seconds, fraction of a second, length captured, original length, and the packet's bytes (section 5). More than
--- 262,144 bytes are in no file that libpcap writes (its MAXIMUM_SNAPLEN).
+-- Seconds, fraction of a second, captured length, original length, and the packet's bytes (section
+-- 5). No file that libpcap writes has more than 262,144 bytes of a packet (its MAXIMUM_SNAPLEN).
 unfoldable pub packet : Format → Layout Packet
 packet format = do
   seconds ← number_by format.order 4

@@ -1,4 +1,4 @@
--- Files of blocks, in sections (draft-ietf-opsawg-pcapng).
+-- Pcapng files: blocks, in sections (draft-ietf-opsawg-pcapng).
 use Rattle.std.specs.Prelude.{ℕ, ◌+◌, ◌-◌, ◌*◌, ◌/◌, ◌%◌, ◌^◌, ◌==◌, ◌||◌, ◌&&◌, not, min, nat_le, nat_lt}
 use Rattle.std.specs.Prelude.{Option, Some, None, if◌then◌else◌, ℤ, pos, negsuc}
 use Rattle.std.specs.Int.{w64, cast_signed}
@@ -14,31 +14,31 @@ use Rattle.capture.specs.declared.pcapng.Block.{Block as LentBlock}
 use Rattle.capture.specs.declared.interface.Interface.{Interface as StoredInterface}
 use Rattle.capture.specs.declared.block_packet.BlockPacket.{BlockPacket as LentPacket}
 
--- The type of a Section Header Block, the same in either order (section 4.1).
+-- The type of a Section Header Block, which reads the same in either byte order (section 4.1).
 abbrev pub SECTION : ℕ
 SECTION = 0x0a0d0d0a
 
--- The byte-order magic of a section.
+-- The byte order of a section's byte-order magic.
 unfoldable pub order_of : ℕ → Layout Order
 order_of magic =
     choose (magic == 0x1a2b3c4d) (done Big) (
     choose (magic == 0x4d3c2b1a) (done Little) (
     refuse Tag))
 
--- It stands behind the type and the length of a Section Header Block.
+-- The byte-order magic comes behind the type and length of a Section Header Block.
 unfoldable pub section_order : Layout Order
 section_order = do
   block 8
   magic ← number 4
   order_of magic
 
--- The order of the next block, in a section of that order: a block that begins a section says its own.
+-- The byte order of the next block, in a section of this order. A Section Header Block has its own.
 unfoldable pub order_next : Order → Layout Order
 order_next order = do
   kind ← look (number 4)
   choose (kind == SECTION) (look section_order) (done order)
 
--- A block, and the order of its numbers and of those in the blocks behind it.
+-- A block, with the byte order of its numbers and of the following blocks.
 pub record Block : Type 0 where
   pub order : Order
   pub kind : ℕ
@@ -47,8 +47,8 @@ pub record Block : Type 0 where
 abbrev pub view_block : LentBlock → Block
 view_block b = record { order = b.order; kind = b.kind; body = b.body.now }
 
--- Block type, total length, body, total length again; the length counts all of these, and is a multiple of 4 (section
--- 3.1). One of more than 16 MiB is refused, as libpcap does.
+-- Block type, total length, body, total length again. The length counts all of these and is a
+-- multiple of 4 (section 3.1). Blocks of more than 16 MiB are refused, as libpcap does.
 unfoldable pub block_by : Order → Layout Block
 block_by order = do
   kind ← number_by order 4
@@ -63,11 +63,12 @@ block_by order = do
 unfoldable pub next_block : Order → Layout Block
 next_block order = order_next order >>= block_by
 
--- Bytes up to a multiple of 4.
+-- A length rounded up to a multiple of 4.
 abbrev pub padded : ℕ → ℕ
 padded n = (n + 3) / 4 * 4
 
--- An option that neither ends the options nor has that code and that length: code, length, value, padding (section 3.5).
+-- An option that neither ends the options nor has this code and this length: code, length, value,
+-- padding (section 3.5).
 unfoldable pub option_but : Order → ℕ → ℕ → Layout Unit
 option_but order code size = do
   other ← number_by order 2
@@ -75,37 +76,37 @@ option_but order code size = do
   test (not ((other == 0) || ((other == code) && (len == size)))) Tag
   mapped (λ _. tt) (block (padded len))
 
--- The code and the length of an option that has these.
+-- The code and length of an option that has these.
 unfoldable pub option_front : Order → ℕ → ℕ → Layout Unit
 option_front order code size = do
   other ← number_by order 2
   len ← number_by order 2
   test ((other == code) && (len == size)) Tag
 
--- The options up to the first that is an if_tsresol of 1 byte, and that (section 4.2).
+-- The options up to the first if_tsresol of 1 byte, and its value (section 4.2).
 unfoldable pub resolution_option : Order → Layout ℕ
 resolution_option order = do
   list (option_but order 9 1)
   option_front order 9 1
   number 1
 
--- The options up to the first that is an if_tsoffset of 8 bytes, and that: seconds, a signed number (section 4.2).
+-- The options up to the first if_tsoffset of 8 bytes, and its value: seconds, signed (section 4.2).
 unfoldable pub offset_option : Order → Layout ℤ
 offset_option order = do
   list (option_but order 14 8)
   option_front order 14 8
   mapped (cast_signed w64) (number_by order 8)
 
--- How many units of time a second has: ten to a power, or two to one where the highest bit is set (section 4.2,
--- if_tsresol).
+-- Units of time per second: a power of ten, or a power of two if the highest bit is set (section
+-- 4.2, if_tsresol).
 unfoldable pub units_of : ℕ → Layout ℕ
 units_of resolution =
     choose (nat_le resolution 18) (done (10 ^ resolution)) (
     choose (nat_le 128 resolution && nat_le resolution 191) (done (2 ^ (resolution - 128))) (
     refuse Verify))
 
--- An interface: what its packets begin with, how far they are captured (0: without a limit), how many units of time a
--- second has, and how many seconds are added to each time.
+-- An interface: its link type, the snap length (0 for no limit), the units of time per second, and
+-- the seconds added to each time.
 pub record Interface : Type 0 where
   pub link_type : ℕ
   pub snap_length : ℕ
@@ -113,10 +114,17 @@ pub record Interface : Type 0 where
   pub offset : ℤ
 
 abbrev pub view_interface : StoredInterface → Interface
-view_interface i = record { link_type = i.link_type; snap_length = i.snap_length; units = i.units; offset = i.offset }
+view_interface i =
+    record {
+      link_type = i.link_type;
+      snap_length = i.snap_length;
+      units =
+          i.units;
+      offset = i.offset;
+    }
 
--- The body of an Interface Description Block: link type, reserved, snap length, options; a second has 10^6 units where
--- if_tsresol isn't among these, and nothing is added where if_tsoffset isn't (section 4.2).
+-- The body of an Interface Description Block: link type, reserved, snap length, options. Without
+-- if_tsresol a second has 10^6 units; without if_tsoffset nothing is added (section 4.2).
 unfoldable pub interface : Order → Layout Interface
 interface order = do
   link_type ← number_by order 2
@@ -127,23 +135,24 @@ interface order = do
   units ← units_of resolution
   done (record { link_type = link_type; snap_length = snap_length; units = units; offset = offset })
 
--- Nanoseconds with so many seconds added; none below 0.
+-- Nanoseconds with this many seconds added; none if below 0.
 abbrev pub moved_by : ℤ → ℕ → Option ℕ
 moved_by (pos s) n = Some (n + s * 1000000000)
-moved_by (negsuc s) n = if nat_le ((s + 1) * 1000000000) n then Some (n - (s + 1) * 1000000000) else None
+moved_by (negsuc s) n = if nat_le ((s + 1) * 1000000000) n then
+    Some (n - (s + 1) * 1000000000) else None
 
 abbrev pub below_2_64 : ℕ → Option ℕ
 below_2_64 n = if nat_lt n (2 ^ 64) then Some n else None
 
--- A time of so many units as nanoseconds since 1970-01-01 00:00 UTC, rounded down; none before that, from 2^64 on, or where
--- a second has no units.
+-- A time in units as nanoseconds since 1970-01-01 00:00 UTC, rounded down; none if before that,
+-- from 2^64 on, or if a second has no units.
 abbrev pub nanoseconds_of : Interface → ℕ → Option ℕ
 nanoseconds_of i units =
     if i.units == 0 then None else
     option_and_then below_2_64 (moved_by i.offset (units * 1000000000 / i.units))
 
--- A packet: of which interface of its section, counted from 0; when, in that interface's units since 1970-01-01 00:00
--- UTC; how long it was; what was captured.
+-- A packet: the index of its interface in the section, counted from 0; the capture time, in that
+-- interface's units since 1970-01-01 00:00 UTC; its length on the wire; the captured bytes.
 pub record BlockPacket : Type 0 where
   pub interface : ℕ
   pub units : ℕ
@@ -158,7 +167,7 @@ view_packet p = record {
   bytes = p.bytes.now;
 }
 
--- Upper and lower 4 bytes of the time, length captured, original length, bytes.
+-- Upper and lower 4 bytes of the time, captured length, original length, bytes.
 unfoldable pub packet_of : Order → ℕ → Layout BlockPacket
 packet_of order interface = do
   upper ← number_by order 4
@@ -177,19 +186,20 @@ packet_of order interface = do
 unfoldable pub enhanced_packet : Order → Layout BlockPacket
 enhanced_packet order = number_by order 4 >>= packet_of order
 
--- The body of a Packet Block, which is obsolete: interface, drops, and the same (appendix A).
+-- The body of a Packet Block, which is obsolete: interface, drop count, and then what an Enhanced
+-- Packet Block has (appendix A).
 unfoldable pub obsolete_packet : Order → Layout BlockPacket
 obsolete_packet order = do
   interface ← number_by order 2
   block 2
   packet_of order interface
 
--- How much of a packet of that length is captured.
+-- How many bytes are captured of a packet of this length.
 abbrev pub captured_of : ℕ → ℕ → ℕ
 captured_of original snap_length = if snap_length == 0 then original else min original snap_length
 
--- The body of a Simple Packet Block, of interface 0 and without a time: original length, and the bytes that the
--- interface's snap length lets through (section 4.4).
+-- The body of a Simple Packet Block, of interface 0 and without a time: original length, and the
+-- bytes up to the interface's snap length (section 4.4).
 unfoldable pub simple_packet : Order → ℕ → Layout BlockPacket
 simple_packet order snap_length = do
   original ← number_by order 4

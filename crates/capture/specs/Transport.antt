@@ -1,4 +1,4 @@
--- What stands in a datagram of the Internet Protocol: a segment of TCP (RFC 9293), a user datagram of UDP (RFC 768).
+-- The content of IP datagrams: a TCP segment (RFC 9293), a UDP datagram (RFC 768).
 use Rattle.std.specs.Prelude.{ℕ, ◌-◌, ◌*◌, ◌/◌, ◌==◌, nat_le}
 use Rattle.layouts.specs.Bytes.{Bytes}
 use Rattle.layouts.specs.Layout.{Layout, done, number, block, rest, test, choose, mapped, ◌>>=◌, ◌>>◌}
@@ -60,7 +60,13 @@ numbers = do
   destination ← number 2
   sequence ← number 4
   acknowledgment ← number 4
-  done (record { source = source; destination = destination; sequence = sequence; acknowledgment = acknowledgment })
+  done (record {
+    source = source;
+    destination = destination;
+    sequence = sequence;
+    acknowledgment =
+        acknowledgment;
+  })
 
 pub record Control : Type 0 where
   pub offset : ℕ
@@ -70,7 +76,15 @@ pub record Control : Type 0 where
   pub urgent_pointer : ℕ
 
 abbrev pub view_control : LentControl → Control
-view_control c = record { offset = c.offset; flags = c.flags; window = c.window; checksum = c.checksum; urgent_pointer = c.urgent_pointer }
+view_control c =
+    record {
+      offset = c.offset;
+      flags = c.flags;
+      window = c.window;
+      checksum =
+          c.checksum;
+      urgent_pointer = c.urgent_pointer;
+    }
 
 -- Data offset in the upper 4 bits, in words of 4 bytes; flags; window; checksum; urgent pointer.
 unfoldable pub control_fields : Layout Control
@@ -81,7 +95,14 @@ control_fields = do
   checksum ← number 2
   urgent_pointer ← number 2
   test (nat_le 5 (offset / 16)) LengthValue
-  done (record { offset = offset; flags = flags; window = window; checksum = checksum; urgent_pointer = urgent_pointer })
+  done (record {
+    offset = offset;
+    flags = flags;
+    window = window;
+    checksum =
+        checksum;
+    urgent_pointer = urgent_pointer;
+  })
 
 -- The header, with options up to the data offset, and the data.
 unfoldable pub tcp : Layout Segment
@@ -129,14 +150,21 @@ udp = do
   checksum ← number 2
   test (nat_le 8 length) LengthValue
   payload ← block (length - 8)
-  done (record { source = source; destination = destination; length = length; checksum = checksum; payload = payload })
+  done (record {
+    source = source;
+    destination = destination;
+    length = length;
+    checksum =
+        checksum;
+    payload = payload;
+  })
 
 pub data Content : Type 0 where
   Tcp : Segment → Content
   Udp : UserDatagram → Content
-  -- a part of a datagram that was cut
+  -- a part of a fragmented datagram
   Fragment : Content
-  -- of that protocol, and the bytes of it
+  -- another protocol: its number and its bytes
   Other : ℕ → Bytes → Content
 
 abbrev pub view_content : LentContent → Content
@@ -145,7 +173,7 @@ view_content (content.Udp d) = Udp (view_datagram d)
 view_content content.Fragment = Fragment
 view_content (content.Other n p) = Other n p.now
 
--- By the number of the protocol (IANA, Assigned Internet Protocol Numbers).
+-- The content, by protocol number (IANA, Assigned Internet Protocol Numbers).
 unfoldable pub transport : ℕ → Layout Content
 transport protocol =
     choose (protocol == 6) (mapped Tcp tcp) (

@@ -1,4 +1,4 @@
--- The VLAN tags of a link's header.
+-- The VLAN tags of link headers.
 use Rattle.std.specs.Prelude.{ℕ, ◌%◌, ◌==◌, ◌||◌, List, [], ◌∷◌, ◌++◌, take, Option, Some, None, Ok, Err}
 use Rattle.layouts.specs.Bytes.{Bytes}
 use Rattle.layouts.specs.Items.{items_in}
@@ -9,11 +9,12 @@ use Rattle.layouts.specs.declared.result.ErrorKind.TheVariants.{Tag, Switch}
 use Rattle.capture.specs.Link.{is_vlan}
 use Rattle.capture.specs.declared.vlan.VlanTags.{VlanTags}
 
--- Those that were found.
+-- The VLAN identifiers in the list.
 abbrev pub found_in : VlanTags → List ℕ
 found_in t = take t.count t.slots
 
--- The identifier of a tag's VLAN, in the lower 12 bits of its tag control information (IEEE 802.1Q, section 9.6).
+-- A tag's VLAN identifier: the lower 12 bits of its tag control information (IEEE 802.1Q, section
+-- 9.6).
 abbrev pub vlan_of : ℕ → ℕ
 vlan_of control = control % 4096
 
@@ -23,7 +24,8 @@ vlan = do
   test (is_vlan kind) Tag
   mapped vlan_of (number 2)
 
--- Behind LINKTYPE_LINUX_SLL2's own type, where that is a tag's: the first tag's control information, and the other tags.
+-- LINKTYPE_LINUX_SLL2, if its protocol is that of a tag: the first tag's control information,
+-- before the other tags.
 unfoldable pub sll2_front : Layout (Option ℕ)
 sll2_front = do
   kind ← number 2
@@ -31,14 +33,14 @@ sll2_front = do
   block 18
   mapped (λ control. Some (vlan_of control)) (number 2)
 
--- In front of the tags in Cisco's form of HDLC.
+-- The bytes before the tags in Cisco HDLC.
 unfoldable pub hdlc_front : Layout (Option ℕ)
 hdlc_front = do
   front ← number 2
   test ((front == 0x0f00) || (front == 0x8f00)) Switch
   done None
 
--- So many bytes in front of the tags.
+-- This many bytes before the tags.
 unfoldable pub tags_behind : ℕ → Layout (Option ℕ)
 tags_behind count = block count >> done None
 
@@ -46,7 +48,8 @@ tags_behind count = block count >> done None
 unfoldable pub no_tags : Layout (Option ℕ)
 no_tags = refuse Switch
 
--- What stands in front of a link's tags, or of all but the first, which it has; links of other types have none.
+-- The bytes before a link's tags, and the first tag where it is apart from the others. Other link
+-- types have no tags.
 unfoldable pub tags_front : ℕ → Layout (Option ℕ)
 tags_front link_type =
     choose (link_type == 1) (tags_behind 12) (
@@ -64,6 +67,6 @@ abbrev pub tags_in : Answer (Option ℕ) → List ℕ
 tags_in (Ok x) = first_of x.0 ++ items_in vlan x.1
 tags_in (Err e) = []
 
--- The VLANs of the tags in front of a packet of that link type, from outside in.
+-- The VLAN identifiers of the tags of a packet of this link type, outermost first.
 abbrev pub link_vlans : ℕ → Bytes → List ℕ
 link_vlans link_type b = tags_in (reading (tags_front link_type) b)

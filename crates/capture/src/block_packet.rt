@@ -1,4 +1,4 @@
-//! Packets in blocks (draft-ietf-opsawg-pcapng, sections 4.3 and 4.4).
+//! Packets in pcapng blocks (draft-ietf-opsawg-pcapng, sections 4.3 and 4.4, and appendix A).
 #![tactic(auto, using(layouts::proofs::OneAnswerLemmas::read_allowed), unfolding(crate::specs::Pcapng::packet_of, crate::specs::Pcapng::enhanced_packet, crate::specs::Pcapng::obsolete_packet, crate::specs::Pcapng::simple_packet))]
 
 ghost use Rattle.std.specs.Prelude.{◌≡◌};
@@ -9,21 +9,22 @@ ghost use Rattle.capture.specs.Pcapng.{simple_packet, view_packet, captured_of};
 use crate::order::{Order, number2_by, number4_by};
 use layouts::{IResult, block};
 
-/// A packet of a block.
+/// A packet read from a block.
 #[derive(Clone, Copy, Debug, PartialEq)]
 pub struct BlockPacket<'a> {
-    /// Which of its section's interfaces it is of, counted from 0.
+    /// The index of its interface in the section, counted from 0.
     pub interface: u32,
-    /// When it was captured, in the interface's units since 1970-01-01 00:00 UTC; 0 in a Simple Packet Block, which has
-    /// no time.
+    /// The capture time, in the interface's units since 1970-01-01 00:00 UTC. A Simple Packet Block
+    /// has no time: 0.
     pub units: u64,
-    /// How long it was on the wire, in bytes; more than `bytes` has where it was cut.
+    /// The packet's length on the wire, in bytes. If it exceeds the length of `bytes`, the packet
+    /// was truncated.
     pub original_length: u32,
-    /// The bytes that were captured.
+    /// The captured bytes.
     pub bytes: &'a [u8],
 }
 
-/// The time, the lengths and the bytes.
+/// Parses the time, both lengths and the bytes, behind the interface's number.
 fn packet_of(i: &[u8], order: Order, interface: u32) -> IResult<&[u8], BlockPacket>
     ensures { Gives view_packet (packet_of_layout order interface) i.now result }
 {
@@ -41,10 +42,11 @@ fn packet_of(i: &[u8], order: Order, interface: u32) -> IResult<&[u8], BlockPack
     Ok((i, packet))
 }
 
-/// Reads the body of an Enhanced Packet Block (type 6; draft-ietf-opsawg-pcapng, section 4.3). What is left is padding
-/// and options.
+/// Parses the body of an Enhanced Packet Block (type 6; draft-ietf-opsawg-pcapng, section 4.3). The
+/// rest is padding and options.
 ///
-/// `Incomplete` of what is missing of the first part that isn't whole: the body is too short for what it says.
+/// `Incomplete`, with the count of missing bytes of the first field that isn't whole, if the body
+/// is shorter than its fields and the captured length require.
 pub fn parse_enhanced_packet(i: &[u8], order: Order) -> IResult<&[u8], BlockPacket>
     ensures { Gives view_packet (enhanced_packet order) i.now result }
 {
@@ -52,9 +54,11 @@ pub fn parse_enhanced_packet(i: &[u8], order: Order) -> IResult<&[u8], BlockPack
     packet_of(i, order, interface)
 }
 
-/// Reads the body of a Packet Block (type 2), which is obsolete. What is left is padding and options.
+/// Parses the body of a Packet Block (type 2; draft-ietf-opsawg-pcapng, appendix A), which is
+/// obsolete. The rest is padding and options.
 ///
-/// `Incomplete` of what is missing of the first part that isn't whole: the body is too short for what it says.
+/// `Incomplete`, with the count of missing bytes of the first field that isn't whole, if the body
+/// is shorter than its fields and the captured length require.
 pub fn parse_obsolete_packet(i: &[u8], order: Order) -> IResult<&[u8], BlockPacket>
     ensures { Gives view_packet (obsolete_packet order) i.now result }
 {
@@ -63,7 +67,8 @@ pub fn parse_obsolete_packet(i: &[u8], order: Order) -> IResult<&[u8], BlockPack
     packet_of(i, order, interface as u32)
 }
 
-/// How much of a packet of that length is captured.
+/// Returns how many bytes are captured of a packet of the length `original`. A snap length of 0
+/// means no limit.
 fn captured_len(original: u32, snap_length: u32) -> u32
     ensures { result ≡ captured_of original snap_length }
 {
@@ -73,10 +78,11 @@ fn captured_len(original: u32, snap_length: u32) -> u32
     snap_length
 }
 
-/// Reads the body of a Simple Packet Block (type 3; draft-ietf-opsawg-pcapng, section 4.4); the snap length is that of
-/// the section's interface 0. What is left is padding.
+/// Parses the body of a Simple Packet Block (type 3; draft-ietf-opsawg-pcapng, section 4.4).
+/// `snap_length` is that of the section's interface 0. The rest is padding.
 ///
-/// `Incomplete` of what is missing of the length or of the bytes: the body is too short for what it says.
+/// `Incomplete`, with the count of missing bytes of the length field or of the packet's bytes, if
+/// the body is too short for them.
 pub fn parse_simple_packet(i: &[u8], order: Order, snap_length: u32) -> IResult<&[u8], BlockPacket>
     ensures { Gives view_packet (simple_packet order snap_length) i.now result }
 {

@@ -11,14 +11,14 @@ ghost use Rattle.capture.specs.Transport.{Tcp, Udp, view_segment, view_datagram}
 use crate::ip::{Address, Datagram};
 use crate::transport::{Content, TCP, TcpSegment, UDP, UdpDatagram};
 
-/// Whether words with this sum hold a right checksum.
+/// Returns whether words with this sum contain a correct checksum.
 pub(crate) fn is_right(sum: u64) -> bool
     ensures { result ≡ is_sum_right sum }
 {
     sum % 0xffff == 0
 }
 
-/// A sum whose upper half is added to its lower half: it leaves the same behind when divided by 65,535.
+/// Adds the upper half of a sum to its lower half. The result is the same modulo 65,535.
 #[inline]
 fn folded(sum: u64) -> u64
     ensures same { result % 65535 ≡ sum % 65535 }
@@ -27,10 +27,11 @@ fn folded(sum: u64) -> u64
     sum / 0x1_0000_0000 + sum % 0x1_0000_0000
 }
 
-/// Bytes of which there are fewer than this are added up without a test for each sum: no packet has more.
+/// Inputs shorter than this, in bytes, are added up without an overflow check for each addition.
+/// Every packet is shorter.
 const MOST_BYTES: usize = 0x1_0000_0000;
 
-/// A number of 32 bits, its lowest byte first.
+/// Returns the number in 4 bytes, little-endian.
 #[inline(always)]
 fn four(a: u8, b: u8, c: u8, d: u8) -> u64
     ensures same { result ≡ from_le_bytes w32 (a ∷ b ∷ c ∷ d ∷ []) }
@@ -39,8 +40,11 @@ fn four(a: u8, b: u8, c: u8, d: u8) -> u64
     u64::from(u32::from_le_bytes([a, b, c, d]))
 }
 
-/// The sum of the words of bytes in front, each with its bytes swapped (RFC 1071, section 2), and what stands behind those. Two words at once:
-/// 2^16 leaves 1 behind when divided by 65,535. In four sums, which LLVM keeps in two vectors.
+/// Returns the byte-swapped sum of the words at the front (RFC 1071, section 2), and the bytes
+/// behind them.
+///
+/// Two words are added at once, since 2^16 is 1 modulo 65,535. The four sums let LLVM use two
+/// vector registers.
 fn sum_of_sixteens(bytes: &[u8]) -> (u64, &[u8])
     ensures same { (result.0 * 256 + words_of result.1.now) % 65535 ≡ words_of bytes.now % 65535 }
     ensures bound { result.0 < 2 ^ 62 }
@@ -60,7 +64,7 @@ fn sum_of_sixteens(bytes: &[u8]) -> (u64, &[u8])
     (first + second + third + fourth, rest)
 }
 
-/// The sum of the words of these bytes, or a number that leaves the same behind when divided by 65,535.
+/// Returns a number that equals the sum of the words of `bytes` modulo 65,535.
 pub(crate) fn sum_of(bytes: &[u8]) -> u64
     ensures same { result % 65535 ≡ words_of bytes.now % 65535 }
     ensures bound { result < 2 ^ 34 }
@@ -81,7 +85,7 @@ pub(crate) fn sum_of(bytes: &[u8]) -> u64
     }
 }
 
-/// The sum of the words of a number of 32 bits.
+/// Returns the sum of the two 16-bit words of `n`.
 #[inline]
 pub(crate) fn words4(n: u32) -> u64
     ensures { result ≡ words4_of n }
@@ -89,7 +93,7 @@ pub(crate) fn words4(n: u32) -> u64
     u64::from(n / 0x1_0000) + u64::from(n % 0x1_0000)
 }
 
-/// The same of a number of 64 bits.
+/// Returns the sum of the four 16-bit words of `n`.
 #[inline]
 fn words8(n: u64) -> u64
     ensures same { result ≡ words8_of n }
@@ -98,7 +102,7 @@ fn words8(n: u64) -> u64
     words4((n / 0x1_0000_0000) as u32) + words4((n % 0x1_0000_0000) as u32)
 }
 
-/// The same of an address.
+/// Returns the sum of the 16-bit words of an address.
 fn address_words(address: Address) -> u64
     ensures same { result ≡ address_words_of (view_address address) }
     ensures bound { result < 2 ^ 19 }
@@ -109,19 +113,21 @@ fn address_words(address: Address) -> u64
     }
 }
 
-/// Whether a checksum is the one that it should be.
+/// The result of a checksum's verification.
 #[derive(Clone, Copy, Debug, PartialEq, Eq)]
 pub enum Checksum {
-    /// It is, or there is none that is known.
+    /// The checksum is correct, or there is none to verify.
     Right,
-    /// It is no more than the sum of the pseudo-header, which the sender's network card completes: the packet was captured before, on the
-    /// sender's own machine, or behind a network card that joins packets.
+    /// It equals the sum of the pseudo-header alone, which the sender's network card completes. The
+    /// packet was captured before that, on the sender's own machine, or behind a network card that
+    /// coalesces packets.
     Partial,
-    /// It is another one, or that of a header of IPv4 is.
+    /// The checksum is wrong, or the IPv4 header's is.
     Wrong,
 }
 
-/// What a checksum is, by the sum of the pseudo-header, and that of the words of header and data.
+/// Verifies a checksum, given the sum of the pseudo-header and the sum of the words of header and
+/// data.
 #[tactic(auto, unfolding(crate::specs::Checksum::checksum_by))]
 fn checksum_by(pseudo: u64, words: u64, checksum: u16) -> Checksum
     requires { (pseudo < 2 ^ 40) × (words < 2 ^ 40) }
@@ -136,7 +142,7 @@ fn checksum_by(pseudo: u64, words: u64, checksum: u16) -> Checksum
     Checksum::Wrong
 }
 
-/// That of a user datagram which has none, by its source.
+/// Returns the result for a UDP datagram without a checksum, by the version of its source address.
 fn checksum_without(source: Address) -> Checksum
     ensures { result ≡ checksum_without_of (view_address source) }
 {
@@ -146,7 +152,7 @@ fn checksum_without(source: Address) -> Checksum
     }
 }
 
-/// The sum of the words of a segment, or a number that leaves the same behind when divided by 65,535.
+/// Returns a number that equals the sum of a segment's words modulo 65,535.
 fn segment_words(segment: &TcpSegment<'_>) -> u64
     ensures same { result % 65535 ≡ segment_words_of (view_segment segment.now) % 65535 }
     ensures bound { result < 2 ^ 36 }
@@ -163,7 +169,7 @@ fn segment_words(segment: &TcpSegment<'_>) -> u64
     numbers + control + sum_of(segment.options) + sum_of(segment.payload)
 }
 
-/// The length of a segment, or a number that leaves the same behind when divided by 65,535.
+/// Returns a number that equals a segment's length in bytes modulo 65,535.
 fn segment_length(segment: &TcpSegment<'_>) -> u64
     ensures same { result % 65535 ≡ segment_length_of (view_segment segment.now) % 65535 }
     ensures bound { result < 2 ^ 35 }
@@ -171,7 +177,7 @@ fn segment_length(segment: &TcpSegment<'_>) -> u64
     20 + folded(segment.options.len() as u64) + folded(segment.payload.len() as u64)
 }
 
-/// The sum of the words of a user datagram, or a number that leaves the same behind when divided by 65,535.
+/// Returns a number that equals the sum of a UDP datagram's words modulo 65,535.
 fn user_words(datagram: &UdpDatagram<'_>) -> u64
     ensures same { result % 65535 ≡ user_words_of (view_datagram datagram.now) % 65535 }
     ensures bound { result < 2 ^ 35 }
@@ -184,7 +190,8 @@ fn user_words(datagram: &UdpDatagram<'_>) -> u64
 }
 
 impl Datagram<'_> {
-    /// The sum of the pseudo-header of what it holds: both addresses, the protocol, and the length of header and data.
+    /// Returns the sum of the pseudo-header's words: both addresses, the protocol, and the length
+    /// of header and data.
     fn pseudo_words(&self, protocol: u8, length: u64) -> u64
         requires { length < 2 ^ 35 }
         ensures same { result ≡ pseudo_words_of (view self.now) protocol length }
@@ -194,7 +201,7 @@ impl Datagram<'_> {
         addresses + (u64::from(protocol) + (length / 0x1_0000 + length % 0x1_0000))
     }
 
-    /// What the checksum of this segment in it is.
+    /// Verifies the checksum of a TCP segment in this datagram.
     fn checksum_of_segment(&self, segment: &TcpSegment<'_>) -> Checksum
         ensures { result ≡ content_checksum (view self.now) (Tcp (view_segment segment.now)) }
     {
@@ -202,7 +209,7 @@ impl Datagram<'_> {
         checksum_by(pseudo, segment_words(segment), segment.checksum)
     }
 
-    /// The same of this user datagram.
+    /// Verifies the checksum of a UDP datagram in this datagram.
     fn checksum_of_user_datagram(&self, datagram: &UdpDatagram<'_>) -> Checksum
         ensures { result ≡ content_checksum (view self.now) (Udp (view_datagram datagram.now)) }
     {
@@ -213,9 +220,11 @@ impl Datagram<'_> {
         checksum_by(pseudo, user_words(datagram), datagram.checksum)
     }
 
-    /// Whether its checksums are right: that of a header of IPv4 (RFC 791, section 3.1), and that of the segment (RFC 9293, section 3.1) or
-    /// the user datagram (RFC 768; RFC 8200, section 8.1) that it holds. There is none in a fragment, and none is known of another protocol.
-    /// A user datagram without one is `Right` over IPv4, and `Wrong` over IPv6, where hosts drop it.
+    /// Verifies the checksums of the IPv4 header (RFC 791, section 3.1) and of the TCP segment (RFC
+    /// 9293, section 3.1) or UDP datagram (RFC 768; RFC 8200, section 8.1) that it holds.
+    ///
+    /// A fragment and another protocol have no checksum to verify. A UDP datagram without one is
+    /// `Right` over IPv4, and `Wrong` over IPv6, where hosts drop it.
     pub fn checksum(&self) -> Checksum
         ensures { result ≡ checksum_in (view self.now) }
     {

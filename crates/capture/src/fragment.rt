@@ -1,4 +1,5 @@
-//! Fragments of datagrams (RFC 791, section 3.2; RFC 8200, section 4.5), and what they hold once they are put together.
+//! IP fragments (RFC 791, section 3.2; RFC 8200, section 4.5), and the content of reassembled
+//! datagrams.
 #![tactic(auto, using(layouts::proofs::OneAnswerLemmas::read_allowed), unfolding(crate::specs::Fragment::piece_step_at, crate::specs::Fragment::joined))]
 
 ghost use Rattle.std.specs.Prelude.{◌≡◌};
@@ -16,59 +17,62 @@ use crate::ip::{
 use crate::transport::Content;
 use layouts::{Err, ErrorKind, IResult, block, number1, number2, number4, refused, rest};
 
-/// The number of a Fragment header of IPv6.
+/// The protocol number of IPv6's Fragment header.
 const FRAGMENT: u8 = 44;
 
 /// A fragment of a datagram.
 #[derive(Clone, Copy, Debug, PartialEq)]
 pub struct Fragment<'a> {
-    /// Where the datagram comes from.
+    /// The datagram's source.
     pub source: Address,
-    /// Where it goes to.
+    /// The datagram's destination.
     pub destination: Address,
-    /// The number that its sender gave it: of 16 bits in IPv4, of 32 in IPv6.
+    /// The sender's identification of the datagram: 16 bits in IPv4, 32 in IPv6.
     pub identification: u32,
-    /// In IPv4 the protocol of what the datagram holds. In IPv6 the number of the first header behind the Fragment header; that of the
-    /// fragment with offset 0 counts.
+    /// In IPv4, the datagram's protocol. In IPv6, the number of the first header behind the
+    /// Fragment header; only that of the fragment with offset 0 counts.
     pub protocol: u8,
-    /// Where the first byte of the payload stands among those of the datagram: a multiple of 8, at most 65,528.
+    /// The offset of the payload in the datagram, in bytes: a multiple of 8, at most 65,528.
     pub offset: u16,
-    /// Whether other bytes stand behind.
+    /// Whether more fragments follow.
     pub has_more: bool,
-    /// How many bytes that count for the datagram's length stand in front of all fragments: in IPv4 the header and its options, in IPv6 the
-    /// headers between the header of IPv6 and the Fragment header.
+    /// The length of the headers that count for the datagram's length and come before all
+    /// fragments, in bytes. In IPv4 this is the header with its options. In IPv6 it is the
+    /// extension headers between the IPv6 header and the Fragment header.
     pub in_front: usize,
-    /// Whether the checksum of a header of IPv4 is right; one of IPv6 has none.
+    /// Whether the IPv4 header's checksum is correct; IPv6 has none.
     pub is_header_right: bool,
-    /// The fragment's own bytes.
+    /// The fragment's payload.
     pub payload: &'a [u8],
 }
 
-/// What a Fragment header of IPv6 says, and the bytes behind it.
+/// The fields of an IPv6 Fragment header, and the bytes behind it.
 #[derive(Clone, Copy)]
 struct Piece<'a> {
     next: u8,
-    /// Offset, reserved bits, and whether other fragments follow.
+    /// Offset, reserved bits, and the M flag (more fragments).
     offset: u16,
     identification: u32,
     payload: &'a [u8],
 }
 
-/// What a header of IPv6 leads to, in front of a fragment.
+/// What follows an IPv6 header, in the search for a Fragment header.
 #[derive(Clone, Copy)]
 enum PieceStep<'a> {
-    /// A header of this number.
+    /// Another header, of this number.
     Further(u8),
-    /// A part of a datagram that was cut.
+    /// A fragment.
     Cut(Piece<'a>),
 }
 
-/// Reads a fragment of a datagram of IPv4, by the datagram's header (RFC 791, section 3.1): it ends where the total length says.
+/// Parses an IPv4 fragment (RFC 791, section 3.1). It ends at the header's total length.
 ///
-/// - `Incomplete` of what is missing of the header, or of the bytes that the total length counts.
-/// - `Error` of kind `Verify` where the version isn't 4.
-/// - `Error` of kind `LengthValue` where the header's length is below 5 words or above a total length.
-/// - `Error` of kind `Switch` where it is a whole datagram: its offset is 0, and no more fragments follow.
+/// - `Incomplete`, with the count of missing bytes of the header, or of the total length.
+/// - `Error` of kind `Verify` if the version isn't 4.
+/// - `Error` of kind `LengthValue` if the header's length is below 5 words or above a total length
+///   that isn't 0.
+/// - `Error` of kind `Switch` if it is a whole datagram: its offset is 0 and no more fragments
+///   follow.
 #[tactic(auto, using(layouts::proofs::OneAnswerLemmas::read_allowed), unfolding(crate::specs::Fragment::fragment_v4, crate::specs::Ip::is_fragment_v4))]
 pub fn parse_fragment_v4(i: &[u8]) -> IResult<&[u8], Fragment>
     ensures { Gives view_fragment fragment_v4 i.now result }
@@ -95,7 +99,8 @@ pub fn parse_fragment_v4(i: &[u8]) -> IResult<&[u8], Fragment>
     Ok((i, fragment))
 }
 
-/// A Fragment header, and the bytes behind it.
+/// Parses an IPv6 Fragment header. Its result is the next header if the fragment is the whole
+/// datagram, or else the fragment's fields and the bytes behind them.
 #[tactic(auto, using(layouts::proofs::OneAnswerLemmas::read_allowed), unfolding(crate::specs::Fragment::piece))]
 fn cut_or_further(i: &[u8]) -> IResult<&[u8], PieceStep>
     ensures { Gives view_piece_step piece_layout i.now result }
@@ -117,7 +122,8 @@ fn cut_or_further(i: &[u8]) -> IResult<&[u8], PieceStep>
     Ok((i, PieceStep::Cut(piece)))
 }
 
-/// What a header of that number leads to.
+/// Parses a header of the number `next` in front of a Fragment header. `Error` of kind `Switch` if
+/// it is neither an extension header nor a Fragment header.
 fn piece_step(i: &[u8], next: u8) -> IResult<&[u8], PieceStep>
     ensures { Gives view_piece_step (piece_step_layout next) i.now result }
 {
@@ -135,7 +141,7 @@ fn piece_step(i: &[u8], next: u8) -> IResult<&[u8], PieceStep>
     refused(i, ErrorKind::Switch)
 }
 
-/// The fragment behind at most so many headers.
+/// Parses the fragment behind at most `most` headers, the Fragment header among them.
 #[tactic(auto, using(layouts::proofs::OneAnswerLemmas::read_allowed, crate::proofs::HeadersLemmas::no_piece_left, crate::proofs::HeadersLemmas::one_more_piece))]
 fn piece_behind(i: &[u8], next: u8, most: u8) -> IResult<&[u8], Piece>
     ensures { Gives view_piece (piece_behind_layout most next) i.now result }
@@ -150,7 +156,8 @@ fn piece_behind(i: &[u8], next: u8, most: u8) -> IResult<&[u8], Piece>
     }
 }
 
-/// The same, where no further bytes belong to it.
+/// Parses the fragment in `i`, which is the whole payload. A header that doesn't fit is an `Error`
+/// of kind `Complete`.
 fn whole_piece(i: &[u8], next: u8) -> IResult<&[u8], Piece>
     ensures { Gives view_piece (complete (piece_behind_layout 16 next)) i.now result }
 {
@@ -160,13 +167,14 @@ fn whole_piece(i: &[u8], next: u8) -> IResult<&[u8], Piece>
     }
 }
 
-/// Reads a fragment of a datagram of IPv6 (RFC 8200, section 4.5), behind at most 15 extension headers: it ends where the payload length
-/// says.
+/// Parses an IPv6 fragment (RFC 8200, section 4.5), behind at most 15 extension headers. It ends at
+/// the payload length.
 ///
-/// - `Incomplete` of what is missing of the header, or of the bytes that the payload length counts.
-/// - `Error` of kind `Verify` where the version isn't 6.
-/// - `Error` of kind `Complete` where a header doesn't fit in the payload length.
-/// - `Error` of kind `Switch` where no Fragment header is among the headers, but such as say that their fragment is the whole datagram.
+/// - `Incomplete`, with the count of missing bytes of the header, or of the payload length.
+/// - `Error` of kind `Verify` if the version isn't 6.
+/// - `Error` of kind `Complete` if a header doesn't fit in the payload length.
+/// - `Error` of kind `Switch` if there is no Fragment header, or only such as mark the whole
+///   datagram as one fragment.
 #[tactic(auto, using(layouts::proofs::OneAnswerLemmas::read_allowed), unfolding(crate::specs::Fragment::fragment_v6))]
 pub fn parse_fragment_v6(i: &[u8]) -> IResult<&[u8], Fragment>
     ensures { Gives view_fragment fragment_v6 i.now result }
@@ -193,9 +201,10 @@ pub fn parse_fragment_v6(i: &[u8]) -> IResult<&[u8], Fragment>
     Ok((i, fragment))
 }
 
-/// What a datagram holds whose fragments were put together.
+/// Parses the content of a reassembled datagram.
 fn joined_content(i: &[u8], source: Address, protocol: u8) -> IResult<&[u8], Content>
-    ensures { Gives view_content (joined_content_layout (view_address source) protocol) i.now result }
+    ensures { Gives view_content (joined_content_layout (view_address source) protocol)
+        i.now result }
 {
     match source {
         Address::V4(_) => whole_protected(i, protocol),
@@ -203,11 +212,15 @@ fn joined_content(i: &[u8], source: Address, protocol: u8) -> IResult<&[u8], Con
     }
 }
 
-/// Reads what a datagram between these addresses holds whose fragments were put together, by the protocol that the first of them says; it
-/// is told whether the checksums of all their headers were right. It ends where the bytes do.
+/// Parses the content of a reassembled datagram, all of `i`, between these addresses.
 ///
-/// - `Error` of kind `LengthValue` where the data offset of a segment is below 5 words, or the length of a user datagram below 8.
-/// - `Error` of kind `Complete` where an extension header, a segment or a user datagram doesn't fit in the bytes.
+/// `protocol` is that of the fragment with offset 0. `is_header_right` is whether the checksums of
+/// all the fragments' headers were correct.
+///
+/// - `Error` of kind `LengthValue` if a TCP segment's data offset is below 5 words, or a UDP
+///   datagram's length below 8.
+/// - `Error` of kind `Complete` if an extension header, a segment or a UDP datagram doesn't fit in
+///   the bytes.
 pub fn parse_joined(
     i: &[u8],
     source: Address,
@@ -215,7 +228,9 @@ pub fn parse_joined(
     protocol: u8,
     is_header_right: bool,
 ) -> IResult<&[u8], Datagram>
-    ensures { Gives view_datagram (joined (view_address source) (view_address destination) protocol is_header_right) i.now result }
+    ensures { Gives view_datagram
+        (joined (view_address source) (view_address destination) protocol is_header_right)
+        i.now result }
 {
     let (i, content) = joined_content(i, source, protocol)?;
     let datagram = Datagram {

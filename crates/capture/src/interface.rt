@@ -1,4 +1,4 @@
-//! Interfaces of a section (draft-ietf-opsawg-pcapng, section 4.2).
+//! Interfaces of a pcapng section (draft-ietf-opsawg-pcapng, section 4.2).
 #![tactic(auto, using(layouts::proofs::OneAnswerLemmas::read_allowed), unfolding(crate::specs::Pcapng::option_but, crate::specs::Pcapng::option_front, crate::specs::Pcapng::resolution_option, crate::specs::Pcapng::offset_option, crate::specs::Pcapng::units_of))]
 
 ghost use Rattle.std.specs.Prelude.{◌≡◌, ◌<◌, ◌^◌, pos};
@@ -13,20 +13,20 @@ ghost use Rattle.capture.specs.Pcapng.{units_of, interface, view_interface, move
 use crate::order::{Order, number2_by, number4_by, number8_by};
 use layouts::{ErrorKind, IResult, InPlace, Items, block, number1, refused};
 
-/// An interface of a section.
+/// An interface of a pcapng section.
 #[derive(Clone, Copy, Debug, PartialEq, Eq)]
 pub struct Interface {
-    /// What its packets begin with: a LINKTYPE value of tcpdump.org.
+    /// The link type of its packets: a LINKTYPE value of tcpdump.org.
     pub link_type: u16,
-    /// No packet was captured further than this, in bytes; 0 where there is no limit.
+    /// The length at which packets are truncated, in bytes; 0 for no limit.
     pub snap_length: u32,
-    /// How many units of time a second has.
+    /// Units of time per second.
     pub units: u64,
-    /// How many seconds are added to each time.
+    /// Seconds added to each time.
     pub offset: i64,
 }
 
-/// So many nanoseconds, and that many seconds added; `None` where that is below 0.
+/// Returns `nanoseconds` plus `offset` seconds, or `None` if that is below 0.
 fn moved_by(offset: i64, nanoseconds: u128) -> Option<u128>
     requires { nanoseconds < 2 ^ 94 }
     ensures { result ≡ moved_by_seconds offset nanoseconds }
@@ -39,8 +39,11 @@ fn moved_by(offset: i64, nanoseconds: u128) -> Option<u128>
 }
 
 impl Interface {
-    /// A time of so many units as nanoseconds since 1970-01-01 00:00 UTC, rounded down; `None` where it is before that, or
-    /// where these are 2^64 or more, in the year 2554, or a second has no units.
+    /// Returns a time in the interface's units as nanoseconds since 1970-01-01 00:00 UTC, rounded
+    /// down.
+    ///
+    /// `None` if it is before 1970, or needs 2^64 nanoseconds or more (in the year 2554), or if a
+    /// second has no units.
     pub fn nanoseconds(self, units: u64) -> Option<u64>
         ensures { result ≡ nanoseconds_of (view_interface self) units }
     {
@@ -58,7 +61,7 @@ impl Interface {
     }
 }
 
-/// An option that neither ends the options nor has that code and that length.
+/// Skips an option. `Error` of kind `Tag` if it ends the options, or has this code and this length.
 fn option_but(i: &[u8], order: Order, code: u16, size: u16) -> IResult<&[u8], ()>
     ensures { Gives (λ v. v) (option_but_layout order code size) i.now result }
 {
@@ -71,7 +74,7 @@ fn option_but(i: &[u8], order: Order, code: u16, size: u16) -> IResult<&[u8], ()
     Ok((i, ()))
 }
 
-/// The code and the length of an option that has these.
+/// Parses the code and length of an option. `Error` of kind `Tag` if they aren't these.
 fn option_front(i: &[u8], order: Order, code: u16, size: u16) -> IResult<&[u8], ()>
     ensures { Gives (λ v. v) (option_front_layout order code size) i.now result }
 {
@@ -83,10 +86,10 @@ fn option_front(i: &[u8], order: Order, code: u16, size: u16) -> IResult<&[u8], 
     Ok((i, ()))
 }
 
-/// An option but that one, of a section of big-endian order.
+/// A big-endian option of another code or length.
 struct BigBut<const CODE: u16, const SIZE: u16>;
 
-/// An option but that one, of a section of little-endian order.
+/// A little-endian option of another code or length.
 struct LittleBut<const CODE: u16, const SIZE: u16>;
 
 impl<'a, const CODE: u16, const SIZE: u16> InPlace<'a> for BigBut<CODE, SIZE> {
@@ -117,7 +120,8 @@ impl<'a, const CODE: u16, const SIZE: u16> InPlace<'a> for LittleBut<CODE, SIZE>
     }
 }
 
-/// What stands behind the options but that one.
+/// Returns the bytes from the first option of this code and length on, or from where the options
+/// end or are truncated.
 fn behind_options<const CODE: u16, const SIZE: u16>(i: &[u8], order: Order) -> &[u8]
     ensures { result.now ≡ left_in (option_but_layout order CODE SIZE) i.now }
 {
@@ -127,7 +131,7 @@ fn behind_options<const CODE: u16, const SIZE: u16>(i: &[u8], order: Order) -> &
     }
 }
 
-/// The first option that is an if_tsresol.
+/// Parses the first if_tsresol option of 1 byte.
 fn resolution_option(i: &[u8], order: Order) -> IResult<&[u8], u8>
     ensures { Gives (λ v. v) (resolution_option_layout order) i.now result }
 {
@@ -135,7 +139,7 @@ fn resolution_option(i: &[u8], order: Order) -> IResult<&[u8], u8>
     number1(i)
 }
 
-/// The same, and microseconds where it isn't there.
+/// Parses the first if_tsresol option of 1 byte. The default is 6, for microseconds.
 fn resolution(i: &[u8], order: Order) -> IResult<&[u8], u8>
     ensures { Gives (λ v. v) (either (resolution_option_layout order) (done 6)) i.now result }
 {
@@ -145,7 +149,7 @@ fn resolution(i: &[u8], order: Order) -> IResult<&[u8], u8>
     }
 }
 
-/// The first option that is an if_tsoffset.
+/// Parses the first if_tsoffset option of 8 bytes.
 fn offset_option(i: &[u8], order: Order) -> IResult<&[u8], i64>
     ensures { Gives (λ v. v) (offset_option_layout order) i.now result }
 {
@@ -154,7 +158,7 @@ fn offset_option(i: &[u8], order: Order) -> IResult<&[u8], i64>
     Ok((i, offset.cast_signed()))
 }
 
-/// The same, and 0 where it isn't there.
+/// Parses the first if_tsoffset option of 8 bytes. The default is 0.
 fn offset(i: &[u8], order: Order) -> IResult<&[u8], i64>
     ensures { Gives (λ v. v) (either (offset_option_layout order) (done (pos 0))) i.now result }
 {
@@ -164,7 +168,7 @@ fn offset(i: &[u8], order: Order) -> IResult<&[u8], i64>
     }
 }
 
-/// How many units of time a second has.
+/// Returns the units of time per second, by the value of if_tsresol.
 fn units(i: &[u8], resolution: u8) -> IResult<&[u8], u64>
     ensures { Gives (λ v. v) (units_of resolution) i.now result }
 {
@@ -177,13 +181,17 @@ fn units(i: &[u8], resolution: u8) -> IResult<&[u8], u64>
     refused(i, ErrorKind::Verify)
 }
 
-/// Reads the body of an Interface Description Block (type 1; draft-ietf-opsawg-pcapng, section 4.2). Of its options
-/// only if_tsresol and if_tsoffset are read, the first of each that has its length, and what is left is all options; where
-/// these aren't among them, a second has 10^6 units, and nothing is added to a time.
+/// Parses the body of an Interface Description Block (type 1; draft-ietf-opsawg-pcapng, section
+/// 4.2).
 ///
-/// - `Incomplete` of what is missing of the link type, the reserved 2 bytes or the snap length.
-/// - `Error` of kind `Verify` where if_tsresol says that a second has a power of 10 above 10^18, or a power of 2 above
-///   2^63, of units.
+/// Of its options only if_tsresol and if_tsoffset are read: the first of each with the correct
+/// length. Without them a second has 10^6 units, and nothing is added to a time. The rest is all
+/// the options.
+///
+/// - `Incomplete`, with the count of missing bytes of the link type, the 2 reserved bytes or the
+///   snap length.
+/// - `Error` of kind `Verify` if if_tsresol gives a second more than 10^18 units (a power of 10) or
+///   more than 2^63 (a power of 2).
 #[tactic(auto, using(layouts::proofs::OneAnswerLemmas::read_allowed), unfolding(crate::specs::Pcapng::interface))]
 pub fn parse_interface(i: &[u8], order: Order) -> IResult<&[u8], Interface>
     ensures { Gives view_interface (interface order) i.now result }

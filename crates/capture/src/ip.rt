@@ -15,29 +15,30 @@ use crate::jumbo::payload_length;
 use crate::transport::{Content, TCP, transport};
 use layouts::{Err, ErrorKind, IResult, block, number1, number2, number4, number8, refused};
 
-/// An address, as the number that its bytes spell, the most significant first.
+/// An IP address as big-endian numbers.
 #[derive(Clone, Copy, Debug, PartialEq, Eq)]
 pub enum Address {
-    /// The 4 bytes of an address of IPv4.
+    /// The 4 bytes of an IPv4 address.
     V4(u32),
-    /// The upper 8 bytes of an address of IPv6, and the lower 8.
+    /// The upper 8 bytes of an IPv6 address, and the lower 8.
     V6(u64, u64),
 }
 
-/// A datagram of IPv4 or IPv6.
+/// An IPv4 or IPv6 datagram.
 #[derive(Clone, Copy, Debug, PartialEq)]
 pub struct Datagram<'a> {
-    /// Where it comes from.
+    /// The source address.
     pub source: Address,
-    /// Where it goes to.
+    /// The destination address.
     pub destination: Address,
-    /// Whether the checksum of a header of IPv4 is right; one of IPv6 has none.
+    /// Whether the IPv4 header's checksum is correct; IPv6 has none.
     pub is_header_right: bool,
-    /// What it holds.
+    /// The content.
     pub content: Content<'a>,
 }
 
-/// The lengths of a header of IPv4 and of its datagram, in bytes, and the sum of the words up to there.
+/// The lengths of an IPv4 header and of its datagram, in bytes, and the sum of the 16-bit words up
+/// to there.
 #[derive(Clone, Copy)]
 pub(crate) struct LengthsV4 {
     pub(crate) header: usize,
@@ -45,36 +46,36 @@ pub(crate) struct LengthsV4 {
     pub(crate) words: u64,
 }
 
-/// What of a header of IPv4 is kept behind these, and the sum of its words.
+/// The fields of an IPv4 header behind its lengths, and the sum of their words.
 #[derive(Clone, Copy)]
 pub(crate) struct FieldsV4 {
     /// The flags and the fragment offset.
     pub(crate) flags: u16,
-    /// The number of the protocol.
+    /// The protocol's number.
     pub(crate) protocol: u8,
-    /// Where the datagram comes from.
+    /// The source address.
     pub(crate) source: u32,
-    /// Where it goes to.
+    /// The destination address.
     pub(crate) destination: u32,
-    /// The sum of the words of 16 bits.
+    /// The sum of the 16-bit words.
     pub(crate) words: u64,
 }
 
-/// What a header of IPv6 leads to.
+/// What follows an IPv6 header.
 #[derive(Clone, Copy)]
 enum Step {
-    /// A header of this number.
+    /// Another header, of this number.
     Next(u8),
-    /// A part of a datagram that was cut.
+    /// A fragment.
     Part,
-    /// What the datagram holds.
+    /// The datagram's content.
     Last,
 }
 
-/// The number of the Authentication Header (RFC 4302, section 2).
+/// The protocol number of the Authentication Header (RFC 4302, section 2).
 pub(crate) const AUTHENTICATION: u8 = 51;
 
-/// What stands in a datagram of IPv4 that isn't cut, behind an Authentication Header where there is one.
+/// Parses the content of an unfragmented IPv4 datagram. An Authentication Header is skipped.
 #[inline(always)]
 fn protected(i: &[u8], protocol: u8) -> IResult<&[u8], Content>
     ensures { Gives view_content (protected_layout protocol) i.now result }
@@ -86,7 +87,8 @@ fn protected(i: &[u8], protocol: u8) -> IResult<&[u8], Content>
     transport(i, protocol)
 }
 
-/// The same, where no further bytes belong to it.
+/// Parses the content of an unfragmented IPv4 datagram, all of `i`. If it doesn't fit, this is an
+/// `Error` of kind `Complete`.
 pub(crate) fn whole_protected(i: &[u8], protocol: u8) -> IResult<&[u8], Content>
     ensures { Gives view_content (complete (protected_layout protocol)) i.now result }
 {
@@ -96,7 +98,7 @@ pub(crate) fn whole_protected(i: &[u8], protocol: u8) -> IResult<&[u8], Content>
     }
 }
 
-/// What a datagram of IPv4 holds.
+/// Parses the content of an IPv4 datagram. That of a fragment isn't read.
 #[inline(always)]
 fn content_v4(i: &[u8], flags: u16, protocol: u8) -> IResult<&[u8], Content>
     ensures { Gives view_content (content_v4_layout flags protocol) i.now result }
@@ -107,7 +109,8 @@ fn content_v4(i: &[u8], flags: u16, protocol: u8) -> IResult<&[u8], Content>
     protected(i, protocol)
 }
 
-/// The same, where no further bytes belong to it.
+/// Parses the content of an IPv4 datagram, all of `i`. If it doesn't fit, this is an `Error` of
+/// kind `Complete`.
 #[inline(always)]
 fn whole_v4(i: &[u8], flags: u16, protocol: u8) -> IResult<&[u8], Content>
     ensures { Gives view_content (complete (content_v4_layout flags protocol)) i.now result }
@@ -118,7 +121,7 @@ fn whole_v4(i: &[u8], flags: u16, protocol: u8) -> IResult<&[u8], Content>
     }
 }
 
-/// The lengths of a header of IPv4 and of its datagram.
+/// Parses the lengths of an IPv4 header and of its datagram, from the first 4 bytes.
 #[tactic(auto, using(layouts::proofs::OneAnswerLemmas::read_allowed), unfolding(crate::specs::Ip::lengths_v4))]
 #[inline(always)]
 pub(crate) fn lengths_v4(i: &[u8]) -> IResult<&[u8], LengthsV4>
@@ -148,7 +151,7 @@ pub(crate) fn lengths_v4(i: &[u8]) -> IResult<&[u8], LengthsV4>
     Ok((i, lengths))
 }
 
-/// The fields of a header of IPv4 behind its lengths.
+/// Parses the fields of an IPv4 header behind its lengths, 16 bytes.
 #[tactic(auto, using(layouts::proofs::OneAnswerLemmas::read_allowed), unfolding(crate::specs::Ip::fields_v4))]
 #[inline(always)]
 pub(crate) fn fields_v4(i: &[u8]) -> IResult<&[u8], FieldsV4>
@@ -178,12 +181,14 @@ pub(crate) fn fields_v4(i: &[u8]) -> IResult<&[u8], FieldsV4>
     Ok((i, fields))
 }
 
-/// What a datagram of IPv4 holds, behind a header of this length.
+/// Parses the content of an IPv4 datagram behind its header. A total length of 0 means all of `i`.
 #[tactic(auto, using(layouts::proofs::OneAnswerLemmas::read_allowed), unfolding(crate::specs::Ip::held_v4))]
 #[inline(always)]
 fn held_v4<'a>(i: &'a [u8], lengths: LengthsV4, fields: FieldsV4) -> IResult<&'a [u8], Content<'a>>
     requires { (lengths.total ≡ 0) ⊎ (lengths.header ≤ lengths.total) }
-    ensures { Gives view_content (held_v4_layout lengths.header lengths.total (content_v4_layout fields.flags fields.protocol)) i.now result }
+    ensures { Gives view_content
+        (held_v4_layout lengths.header lengths.total
+        (content_v4_layout fields.flags fields.protocol)) i.now result }
 {
     if lengths.total == 0 {
         return whole_v4(i, fields.flags, fields.protocol);
@@ -193,16 +198,18 @@ fn held_v4<'a>(i: &'a [u8], lengths: LengthsV4, fields: FieldsV4) -> IResult<&'a
     Ok((i, content))
 }
 
-/// Reads a datagram of IPv4 (RFC 791, section 3.1): its header of 20 bytes and options, and what it holds, which ends
-/// where its total length says; what follows is padding. A total length of 0 is that of a datagram which the sender's network card was to
-/// cut into smaller ones, and which was captured before: it ends where the bytes do.
+/// Parses an IPv4 datagram (RFC 791, section 3.1): a header of 20 bytes, options, and the content
+/// up to the total length. The rest is padding.
 ///
-/// - `Incomplete` of what is missing of the header, or of the bytes that the total length counts: it wasn't captured
-///   whole.
-/// - `Error` of kind `Verify` where the version isn't 4.
-/// - `Error` of kind `LengthValue` where the header's length is below 5 words or above the total length; or where the
-///   data offset of a segment is below 5 words, or the length of a user datagram below 8.
-/// - `Error` of kind `Complete` where a segment or user datagram doesn't fit in the total length.
+/// A total length of 0 comes from a datagram that was captured before the sender's network card
+/// segmented it. It then ends with the captured bytes.
+///
+/// - `Incomplete`, with the count of missing bytes of the header or of the total length: the
+///   datagram was truncated.
+/// - `Error` of kind `Verify` if the version isn't 4.
+/// - `Error` of kind `LengthValue` if the header's length is below 5 words or above the total
+///   length, a TCP segment's data offset below 5 words, or a UDP datagram's length below 8.
+/// - `Error` of kind `Complete` if a segment or UDP datagram doesn't fit in the total length.
 #[tactic(auto, using(layouts::proofs::OneAnswerLemmas::read_allowed), unfolding(crate::specs::Ip::ipv4))]
 #[inline(always)]
 pub fn parse_ipv4(i: &[u8]) -> IResult<&[u8], Datagram>
@@ -221,7 +228,8 @@ pub fn parse_ipv4(i: &[u8]) -> IResult<&[u8], Datagram>
     Ok((i, datagram))
 }
 
-/// An extension header whose length counts words of that many bytes: the number of the next one.
+/// Skips an extension header, whose length counts words of `word` bytes. Returns the number of the
+/// next header.
 pub(crate) fn skipped(i: &[u8], word: usize) -> IResult<&[u8], u8>
     requires { word < 16 }
     ensures { Gives (λ v. v) (skipped_layout word) i.now result }
@@ -232,7 +240,7 @@ pub(crate) fn skipped(i: &[u8], word: usize) -> IResult<&[u8], u8>
     Ok((i, next))
 }
 
-/// What a Fragment header leads to.
+/// Parses an IPv6 Fragment header. If the fragment is the whole datagram, the next header follows.
 fn fragment_header(i: &[u8]) -> IResult<&[u8], Step>
     ensures { Gives (λ v. v) fragment_header_layout i.now result }
 {
@@ -246,7 +254,7 @@ fn fragment_header(i: &[u8]) -> IResult<&[u8], Step>
     Ok((i, Step::Part))
 }
 
-/// Whether a header of that number is an extension header whose length counts 8 bytes.
+/// Returns whether a header of this number is an extension header whose length counts 8 bytes.
 #[tactic(auto, unfolding(crate::specs::Ip::is_extension))]
 pub(crate) fn is_extension(next: u8) -> bool
     ensures { result ≡ is_extension_number next }
@@ -254,7 +262,7 @@ pub(crate) fn is_extension(next: u8) -> bool
     next == 0 || next == 43 || next == 60 || next == 135
 }
 
-/// What a header of that number leads to.
+/// Skips a header of the number `next` and returns what follows it.
 fn step_at(i: &[u8], next: u8) -> IResult<&[u8], Step>
     ensures { Gives (λ v. v) (step_layout next) i.now result }
 {
@@ -272,7 +280,7 @@ fn step_at(i: &[u8], next: u8) -> IResult<&[u8], Step>
     Ok((i, Step::Last))
 }
 
-/// At most so many extension headers, and what the datagram holds.
+/// Skips at most `most` extension headers and parses the content.
 #[tactic(auto, using(layouts::proofs::OneAnswerLemmas::read_allowed, crate::proofs::HeadersLemmas::none_left, crate::proofs::HeadersLemmas::one_more))]
 fn headers(i: &[u8], next: u8, most: u8) -> IResult<&[u8], Content>
     ensures { Gives view_content (headers_layout most next) i.now result }
@@ -288,7 +296,8 @@ fn headers(i: &[u8], next: u8, most: u8) -> IResult<&[u8], Content>
     }
 }
 
-/// The same, where no further bytes belong to it.
+/// Skips at most 16 extension headers and parses the content, all of `i`. If it doesn't fit, this
+/// is an `Error` of kind `Complete`.
 pub(crate) fn whole_v6(i: &[u8], next: u8) -> IResult<&[u8], Content>
     ensures { Gives view_content (complete (headers_layout 16 next)) i.now result }
 {
@@ -298,7 +307,7 @@ pub(crate) fn whole_v6(i: &[u8], next: u8) -> IResult<&[u8], Content>
     }
 }
 
-/// An address of IPv6.
+/// Parses an IPv6 address, 16 bytes.
 pub(crate) fn address_v6(i: &[u8]) -> IResult<&[u8], Address>
     ensures { Gives view_address address_v6_layout i.now result }
 {
@@ -307,7 +316,7 @@ pub(crate) fn address_v6(i: &[u8]) -> IResult<&[u8], Address>
     Ok((i, Address::V6(upper, lower)))
 }
 
-/// The payload length and the next header of a header of IPv6.
+/// Parses the first 8 bytes of an IPv6 header: returns the payload length and the next header.
 #[inline]
 pub(crate) fn front_v6(i: &[u8]) -> IResult<&[u8], (u16, u8)>
     ensures { Gives (λ v. v) front_v6_layout i.now result }
@@ -323,7 +332,7 @@ pub(crate) fn front_v6(i: &[u8]) -> IResult<&[u8], (u16, u8)>
     Ok((i, (len, next)))
 }
 
-/// What a datagram of IPv6 holds, behind a header that says this length and this next header.
+/// Parses the content of an IPv6 datagram, by the payload length and next header of its header.
 #[tactic(auto, using(layouts::proofs::OneAnswerLemmas::read_allowed), unfolding(crate::specs::Ip::held_v6))]
 fn held_v6(i: &[u8], len: u16, next: u8) -> IResult<&[u8], Content>
     ensures { Gives view_content (held_v6_layout len next) i.now result }
@@ -337,18 +346,22 @@ fn held_v6(i: &[u8], len: u16, next: u8) -> IResult<&[u8], Content>
     Ok((i, content))
 }
 
-/// Reads a datagram of IPv6 (RFC 8200, section 3): its header of 40 bytes, at most 16 extension headers, and what it
-/// holds, which ends where its payload length says, or, where that is 0 and Hop-by-Hop Options follow, the length in their
-/// jumbo payload (RFC 2675). What follows is padding. One more extension header behind 16 is `Other`. A payload length of 0 in front of TCP is
-/// that of a datagram which the sender's network card was to cut into smaller ones, and which was captured before: it ends where the bytes do.
+/// Parses an IPv6 datagram (RFC 8200, section 3): a header of 40 bytes, at most 16 extension
+/// headers, and the content up to the payload length. The rest is padding.
 ///
-/// - `Incomplete` of what is missing of the header, or of the bytes that the payload length counts: it wasn't captured
-///   whole.
-/// - `Error` of kind `Verify` where the version isn't 6.
-/// - `Error` of kind `LengthValue` where the data offset of a segment is below 5 words, or the length of a user
-///   datagram below 8; or where a jumbo payload is said in another length than 4 bytes, or is below 65,536.
-/// - `Error` of kind `Complete` where an extension header, a segment or a user datagram doesn't fit in the payload
-///   length; or where there is no jumbo payload among the options that should say the length.
+/// If the payload length is 0 and Hop-by-Hop Options follow, their jumbo payload option gives the
+/// length (RFC 2675). A 17th extension header is read as `Other`. A payload length of 0 before TCP
+/// comes from a datagram that was captured before the sender's network card segmented it. It then
+/// ends with the captured bytes.
+///
+/// - `Incomplete`, with the count of missing bytes of the header or of the payload length: the
+///   datagram was truncated.
+/// - `Error` of kind `Verify` if the version isn't 6.
+/// - `Error` of kind `LengthValue` if a TCP segment's data offset is below 5 words, a UDP
+///   datagram's length below 8, or a jumbo payload option isn't 4 bytes long or gives less than
+///   65,536.
+/// - `Error` of kind `Complete` if an extension header, a segment or a UDP datagram doesn't fit in
+///   the payload length, or if the options that should give the length have no jumbo payload.
 #[tactic(auto, using(layouts::proofs::OneAnswerLemmas::read_allowed), unfolding(crate::specs::Ip::ipv6))]
 pub fn parse_ipv6(i: &[u8]) -> IResult<&[u8], Datagram>
     ensures { Gives view_datagram ipv6 i.now result }

@@ -1,4 +1,4 @@
-//! Datagrams of IPv6 that are longer than 65,535 bytes (RFC 2675).
+//! IPv6 datagrams longer than 65,535 bytes (RFC 2675).
 #![tactic(auto, using(layouts::proofs::OneAnswerLemmas::read_allowed), unfolding(crate::specs::Jumbo::other_option, crate::specs::Jumbo::jumbo_length, crate::specs::Jumbo::payload_length))]
 
 ghost use Rattle.layouts.specs.Layout.{complete};
@@ -8,10 +8,10 @@ ghost use Rattle.capture.specs.Jumbo.{jumbo_length as jumbo_length_layout, paylo
 
 use layouts::{Err, ErrorKind, IResult, InPlace, Items, block, number1, number4, refused};
 
-/// The type of the option that says a jumbo payload's length.
+/// The type of the jumbo payload option.
 const JUMBO_PAYLOAD: u8 = 0xc2;
 
-/// An option of a Hop-by-Hop Options header that isn't the jumbo payload.
+/// A Hop-by-Hop option that isn't a jumbo payload.
 struct OtherOption;
 
 impl<'a> InPlace<'a> for OtherOption {
@@ -37,7 +37,7 @@ impl<'a> InPlace<'a> for OtherOption {
     }
 }
 
-/// The length that the first jumbo payload among the options says.
+/// Parses the first jumbo payload option, behind others: returns its length.
 #[tactic(auto, using(layouts::proofs::OneAnswerLemmas::read_allowed), unfolding(crate::specs::Jumbo::jumbo_option))]
 fn jumbo_option(i: &[u8]) -> IResult<&[u8], u32>
     ensures { Gives (λ v. v) jumbo_option_layout i.now result }
@@ -53,7 +53,8 @@ fn jumbo_option(i: &[u8]) -> IResult<&[u8], u32>
     number4(i)
 }
 
-/// The same, where no further bytes belong to them.
+/// Parses the first jumbo payload option among the options, all of `i`. If there is none or it
+/// doesn't fit, this is an `Error` of kind `Complete`.
 fn whole_option(i: &[u8]) -> IResult<&[u8], u32>
     ensures { Gives (λ v. v) (complete jumbo_option_layout) i.now result }
 {
@@ -63,7 +64,8 @@ fn whole_option(i: &[u8]) -> IResult<&[u8], u32>
     }
 }
 
-/// The length that a Hop-by-Hop Options header says.
+/// Parses a Hop-by-Hop Options header: returns the length in its jumbo payload. `Error` of kind
+/// `LengthValue` if that is below 65,536.
 fn jumbo_length(i: &[u8]) -> IResult<&[u8], u32>
     ensures { Gives (λ v. v) jumbo_length_layout i.now result }
 {
@@ -77,7 +79,8 @@ fn jumbo_length(i: &[u8]) -> IResult<&[u8], u32>
     Ok((i, len))
 }
 
-/// How many bytes follow a datagram's header that says this length and this next header. None of them is taken.
+/// Returns how many bytes follow an IPv6 header with this payload length and next header. It takes
+/// no bytes.
 pub(crate) fn payload_length(i: &[u8], len: u16, next: u8) -> IResult<&[u8], u32>
     ensures { Gives (λ v. v) (payload_length_layout len next) i.now result }
 {

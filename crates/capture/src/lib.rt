@@ -1,7 +1,10 @@
-//! Captured packets: files of them, and what each holds.
+//! Parsers for capture files and for the headers of their packets: pcap, pcapng, link headers, VLAN
+//! tags, IPv4 and IPv6, fragments, TCP and UDP, checksums.
 //!
-//! Each call reads one structure from the front of bytes, takes no memory, and answers what a layout of `specs/` allows
-//! there: the value and the exact rest, the kind of the broken rule, or the exact count of missing bytes.
+//! Each call parses one structure at the front of `i` and allocates nothing. Promise: it returns
+//! what a layout in `specs/` allows there, and nothing else. That is the value and the exact rest,
+//! the kind of the broken rule, or the exact count of missing bytes. The layouts are in `Pcap`,
+//! `Pcapng`, `Link`, `Vlan`, `Ip`, `Jumbo`, `Fragment`, `Transport`, `Options` and `Checksum`.
 #![tactic(auto, using(layouts::proofs::OneAnswerLemmas::read_allowed))]
 
 mod block_packet;

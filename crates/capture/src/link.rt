@@ -1,4 +1,4 @@
-//! What a packet begins with, by the link type of its capture (the LINKTYPE pages of tcpdump.org).
+//! Link headers, by the link type of the capture (the LINKTYPE pages of tcpdump.org).
 #![tactic(auto, using(layouts::proofs::OneAnswerLemmas::read_allowed))]
 
 ghost use Rattle.layouts.specs.Meaning.{AllowsOne};
@@ -17,16 +17,16 @@ use crate::ip::{Datagram, parse_ipv4, parse_ipv6};
 use crate::links::links;
 use layouts::{ErrorKind, IResult, InPlace, Items, block, number1, number2, number4, refused};
 
-/// The type of Ethernet that is IPv4.
+/// The EtherType of IPv4.
 const IPV4: u16 = 0x0800;
 
-/// The type of Ethernet that is IPv6.
+/// The EtherType of IPv6.
 const IPV6: u16 = 0x86dd;
 
-/// The type of Ethernet that is a packet of a PPPoE session.
+/// The EtherType of a PPPoE session.
 const PPPOE: u16 = 0x8864;
 
-/// Whether a type of Ethernet is that of a VLAN tag.
+/// Returns whether an EtherType is that of a VLAN tag.
 #[inline]
 pub(crate) fn is_vlan(kind: u16) -> bool
     ensures { result ≡ is_vlan_type kind }
@@ -57,7 +57,7 @@ impl<'a> InPlace<'a> for VlanTag {
     }
 }
 
-/// Any number of VLAN tags, and the type of what follows.
+/// Skips any number of VLAN tags. Returns the EtherType behind them.
 #[tactic(auto, using(layouts::proofs::OneAnswerLemmas::read_allowed), unfolding(crate::specs::Link::ether_type))]
 fn ether_type(i: &[u8]) -> IResult<&[u8], u16>
     ensures { Gives (λ v. v) ether_type_layout i.now result }
@@ -65,7 +65,7 @@ fn ether_type(i: &[u8]) -> IResult<&[u8], u16>
     number2(Items::<VlanTag>::new(i).rest())
 }
 
-/// The type that an address family stands for.
+/// Returns the EtherType of an address family; 0 for an unknown one.
 fn family_type(family: u32) -> u16
     ensures { result ≡ type_of_family family }
 {
@@ -76,7 +76,7 @@ fn family_type(family: u32) -> u16
     }
 }
 
-/// LINKTYPE_NULL and LINKTYPE_LOOP.
+/// Parses a LINKTYPE_NULL or LINKTYPE_LOOP header: returns the EtherType of its address family.
 #[tactic(auto, using(layouts::proofs::OneAnswerLemmas::read_allowed), unfolding(crate::specs::Link::loopback))]
 fn loopback(i: &[u8]) -> IResult<&[u8], u16>
     ensures { Gives (λ v. v) loopback_layout i.now result }
@@ -85,7 +85,7 @@ fn loopback(i: &[u8]) -> IResult<&[u8], u16>
     Ok((i, family_type(n)))
 }
 
-/// The type of what follows a type of Ethernet that was read, behind tags.
+/// Returns the EtherType behind VLAN tags, of which the first one's type, `kind`, was already read.
 #[tactic(auto, using(layouts::proofs::OneAnswerLemmas::read_allowed), unfolding(crate::specs::Link::behind_type))]
 fn behind_type(i: &[u8], kind: u16) -> IResult<&[u8], u16>
     ensures { Gives (λ v. v) (behind_type_layout kind) i.now result }
@@ -97,7 +97,7 @@ fn behind_type(i: &[u8], kind: u16) -> IResult<&[u8], u16>
     Ok((i, kind))
 }
 
-/// LINKTYPE_LINUX_SLL2.
+/// Parses a LINKTYPE_LINUX_SLL2 header: returns the EtherType behind it.
 #[tactic(auto, using(layouts::proofs::OneAnswerLemmas::read_allowed), unfolding(crate::specs::Link::sll2))]
 fn sll2(i: &[u8]) -> IResult<&[u8], u16>
     ensures { Gives (λ v. v) sll2_layout i.now result }
@@ -107,7 +107,7 @@ fn sll2(i: &[u8]) -> IResult<&[u8], u16>
     behind_type(i, kind)
 }
 
-/// LINKTYPE_RAW.
+/// Returns the EtherType of a raw IP packet, by its version. It takes no bytes.
 #[tactic(auto, using(layouts::proofs::OneAnswerLemmas::read_allowed), unfolding(crate::specs::Link::raw_ip))]
 fn raw_ip(i: &[u8]) -> IResult<&[u8], u16>
     ensures { Gives (λ v. v) raw_ip_layout i.now result }
@@ -120,7 +120,7 @@ fn raw_ip(i: &[u8]) -> IResult<&[u8], u16>
     }
 }
 
-/// The type of Ethernet that a protocol of PPP stands for.
+/// Returns the EtherType of a PPP protocol; 0 for an unknown one.
 fn ppp_type(protocol: u16) -> u16
     ensures { result ≡ type_of_ppp protocol }
 {
@@ -131,7 +131,7 @@ fn ppp_type(protocol: u16) -> u16
     }
 }
 
-/// The type of what follows the protocol of PPP, which has one byte or two.
+/// Parses a PPP protocol, of 1 or 2 bytes: returns the EtherType of what follows.
 #[tactic(auto, using(layouts::proofs::OneAnswerLemmas::read_allowed), unfolding(crate::specs::Link::ppp))]
 fn ppp(i: &[u8]) -> IResult<&[u8], u16>
     ensures { Gives (λ v. v) ppp_layout i.now result }
@@ -145,7 +145,8 @@ fn ppp(i: &[u8]) -> IResult<&[u8], u16>
     Ok((i, ppp_type(protocol)))
 }
 
-/// The type of what follows behind the address and the control byte of HDLC, where these are the 2 bytes in front.
+/// Parses a PPP or Cisco HDLC header, whose first 2 bytes are `front`: returns the EtherType of
+/// what follows.
 #[tactic(auto, using(layouts::proofs::OneAnswerLemmas::read_allowed), unfolding(crate::specs::Link::ppp_by))]
 fn ppp_by(i: &[u8], front: u16) -> IResult<&[u8], u16>
     ensures { Gives (λ v. v) (ppp_by_layout front) i.now result }
@@ -163,7 +164,7 @@ fn ppp_by(i: &[u8], front: u16) -> IResult<&[u8], u16>
     }
 }
 
-/// LINKTYPE_PPP and LINKTYPE_PPP_HDLC.
+/// Parses a LINKTYPE_PPP or LINKTYPE_PPP_HDLC header: returns the EtherType of what follows.
 #[tactic(auto, using(layouts::proofs::OneAnswerLemmas::read_allowed), unfolding(crate::specs::Link::ppp_link))]
 fn ppp_link(i: &[u8]) -> IResult<&[u8], u16>
     ensures { Gives (λ v. v) ppp_link_layout i.now result }
@@ -172,14 +173,14 @@ fn ppp_link(i: &[u8]) -> IResult<&[u8], u16>
     ppp_by(i, front)
 }
 
-/// What follows is of that type: the link has no header, or one that was read.
+/// Returns `kind`, taking no bytes: the link has no header, or an outer layer has read it.
 fn carries(i: &[u8], kind: u16) -> IResult<&[u8], u16>
     ensures { Gives (λ v. v) (done kind) i.now result }
 {
     Ok((i, kind))
 }
 
-/// The same behind so many bytes, and VLAN tags.
+/// Skips `count` bytes and VLAN tags. Returns the EtherType behind them.
 #[tactic(auto, using(layouts::proofs::OneAnswerLemmas::read_allowed), unfolding(crate::specs::Link::behind))]
 fn behind(i: &[u8], count: usize) -> IResult<&[u8], u16>
     ensures { Gives (λ v. v) (behind_layout count) i.now result }
@@ -188,16 +189,17 @@ fn behind(i: &[u8], count: usize) -> IResult<&[u8], u16>
     ether_type(i)
 }
 
-/// A link of another type.
+/// Refuses a packet of an unknown link type.
 fn no_link(i: &[u8]) -> IResult<&[u8], u16>
     ensures { Gives (λ v. v) (refuse Switch) i.now result }
 {
     refused(i, ErrorKind::Switch)
 }
 
-/// What the row of the link type reads as a header.
+/// Expands to a match that parses the header of each link type in the table.
 macro_rules! header {
-    ($i:ident, $link_type:ident: $($number:literal $name:ident => $read:ident($($of:expr)?), $front:ident($($count:expr)?);)*) => {
+    ($i:ident, $link_type:ident: $($number:literal $name:ident => $read:ident($($of:expr)?),
+        $front:ident($($count:expr)?);)*) => {
         match $link_type {
             $($number => $read($i $(, $of)?),)*
             _ => no_link($i),
@@ -205,7 +207,7 @@ macro_rules! header {
     };
 }
 
-/// The type of what follows, by the link type.
+/// Parses a link header: returns the EtherType of what follows.
 #[tactic(auto, using(layouts::proofs::OneAnswerLemmas::read_allowed), unfolding(crate::specs::Link::link))]
 #[inline(always)]
 fn link(i: &[u8], link_type: u16) -> IResult<&[u8], u16>
@@ -214,7 +216,8 @@ fn link(i: &[u8], link_type: u16) -> IResult<&[u8], u16>
     links!(header i, link_type)
 }
 
-/// The type of what a packet of a PPPoE session carries (RFC 2516, section 4).
+/// Parses the header of a PPPoE session packet (RFC 2516, section 4): returns the EtherType of what
+/// it carries.
 #[tactic(auto, using(layouts::proofs::OneAnswerLemmas::read_allowed), unfolding(crate::specs::Link::pppoe))]
 fn pppoe(i: &[u8]) -> IResult<&[u8], u16>
     ensures { Gives (λ v. v) pppoe_layout i.now result }
@@ -227,7 +230,7 @@ fn pppoe(i: &[u8]) -> IResult<&[u8], u16>
     ppp(i)
 }
 
-/// The type of what follows, in a PPPoE session too.
+/// Returns the EtherType of what follows, behind a PPPoE session header if `kind` is that.
 #[tactic(auto, using(layouts::proofs::OneAnswerLemmas::read_allowed), unfolding(crate::specs::Link::network))]
 fn network(i: &[u8], kind: u16) -> IResult<&[u8], u16>
     ensures { Gives (λ v. v) (network_layout kind) i.now result }
@@ -238,12 +241,14 @@ fn network(i: &[u8], kind: u16) -> IResult<&[u8], u16>
     Ok((i, kind))
 }
 
-/// Reads the header of the link in front of the packet `i`: the type of Ethernet of what it carries, where 0x0800 is IPv4 and 0x86dd IPv6. It
-/// is 0 where a link that numbers what it carries in another way carries neither. The link types are those of [`parse_packet`].
+/// Parses the link header at the front of the packet `i`. Returns the EtherType of what it carries,
+/// such as 0x0800 for IPv4 and 0x86dd for IPv6. It is 0 if the link has other protocol numbers, and
+/// carries neither. [`parse_packet`] lists the link types.
 ///
-/// - `Incomplete` of what is missing of the first part that isn't whole.
-/// - `Error` of kind `Switch` where the link type is another.
-/// - `Error` of kind `Verify` where a PPPoE packet isn't one of a session, or raw IP has another version.
+/// - `Incomplete`, with the count of missing bytes of the first field that isn't whole.
+/// - `Error` of kind `Switch` if the link type is unknown.
+/// - `Error` of kind `Verify` if a PPPoE packet isn't part of a session, or the version of raw IP
+///   isn't 4 or 6.
 #[tactic(auto, using(layouts::proofs::OneAnswerLemmas::read_allowed), unfolding(crate::specs::Link::carried))]
 #[inline(always)]
 pub fn parse_link(i: &[u8], link_type: u16) -> IResult<&[u8], u16>
@@ -253,7 +258,7 @@ pub fn parse_link(i: &[u8], link_type: u16) -> IResult<&[u8], u16>
     network(i, kind)
 }
 
-/// A datagram, by its type.
+/// Parses a datagram of this EtherType; `None` if it is neither IPv4 nor IPv6.
 #[tactic(auto, using(layouts::proofs::OneAnswerLemmas::read_allowed), unfolding(crate::specs::Link::datagram))]
 fn datagram(i: &[u8], kind: u16) -> IResult<&[u8], Option<Datagram>>
     ensures { Gives view_packet (datagram_layout kind) i.now result }
@@ -271,16 +276,24 @@ fn datagram(i: &[u8], kind: u16) -> IResult<&[u8], Option<Datagram>>
     }
 }
 
-/// Reads the packet `i` of a capture with that link type: the link's header, and the datagram of IPv4 or IPv6 that it
-/// carries; `None` where it carries another protocol. What is left is padding, or bytes of another protocol.
+/// Parses the packet `i` of a capture with this link type: the link header, and the IPv4 or IPv6
+/// datagram behind it. `None` if it carries another protocol. The rest is padding, or the bytes of
+/// that protocol.
 ///
-/// Link types (LINKTYPE of tcpdump.org): 1 Ethernet, 113 Linux cooked (SLL) and 276 SLL2, each with any number of VLAN tags;
-/// 0 null, 108 loopback, 9 PPP, 50 PPP in HDLC, 51 PPPoE, 101 raw IP, 228 IPv4, 229 IPv6; in those that have types of
-/// Ethernet also PPPoE sessions.
+/// Link types (LINKTYPE of tcpdump.org):
 ///
-/// - `Incomplete` of what is missing of the first part that isn't whole: the packet wasn't captured whole.
-/// - `Error` of kind `Switch` where the link type is another.
-/// - `Error` of kind `Verify` where a PPPoE packet isn't one of a session, or raw IP has another version.
+/// - 1 Ethernet, 113 Linux cooked (SLL) and 276 SLL2, each with any number of VLAN tags.
+/// - 0 null, 108 loopback, 9 PPP, 50 PPP in HDLC, 51 PPPoE, 101 raw IP, 228 IPv4, 229 IPv6.
+///
+/// Links with EtherTypes may also carry PPPoE sessions.
+///
+/// Refusals:
+///
+/// - `Incomplete`, with the count of missing bytes of the first field that isn't whole: the packet
+///   was truncated.
+/// - `Error` of kind `Switch` if the link type is unknown.
+/// - `Error` of kind `Verify` if a PPPoE packet isn't part of a session, or the version of raw IP
+///   isn't 4 or 6.
 /// - What [`parse_ipv4`] and [`parse_ipv6`] refuse.
 #[tactic(auto, using(layouts::proofs::OneAnswerLemmas::read_allowed, layouts::proofs::OneAnswerLemmas::one_answer), unfolding(crate::specs::Link::packet))]
 pub fn parse_packet(i: &[u8], link_type: u16) -> IResult<&[u8], Option<Datagram>>

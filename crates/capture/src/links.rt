@@ -1,7 +1,8 @@
-//! The link types that are read.
+//! The table of link types.
 
-/// Link types (LINKTYPE of tcpdump.org), told once, in the order of their numbers: they are handed to the macro that is named, behind its words. A row
-/// has the number, its name there, what reads the header in front of a packet (`link`), and what reads the bytes in front of its VLAN tags (`vlan`).
+/// Hands the table of link types (LINKTYPE of tcpdump.org), in the order of their numbers, to the
+/// macro `$then`. A row has the number, its name there, the parser of the link header (`link`), and
+/// the parser of the bytes before its VLAN tags (`vlan`).
 macro_rules! links {
     ($then:ident $i:ident, $link_type:ident) => {
         $then! {

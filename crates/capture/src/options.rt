@@ -1,30 +1,30 @@
-//! The options of a segment of TCP (RFC 9293, section 3.1; RFC 7323).
+//! TCP options (RFC 9293, section 3.1; RFC 7323).
 ghost use Rattle.std.specs.Prelude.{◌≡◌};
 ghost use Rattle.std.specs.Option.{option_map};
 ghost use Rattle.capture.specs.Options.{maximum_segment_size as maximum_segment_size_in, option_in as option_among, option_of as option_in_all, timestamp as timestamp_in, window_scale as window_scale_in};
 
-/// The largest shift of a window (RFC 7323, section 2.3).
+/// The largest window shift (RFC 7323, section 2.3).
 const MAX_SHIFT: u8 = 14;
 
-/// How many options there can be: each has a byte.
+/// The most options that fit in a header, at a byte each.
 const MAX_OPTIONS: u8 = 40;
 
-/// The kind of what ends the options.
+/// The kind of End of Option List.
 const END: u8 = 0;
 
-/// The kind of a byte between options.
+/// The kind of No-Operation, which pads options.
 const PADDING: u8 = 1;
 
-/// The kind of the option that says how much data a segment may have.
+/// The kind of Maximum Segment Size.
 const MAXIMUM_SEGMENT_SIZE: u8 = 2;
 
-/// The kind of the option that says by how many bits a window is shifted.
+/// The kind of Window Scale.
 const WINDOW_SCALE: u8 = 3;
 
-/// The kind of the option that has the sender's clock.
+/// The kind of Timestamps.
 const TIMESTAMPS: u8 = 8;
 
-/// The content of the first option of that kind, among so many.
+/// Returns the content of the first option of this kind among the first `most`.
 fn option_in(options: &[u8], kind: u8, most: u8) -> Option<&[u8]>
     ensures { option_map (λ x. x.now) result ≡ option_among most kind options.now }
 {
@@ -50,15 +50,17 @@ fn option_in(options: &[u8], kind: u8, most: u8) -> Option<&[u8]>
     option_in(behind, kind, most - 1)
 }
 
-/// The content of the first option of that kind, without its kind and length (RFC 9293, section 3.1). `None` where there is none in front of
-/// the end of the options, or of one that isn't whole.
+/// Returns the content of the first option of this kind, without its kind and length bytes (RFC
+/// 9293, section 3.1). `None` if there is none before the end of the options or before a truncated
+/// option.
 pub fn option_of(options: &[u8], kind: u8) -> Option<&[u8]>
     ensures { option_map (λ x. x.now) result ≡ option_in_all kind options.now }
 {
     option_in(options, kind, MAX_OPTIONS)
 }
 
-/// The most data that the sender takes in a segment (RFC 9293, section 3.7.1), in bytes.
+/// Returns the maximum segment size that the sender accepts, in bytes (RFC 9293, section 3.7.1).
+/// `None` without the option, or if its content isn't 2 bytes.
 pub fn maximum_segment_size(options: &[u8]) -> Option<u16>
     ensures { result ≡ maximum_segment_size_in options.now }
 {
@@ -68,7 +70,8 @@ pub fn maximum_segment_size(options: &[u8]) -> Option<u16>
     }
 }
 
-/// By how many bits the windows of the sender are shifted (RFC 7323, section 2.2): at most 14.
+/// Returns the shift of the sender's windows, in bits, at most 14 (RFC 7323, section 2.2). `None`
+/// without the option, or if its content isn't 1 byte.
 pub fn window_scale(options: &[u8]) -> Option<u8>
     ensures { result ≡ window_scale_in options.now }
 {
@@ -78,7 +81,8 @@ pub fn window_scale(options: &[u8]) -> Option<u8>
     }
 }
 
-/// The sender's clock (RFC 7323, section 3.2).
+/// Returns the sender's timestamp, TSval (RFC 7323, section 3.2). `None` without the option, or if
+/// its content isn't 8 bytes.
 pub fn timestamp(options: &[u8]) -> Option<u32>
     ensures { result ≡ timestamp_in options.now }
 {

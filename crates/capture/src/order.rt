@@ -1,4 +1,4 @@
-//! Numbers in the order of bytes of the machine that wrote a file.
+//! Numbers in the byte order of the machine that wrote a file.
 #![tactic(auto, using(layouts::proofs::GivesLemmas::reads), unfolding(layouts::specs::Reading::split_at, crate::specs::Order::little))]
 
 ghost use Rattle.layouts.specs.Answers.{Gives};
@@ -7,16 +7,16 @@ ghost use Rattle.capture.specs.Order.{little, little_of, number_by};
 
 use layouts::{Err, IResult, Needed, number2, number4, number8};
 
-/// Which byte of a number stands first.
+/// A byte order.
 #[derive(Clone, Copy, Debug, PartialEq, Eq)]
 pub enum Order {
-    /// The most significant.
+    /// Most significant byte first.
     Big,
-    /// The least significant.
+    /// Least significant byte first.
     Little,
 }
 
-/// A number of 2 bytes, the least significant first.
+/// Parses a little-endian number of 2 bytes.
 fn little2(i: &[u8]) -> IResult<&[u8], u16>
     ensures { Gives (λ v. v) (little 2) i.now result }
 {
@@ -26,7 +26,7 @@ fn little2(i: &[u8]) -> IResult<&[u8], u16>
     }
 }
 
-/// A number of 4 bytes, the least significant first.
+/// Parses a little-endian number of 4 bytes.
 fn little4(i: &[u8]) -> IResult<&[u8], u32>
     ensures { Gives (λ v. v) (little 4) i.now result }
 {
@@ -36,7 +36,7 @@ fn little4(i: &[u8]) -> IResult<&[u8], u32>
     }
 }
 
-/// The number that 8 bytes spell, the least significant first.
+/// Returns the little-endian number in 8 bytes.
 #[tactic(auto)]
 fn little_number(bytes: &[u8]) -> u64
     requires { length bytes.now ≡ 8 }
@@ -47,7 +47,7 @@ fn little_number(bytes: &[u8]) -> u64
     ])
 }
 
-/// A number of 8 bytes, the least significant first.
+/// Parses a little-endian number of 8 bytes.
 fn little8(i: &[u8]) -> IResult<&[u8], u64>
     ensures { Gives (λ v. v) (little 8) i.now result }
 {
@@ -58,9 +58,9 @@ fn little8(i: &[u8]) -> IResult<&[u8], u64>
     Ok((rest, little_number(front)))
 }
 
-/// A number of 2 bytes in that order.
+/// Parses a number of 2 bytes in this byte order.
 ///
-/// `Incomplete` of the missing bytes where there are fewer than 2.
+/// `Incomplete`, with the count of missing bytes, if there are fewer than 2.
 #[tactic(auto, using(layouts::proofs::OneAnswerLemmas::read_allowed), unfolding(crate::specs::Order::number_by))]
 pub fn number2_by(i: &[u8], order: Order) -> IResult<&[u8], u16>
     ensures { Gives (λ v. v) (number_by order 2) i.now result }
@@ -71,9 +71,9 @@ pub fn number2_by(i: &[u8], order: Order) -> IResult<&[u8], u16>
     }
 }
 
-/// A number of 4 bytes in that order.
+/// Parses a number of 4 bytes in this byte order.
 ///
-/// `Incomplete` of the missing bytes where there are fewer than 4.
+/// `Incomplete`, with the count of missing bytes, if there are fewer than 4.
 #[tactic(auto, using(layouts::proofs::OneAnswerLemmas::read_allowed), unfolding(crate::specs::Order::number_by))]
 pub fn number4_by(i: &[u8], order: Order) -> IResult<&[u8], u32>
     ensures { Gives (λ v. v) (number_by order 4) i.now result }
@@ -84,9 +84,9 @@ pub fn number4_by(i: &[u8], order: Order) -> IResult<&[u8], u32>
     }
 }
 
-/// A number of 8 bytes in that order.
+/// Parses a number of 8 bytes in this byte order.
 ///
-/// `Incomplete` of the missing bytes where there are fewer than 8.
+/// `Incomplete`, with the count of missing bytes, if there are fewer than 8.
 #[tactic(auto, using(layouts::proofs::OneAnswerLemmas::read_allowed), unfolding(crate::specs::Order::number_by))]
 pub fn number8_by(i: &[u8], order: Order) -> IResult<&[u8], u64>
     ensures { Gives (λ v. v) (number_by order 8) i.now result }

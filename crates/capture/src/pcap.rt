@@ -1,4 +1,4 @@
-//! Files of captured packets (draft-ietf-opsawg-pcap).
+//! Pcap files (draft-ietf-opsawg-pcap).
 ghost use Rattle.std.specs.Prelude.{◌≡◌};
 ghost use Rattle.layouts.specs.Meaning.{AllowsOne};
 ghost use Rattle.layouts.specs.Answers.{Gives};
@@ -7,7 +7,7 @@ ghost use Rattle.capture.specs.Pcap.{format_of, view_format, header, view_header
 use crate::order::{Order, number2_by, number4_by};
 use layouts::{ErrorKind, IResult, block, number4, refused};
 
-/// No packet of a file is longer than this, in bytes (`MAXIMUM_SNAPLEN` of libpcap).
+/// The longest packet in a file, in bytes (`MAXIMUM_SNAPLEN` of libpcap).
 pub const MAX_PACKET_LEN: u32 = 262_144;
 
 /// The unit of a time's fraction of a second.
@@ -19,39 +19,40 @@ pub enum Unit {
     Nanosecond,
 }
 
-/// What the first 4 bytes of a file say of the others (draft-ietf-opsawg-pcap, section 4).
+/// The format that a file's magic number stands for (draft-ietf-opsawg-pcap, section 4).
 #[derive(Clone, Copy, Debug, PartialEq, Eq)]
 pub struct Format {
-    /// The order of bytes in the numbers of the file's own headers.
+    /// The byte order of the file's headers.
     pub order: Order,
     /// The unit of the fraction of a second.
     pub unit: Unit,
 }
 
-/// The header of a file (draft-ietf-opsawg-pcap, section 4), 24 bytes.
+/// A file header (draft-ietf-opsawg-pcap, section 4), 24 bytes.
 #[derive(Clone, Copy, Debug, PartialEq, Eq)]
 pub struct PcapHeader {
-    /// How the packets' headers are written.
+    /// The format of the packets' headers.
     pub format: Format,
-    /// No packet was captured further than this, in bytes.
+    /// The length at which packets are truncated, in bytes.
     pub snap_length: u32,
-    /// What each packet begins with: a LINKTYPE value of tcpdump.org.
+    /// The link type of each packet: a LINKTYPE value of tcpdump.org.
     pub link_type: u16,
 }
 
-/// A packet of a capture.
+/// A captured packet.
 #[derive(Clone, Copy, Debug, PartialEq)]
 pub struct Captured<'a> {
-    /// When it was captured, in nanoseconds since 1970-01-01 00:00 UTC.
+    /// The capture time, in nanoseconds since 1970-01-01 00:00 UTC.
     pub time: u64,
-    /// How long it was on the wire, in bytes; more than `bytes` has where it was cut.
+    /// The packet's length on the wire, in bytes. If it exceeds the length of `bytes`, the packet
+    /// was truncated.
     pub original_length: u32,
-    /// The bytes that were captured.
+    /// The captured bytes.
     pub bytes: &'a [u8],
 }
 
 impl Unit {
-    /// How many nanoseconds it has.
+    /// Returns how many nanoseconds the unit has.
     pub fn nanoseconds(self) -> u64
         ensures { result ≡ nanoseconds self }
     {
@@ -62,7 +63,7 @@ impl Unit {
     }
 }
 
-/// The format that a magic number stands for.
+/// Returns the format of a magic number.
 #[tactic(auto, using(layouts::proofs::OneAnswerLemmas::read_allowed), unfolding(crate::specs::Pcap::format_of))]
 fn format_by_magic(i: &[u8], magic: u32) -> IResult<&[u8], Format>
     ensures { Gives view_format (format_of magic) i.now result }
@@ -77,11 +78,11 @@ fn format_by_magic(i: &[u8], magic: u32) -> IResult<&[u8], Format>
     Ok((i, Format { order, unit }))
 }
 
-/// Reads the header of a file (draft-ietf-opsawg-pcap, section 4): 24 bytes, behind which the first packet stands.
+/// Parses a file header (draft-ietf-opsawg-pcap, section 4), 24 bytes. The first packet follows.
 ///
-/// - `Incomplete` of the count that is missing of the first field that isn't whole.
-/// - `Error` of kind `Tag` where the first 4 bytes are no magic number: it is no such file.
-/// - `Error` of kind `Verify` where the major version isn't 2.
+/// - `Incomplete`, with the count of missing bytes of the first field that isn't whole.
+/// - `Error` of kind `Tag` if the magic number is unknown: it is no pcap file.
+/// - `Error` of kind `Verify` if the major version isn't 2.
 #[tactic(auto, using(layouts::proofs::OneAnswerLemmas::read_allowed, layouts::proofs::OneAnswerLemmas::one_answer), unfolding(crate::specs::Pcap::header))]
 pub fn parse_pcap_header(i: &[u8]) -> IResult<&[u8], PcapHeader>
     ensures gives { Gives view_header header i.now result }
@@ -104,12 +105,13 @@ pub fn parse_pcap_header(i: &[u8]) -> IResult<&[u8], PcapHeader>
     Ok((i, header))
 }
 
-/// Reads a packet of a file whose header said that format (draft-ietf-opsawg-pcap, section 5): 16 bytes, and then as
-/// many bytes as were captured of it.
+/// Parses a packet of a file of this format (draft-ietf-opsawg-pcap, section 5): a header of 16
+/// bytes, and the captured bytes.
 ///
-/// - `Incomplete` of the count that is missing of the first field that isn't whole, or else of the packet's bytes.
-/// - `Error` of kind `TooLarge` where more than [`MAX_PACKET_LEN`] bytes are said to follow, even if they aren't there
-///   yet.
+/// - `Incomplete`, with the count of missing bytes of the first header field that isn't whole, or
+///   else of the packet's bytes.
+/// - `Error` of kind `TooLarge` if the captured length exceeds [`MAX_PACKET_LEN`], even before
+///   these bytes arrive.
 #[tactic(auto, using(layouts::proofs::OneAnswerLemmas::read_allowed, layouts::proofs::OneAnswerLemmas::one_answer), unfolding(crate::specs::Pcap::packet))]
 pub fn parse_pcap_packet(i: &[u8], format: Format) -> IResult<&[u8], Captured>
     ensures gives { Gives view_packet (packet (view_format format)) i.now result }

@@ -1,4 +1,4 @@
-//! Blocks of a file in sections (draft-ietf-opsawg-pcapng).
+//! Pcapng blocks (draft-ietf-opsawg-pcapng).
 #![tactic(auto, using(layouts::proofs::OneAnswerLemmas::read_allowed), unfolding(crate::specs::Pcapng::order_of, crate::specs::Pcapng::section_order, crate::specs::Pcapng::order_next, crate::specs::Pcapng::block_by))]
 
 ghost use Rattle.layouts.specs.Meaning.{AllowsOne};
@@ -10,36 +10,37 @@ ghost use Rattle.capture.specs.Pcapng.{block_by as block_by_layout, next_block, 
 use crate::order::{Order, number4_by};
 use layouts::{ErrorKind, IResult, block, number4, refused};
 
-/// No block is longer than this, in bytes.
+/// The longest block, in bytes.
 pub const MAX_BLOCK_LEN: u32 = 16_777_216;
 
-/// The type of a block that begins a section (draft-ietf-opsawg-pcapng, section 4.1).
+/// The type of a Section Header Block (draft-ietf-opsawg-pcapng, section 4.1).
 pub const SECTION_HEADER: u32 = 0x0a0d_0d0a;
 
-/// The type of a block that describes an interface (section 4.2).
+/// The type of an Interface Description Block (section 4.2).
 pub const INTERFACE_DESCRIPTION: u32 = 1;
 
-/// The type of a block that holds a packet in the obsolete form (appendix A).
+/// The type of a Packet Block, which is obsolete (appendix A).
 pub const OBSOLETE_PACKET: u32 = 2;
 
-/// The type of a block that holds a packet without a time (section 4.4).
+/// The type of a Simple Packet Block, which has no time (section 4.4).
 pub const SIMPLE_PACKET: u32 = 3;
 
-/// The type of a block that holds a packet (section 4.3).
+/// The type of an Enhanced Packet Block (section 4.3).
 pub const ENHANCED_PACKET: u32 = 6;
 
 /// A block (draft-ietf-opsawg-pcapng, section 3.1).
 #[derive(Clone, Copy, Debug, PartialEq)]
 pub struct Block<'a> {
-    /// The order of its numbers, and of those in the blocks behind it.
+    /// The byte order of its numbers, and of the following blocks in the section.
     pub order: Order,
-    /// Its type: [`SECTION_HEADER`], [`INTERFACE_DESCRIPTION`], [`OBSOLETE_PACKET`], [`SIMPLE_PACKET`], [`ENHANCED_PACKET`], or another.
+    /// The block type: [`SECTION_HEADER`], [`INTERFACE_DESCRIPTION`], [`OBSOLETE_PACKET`],
+    /// [`SIMPLE_PACKET`], [`ENHANCED_PACKET`], or another.
     pub kind: u32,
-    /// What it holds.
+    /// The body.
     pub body: &'a [u8],
 }
 
-/// The order that a byte-order magic stands for.
+/// Returns the byte order of a byte-order magic.
 fn order_by_magic(i: &[u8], magic: u32) -> IResult<&[u8], Order>
     ensures { Gives (λ v. v) (order_of magic) i.now result }
 {
@@ -50,7 +51,7 @@ fn order_by_magic(i: &[u8], magic: u32) -> IResult<&[u8], Order>
     }
 }
 
-/// The order of the section that a block begins.
+/// Returns the byte order of the section whose header is at the front.
 fn section_order(i: &[u8]) -> IResult<&[u8], Order>
     ensures { Gives (λ v. v) section_order_layout i.now result }
 {
@@ -59,7 +60,7 @@ fn section_order(i: &[u8]) -> IResult<&[u8], Order>
     order_by_magic(i, magic)
 }
 
-/// The order of the next block, of which nothing is taken.
+/// Returns the byte order of the block at the front. It takes no bytes.
 fn order_next(i: &[u8], order: Order) -> IResult<&[u8], Order>
     ensures { Gives (λ v. v) (order_next_layout order) i.now result }
 {
@@ -71,7 +72,7 @@ fn order_next(i: &[u8], order: Order) -> IResult<&[u8], Order>
     Ok((i, order))
 }
 
-/// A block whose numbers have that order.
+/// Parses a block in this byte order.
 fn block_by(i: &[u8], order: Order) -> IResult<&[u8], Block>
     ensures { Gives view_block (block_by_layout order) i.now result }
 {
@@ -91,14 +92,17 @@ fn block_by(i: &[u8], order: Order) -> IResult<&[u8], Block>
     Ok((i, Block { order, kind, body }))
 }
 
-/// Reads a block of a section of that order (draft-ietf-opsawg-pcapng, section 3.1); one that begins a section says its
-/// own order. A file begins with such a block, so at its front any order serves.
+/// Parses a block of a section in this byte order (draft-ietf-opsawg-pcapng, section 3.1). A
+/// Section Header Block has a byte order itself. A file begins with one, so any order will do for
+/// the first block.
 ///
-/// - `Incomplete` of the count that is missing of the first field that isn't whole, or else of the body.
-/// - `Error` of kind `Tag` where a block begins a section and its byte-order magic is neither of the two.
-/// - `Error` of kind `LengthValue` where the length is below 12 or no multiple of 4, or the one behind the body
-///   differs.
-/// - `Error` of kind `TooLarge` where the length is above [`MAX_BLOCK_LEN`], even if the body isn't there yet.
+/// - `Incomplete`, with the count of missing bytes of the first field that isn't whole, or else of
+///   the body.
+/// - `Error` of kind `Tag` if the byte-order magic of a Section Header Block is neither of the two.
+/// - `Error` of kind `LengthValue` if the length is below 12, no multiple of 4, or differs from the
+///   one behind the body.
+/// - `Error` of kind `TooLarge` if the length exceeds [`MAX_BLOCK_LEN`], even before the body
+///   arrives.
 #[tactic(auto, using(layouts::proofs::OneAnswerLemmas::read_allowed, layouts::proofs::OneAnswerLemmas::one_answer), unfolding(crate::specs::Pcapng::next_block))]
 pub fn parse_block(i: &[u8], order: Order) -> IResult<&[u8], Block>
     ensures gives { Gives view_block (next_block order) i.now result }

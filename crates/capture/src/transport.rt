@@ -1,4 +1,4 @@
-//! What stands in a datagram of the Internet Protocol.
+//! The content of IP datagrams: TCP segments, UDP datagrams, other protocols.
 ghost use Rattle.std.specs.Prelude.{◌≤◌, IfOk};
 ghost use Rattle.layouts.specs.Answers.{Gives};
 ghost use Rattle.capture.specs.Transport.{tcp as tcp_layout, view_segment, udp as udp_layout, view_datagram};
@@ -7,13 +7,13 @@ ghost use Rattle.capture.specs.Transport.{transport as transport_layout, view_co
 
 use layouts::{ErrorKind, IResult, block, number1, number2, number4, refused, rest};
 
-/// The number of the protocol TCP.
+/// The protocol number of TCP.
 pub(crate) const TCP: u8 = 6;
 
-/// The number of the protocol UDP.
+/// The protocol number of UDP.
 pub(crate) const UDP: u8 = 17;
 
-/// The numbers in front of a segment's header.
+/// The first fields of a TCP header: ports, sequence and acknowledgment number.
 #[derive(Clone, Copy)]
 struct Numbers {
     source: u16,
@@ -22,7 +22,7 @@ struct Numbers {
     acknowledgment: u32,
 }
 
-/// What stands behind these, up to the options.
+/// The fields of a TCP header behind these, up to the options.
 #[derive(Clone, Copy)]
 struct Control {
     offset: u8,
@@ -32,62 +32,63 @@ struct Control {
     urgent_pointer: u16,
 }
 
-/// A segment of TCP (RFC 9293, section 3.1).
+/// A TCP segment (RFC 9293, section 3.1).
 #[derive(Clone, Copy, Debug, PartialEq)]
 pub struct TcpSegment<'a> {
-    /// The port that it comes from.
+    /// The source port.
     pub source: u16,
-    /// The port that it goes to.
+    /// The destination port.
     pub destination: u16,
-    /// The number of its first byte; with SYN, that of the SYN.
+    /// The sequence number of the first byte; with SYN, that of the SYN.
     pub sequence: u32,
-    /// Where ACK is set, the number of the next byte that the sender waits for.
+    /// If ACK is set, the sequence number that the sender expects next.
     pub acknowledgment: u32,
-    /// The length of header and options, in words of 4 bytes, in the upper half; the lower half is reserved.
+    /// The data offset, in words of 4 bytes, in the upper 4 bits. The lower 4 bits are reserved.
     pub offset: u8,
     /// CWR, ECE, URG, ACK, PSH, RST, SYN, FIN, from bit 7 to bit 0.
     pub flags: u8,
-    /// How many bytes the sender takes from the acknowledged one on, before its scale (RFC 7323, section 2).
+    /// The receive window in bytes, from the acknowledged byte on, before scaling (RFC 7323,
+    /// section 2).
     pub window: u16,
-    /// The checksum, as it stands there.
+    /// The checksum, not verified.
     pub checksum: u16,
-    /// Where URG is set, how far behind the first byte urgent data ends.
+    /// If URG is set, the offset from the first byte to the end of urgent data.
     pub urgent_pointer: u16,
-    /// The options: [`option_of`] finds one.
+    /// The options, for [`option_of`] and the like.
     pub options: &'a [u8],
     /// The data.
     pub payload: &'a [u8],
 }
 
-/// A user datagram (RFC 768).
+/// A UDP datagram (RFC 768).
 #[derive(Clone, Copy, Debug, PartialEq)]
 pub struct UdpDatagram<'a> {
-    /// The port that it comes from.
+    /// The source port.
     pub source: u16,
-    /// The port that it goes to.
+    /// The destination port.
     pub destination: u16,
     /// The length of header and data, in bytes.
     pub length: u16,
-    /// The checksum, as it stands there; 0 where there is none.
+    /// The checksum, not verified; 0 if there is none.
     pub checksum: u16,
     /// The data.
     pub payload: &'a [u8],
 }
 
-/// What a datagram holds.
+/// The content of a datagram.
 #[derive(Clone, Copy, Debug, PartialEq)]
 pub enum Content<'a> {
-    /// Of protocol 6.
+    /// A TCP segment (protocol 6).
     Tcp(TcpSegment<'a>),
-    /// Of protocol 17.
+    /// A UDP datagram (protocol 17).
     Udp(UdpDatagram<'a>),
-    /// A part of a datagram that was cut; what it holds isn't read.
+    /// A part of a fragmented datagram; its content isn't read.
     Fragment,
-    /// Of another protocol, which has this number; these bytes of it aren't read.
+    /// Another protocol: its number, and its bytes, which aren't read.
     Other(u8, &'a [u8]),
 }
 
-/// Reads the ports and numbers in front of a segment of TCP.
+/// Parses the ports and numbers at the front of a TCP segment, 12 bytes.
 #[tactic(auto, using(layouts::proofs::OneAnswerLemmas::read_allowed), unfolding(crate::specs::Transport::numbers))]
 #[inline(always)]
 fn read_numbers(i: &[u8]) -> IResult<&[u8], Numbers>
@@ -106,7 +107,8 @@ fn read_numbers(i: &[u8]) -> IResult<&[u8], Numbers>
     Ok((i, numbers))
 }
 
-/// Reads what stands behind the numbers, up to the options.
+/// Parses the fields of a TCP header behind the numbers, up to the options, 8 bytes. `Error` of
+/// kind `LengthValue` if the data offset is below 5 words.
 #[tactic(auto, using(layouts::proofs::OneAnswerLemmas::read_allowed), unfolding(crate::specs::Transport::control_fields))]
 #[inline(always)]
 fn control_fields(i: &[u8]) -> IResult<&[u8], Control>
@@ -131,10 +133,11 @@ fn control_fields(i: &[u8]) -> IResult<&[u8], Control>
     Ok((i, control))
 }
 
-/// Reads a segment of TCP, all of `i` (RFC 9293, section 3.1): 20 bytes, options up to the data offset, and the data.
+/// Parses a TCP segment, all of `i` (RFC 9293, section 3.1): 20 bytes, options up to the data
+/// offset, and the data.
 ///
-/// - `Incomplete` of what is missing of the header, or of the options.
-/// - `Error` of kind `LengthValue` where the data offset is below 5.
+/// - `Incomplete`, with the count of missing bytes of the header or the options.
+/// - `Error` of kind `LengthValue` if the data offset is below 5 words.
 #[tactic(auto, using(layouts::proofs::OneAnswerLemmas::read_allowed), unfolding(crate::specs::Transport::tcp))]
 #[inline(always)]
 pub fn parse_tcp(i: &[u8]) -> IResult<&[u8], TcpSegment>
@@ -160,10 +163,10 @@ pub fn parse_tcp(i: &[u8]) -> IResult<&[u8], TcpSegment>
     Ok((i, segment))
 }
 
-/// Reads a user datagram (RFC 768): 8 bytes and the data, as long as the length there says.
+/// Parses a UDP datagram (RFC 768): a header of 8 bytes, and the data up to the header's length.
 ///
-/// - `Incomplete` of what is missing of the header, or of the data.
-/// - `Error` of kind `LengthValue` where the length is below 8.
+/// - `Incomplete`, with the count of missing bytes of the header or the data.
+/// - `Error` of kind `LengthValue` if the length is below 8.
 #[tactic(auto, using(layouts::proofs::OneAnswerLemmas::read_allowed), unfolding(crate::specs::Transport::udp))]
 pub fn parse_udp(i: &[u8]) -> IResult<&[u8], UdpDatagram>
     ensures { Gives view_datagram udp_layout i.now result }
@@ -186,7 +189,7 @@ pub fn parse_udp(i: &[u8]) -> IResult<&[u8], UdpDatagram>
     Ok((i, datagram))
 }
 
-/// What a datagram holds, by the number of its protocol.
+/// Parses the content of a datagram, by its protocol number.
 #[tactic(auto, using(layouts::proofs::OneAnswerLemmas::read_allowed), unfolding(crate::specs::Transport::transport))]
 #[inline(always)]
 pub(crate) fn transport(i: &[u8], protocol: u8) -> IResult<&[u8], Content>

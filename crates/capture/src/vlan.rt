@@ -1,4 +1,4 @@
-//! The VLAN tags of a link's header.
+//! The VLAN tags of link headers.
 #![tactic(auto, using(layouts::proofs::OneAnswerLemmas::read_allowed))]
 
 ghost use Rattle.std.specs.Prelude.{◌≡◌, ◌<◌, ◌++◌, ◌∷◌, [], take};
@@ -10,17 +10,17 @@ use crate::link::is_vlan;
 use crate::links::links;
 use layouts::{ErrorKind, IResult, block, number2, refused};
 
-/// The most VLAN tags of a packet that are told.
+/// The most VLAN tags that are returned for a packet.
 pub const MAX_VLAN_TAGS: usize = 16;
 
-/// The VLANs of a packet's tags, from outside in: those of the first [`MAX_VLAN_TAGS`].
+/// The VLAN identifiers of a packet's tags, outermost first, up to the first [`MAX_VLAN_TAGS`].
 #[derive(Clone, Copy, Debug, PartialEq, Eq, Hash)]
 pub struct VlanTags {
     slots: [u16; MAX_VLAN_TAGS],
     count: usize,
 }
 
-/// The VLAN of a tag.
+/// Parses a VLAN tag: returns its VLAN identifier.
 #[tactic(auto, using(layouts::proofs::OneAnswerLemmas::read_allowed), unfolding(crate::specs::Vlan::vlan))]
 fn vlan(i: &[u8]) -> IResult<&[u8], u16>
     ensures { Gives (λ v. v) vlan_layout i.now result }
@@ -33,7 +33,8 @@ fn vlan(i: &[u8]) -> IResult<&[u8], u16>
     Ok((i, control % 4096))
 }
 
-/// In front of the second tag in LINKTYPE_LINUX_SLL2.
+/// Parses a LINKTYPE_LINUX_SLL2 header up to its second tag: returns the VLAN identifier of the
+/// first.
 #[tactic(auto, using(layouts::proofs::OneAnswerLemmas::read_allowed), unfolding(crate::specs::Vlan::sll2_front))]
 fn sll2_front(i: &[u8]) -> IResult<&[u8], Option<u16>>
     ensures { Gives (λ v. v) sll2_front_layout i.now result }
@@ -47,7 +48,7 @@ fn sll2_front(i: &[u8]) -> IResult<&[u8], Option<u16>>
     Ok((i, Some(control % 4096)))
 }
 
-/// In front of the tags in Cisco's form of HDLC.
+/// Skips the 2 bytes before the tags in Cisco HDLC.
 #[tactic(auto, using(layouts::proofs::OneAnswerLemmas::read_allowed), unfolding(crate::specs::Vlan::hdlc_front))]
 fn hdlc_front(i: &[u8]) -> IResult<&[u8], Option<u16>>
     ensures { Gives (λ v. v) hdlc_front_layout i.now result }
@@ -59,7 +60,7 @@ fn hdlc_front(i: &[u8]) -> IResult<&[u8], Option<u16>>
     Ok((i, None))
 }
 
-/// So many bytes in front of the tags.
+/// Skips the `count` bytes before the tags.
 #[tactic(auto, using(layouts::proofs::OneAnswerLemmas::read_allowed), unfolding(crate::specs::Vlan::tags_behind))]
 fn tags_behind(i: &[u8], count: usize) -> IResult<&[u8], Option<u16>>
     ensures { Gives (λ v. v) (tags_behind_layout count) i.now result }
@@ -68,7 +69,7 @@ fn tags_behind(i: &[u8], count: usize) -> IResult<&[u8], Option<u16>>
     Ok((i, None))
 }
 
-/// A link that has no tags.
+/// Refuses a link that has no tags.
 #[tactic(auto, using(layouts::proofs::OneAnswerLemmas::read_allowed), unfolding(crate::specs::Vlan::no_tags))]
 fn no_tags(i: &[u8]) -> IResult<&[u8], Option<u16>>
     ensures { Gives (λ v. v) no_tags_layout i.now result }
@@ -76,9 +77,10 @@ fn no_tags(i: &[u8]) -> IResult<&[u8], Option<u16>>
     refused(i, ErrorKind::Switch)
 }
 
-/// What the row of the link type reads in front of tags.
+/// Expands to a match that parses what comes before the VLAN tags, for each link type in the table.
 macro_rules! front {
-    ($i:ident, $link_type:ident: $($number:literal $name:ident => $read:ident($($of:expr)?), $front:ident($($count:expr)?);)*) => {
+    ($i:ident, $link_type:ident: $($number:literal $name:ident => $read:ident($($of:expr)?),
+        $front:ident($($count:expr)?);)*) => {
         match $link_type {
             $($number => $front($i $(, $count)?),)*
             _ => no_tags($i),
@@ -86,7 +88,8 @@ macro_rules! front {
     };
 }
 
-/// What stands in front of a link's tags, or of all but the first, which it has.
+/// Skips what comes before a link's tags. If a link type's first tag is apart from the others, it
+/// is skipped too and its VLAN identifier returned.
 #[tactic(auto, using(layouts::proofs::OneAnswerLemmas::read_allowed), unfolding(crate::specs::Vlan::tags_front))]
 fn tags_front(i: &[u8], link_type: u16) -> IResult<&[u8], Option<u16>>
     ensures { Gives (λ v. v) (tags_front_layout link_type) i.now result }
@@ -95,7 +98,7 @@ fn tags_front(i: &[u8], link_type: u16) -> IResult<&[u8], Option<u16>>
 }
 
 impl VlanTags {
-    /// None.
+    /// Returns an empty list.
     pub fn new() -> VlanTags
         ensures { found_in result ≡ [] }
     {
@@ -105,7 +108,7 @@ impl VlanTags {
         }
     }
 
-    /// The VLANs.
+    /// Returns the VLAN identifiers, outermost first.
     pub fn as_slice(&self) -> &[u16]
         ensures { result.now ≡ found_in self.now }
     {
@@ -115,7 +118,7 @@ impl VlanTags {
         }
     }
 
-    /// One more, behind the others.
+    /// Appends a VLAN identifier.
     fn push(&mut self, vlan: u16)
         requires { self.old.count < 16 }
         ensures { found_in self.new ≡ found_in self.old ++ vlan ∷ [] }
@@ -124,7 +127,7 @@ impl VlanTags {
         self.count += 1;
     }
 
-    /// The same, where there is room.
+    /// Appends a VLAN identifier if there is room.
     #[tactic(auto, using(crate::proofs::VlanLemmas::fits, crate::proofs::VlanLemmas::is_full))]
     fn add(&mut self, vlan: u16)
         ensures { found_in self.new ≡ take 16 (found_in self.old ++ vlan ∷ []) }
@@ -134,7 +137,7 @@ impl VlanTags {
         }
     }
 
-    /// Those of the tags in front, as long as there is room.
+    /// Appends the VLAN identifiers of the tags at the front of `i`, while there is room.
     #[tactic(auto, using(crate::proofs::VlanLemmas::is_full, crate::proofs::VlanLemmas::first, crate::proofs::VlanLemmas::ended, crate::proofs::VlanLemmas::still))]
     fn add_all(&mut self, i: &[u8])
         ensures { found_in self.new ≡ take 16 (found_in self.old ++ items_in vlan_layout i.now) }
@@ -151,8 +154,8 @@ impl VlanTags {
         }
     }
 
-    /// Those of the link's header in front of the packet `i`, behind the others. The link types are those of [`crate::parse_packet`]; a link without types of
-    /// Ethernet has no tags.
+    /// Appends the VLAN identifiers of the tags in the link header of the packet `i`.
+    /// [`crate::parse_packet`] lists the link types. A link without EtherTypes has no tags.
     #[tactic(auto, using(crate::proofs::VlanLemmas::none_behind, crate::proofs::VlanLemmas::joined))]
     pub fn add_of_link(&mut self, i: &[u8], link_type: u16)
         ensures { found_in self.new ≡ take 16 (found_in self.old ++ link_vlans link_type i.now) }

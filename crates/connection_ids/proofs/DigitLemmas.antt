@@ -10,7 +10,7 @@ unfolding base62
 none_left zero n e = refl
 none_left (suc k) n e = absurd (omega (arith, e))
 
--- Of no digits nothing is added.
+-- Without digits nothing is appended.
 pub none_added : (text : List ℕ) (k n : ℕ) → k ≡ 0 → text ≡ text ++ base62 k n
 none_added text k n e = sym (append-nil text) ∙ ap (λ d. text ++ d) (sym (none_left k n e))
 
@@ -19,7 +19,7 @@ unfolding base62
 one_more zero n l = absurd (omega (arith, l))
 one_more (suc k) n l = ap (λ j. digit (n % 62) ∷ base62 j (n / 62)) (omega arith)
 
--- The lowest digit is added, and then the others.
+-- The lowest digit is appended, and then the others.
 pub digits_added : {T E : Type 0} (r : Result T E) (before behind after : List ℕ) (k n : ℕ) → 0 < k
     → behind ≡ before ++ digit (n % 62) ∷ []
     → OnOk r (after ≡ behind ++ base62 (k - 1) (n / 62))
@@ -74,7 +74,7 @@ lowest n = omega arith
 some_base : 0 < 62
 some_base = omega arith
 
--- The k lowest digits are those of the rest by 62 to the power of k.
+-- The k lowest digits are those of the number modulo 62^k.
 of_rest : (k n : ℕ) → base62 k (n % 62 ^ k) ≡ base62 k n
 unfolding base62
 of_rest zero n = refl
@@ -83,14 +83,14 @@ of_rest (suc k) n =
     ∙ one_digit k (n / 62 % 62 ^ k) (n % 62) (lowest n)
     ∙ ap (λ d. digit (n % 62) ∷ d) (of_rest k (n / 62))
 
--- 17 digits, by two numbers.
+-- 17 digits from two numbers.
 in_halves : (n : ℕ) → base62 17 n ≡ base62 10 (n % 62 ^ 10) ++ base62 7 (n / 62 ^ 10 % 62 ^ 7)
 in_halves n =
     in_two 10 7 n
     ∙ ap (λ d. d ++ base62 7 (n / 62 ^ 10)) (sym (of_rest 10 n))
     ∙ ap (λ d. base62 10 (n % 62 ^ 10) ++ d) (sym (of_rest 7 (n / 62 ^ 10)))
 
--- The lower digits are added, and then the upper ones.
+-- The lower digits are appended, and then the upper ones.
 pub both_added : {T E : Type 0} (r : Result T E) (before behind after : List ℕ) (n : ℕ)
     → behind ≡ before ++ base62 10 (n % 62 ^ 10)
     → OnOk r (after ≡ behind ++ base62 7 (n / 62 ^ 10 % 62 ^ 7))

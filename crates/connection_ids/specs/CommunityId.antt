@@ -8,7 +8,7 @@ use Rattle.connections.specs.declared.five_tuple.End.{End}
 use Rattle.connections.specs.declared.five_tuple.Protocol.{Protocol}
 use Rattle.connection_ids.specs.FiveTuple.{address_bytes, port_bytes, protocol_number}
 
--- The smaller address stands first; where both are the same, the smaller port.
+-- The smaller address comes first, or the smaller port if the addresses are equal.
 abbrev pub is_first : End → End → Bool
 is_first a b =
     nat_lt (address_number a.address) (address_number b.address)
@@ -24,7 +24,7 @@ ordered_bytes p first second =
     ++ port_bytes first.port
     ++ port_bytes second.port
 
--- The same for both directions.
+-- It is the same for both directions.
 abbrev pub community_bytes : Protocol → End → End → List ℕ
 community_bytes p a b = if is_first a b then ordered_bytes p a b else ordered_bytes p b a
 

@@ -13,10 +13,10 @@ use sha1::Sha1;
 use std::alloc::{AllocError, Global};
 use std::net::IpAddr;
 
-/// How long an identifier is.
+/// The length of an identifier, in bytes.
 const ID_LEN: usize = 30;
 
-/// An address as a number.
+/// Returns an address as a number.
 fn address_bits(address: IpAddr) -> u128
     ensures { result ≡ address_number address }
 {
@@ -26,7 +26,8 @@ fn address_bits(address: IpAddr) -> u128
     }
 }
 
-/// Whether one end stands in front of the other: the smaller address, and then the smaller port.
+/// Returns whether one end comes first: the one with the smaller address, or with the smaller port
+/// if the addresses are equal.
 fn is_first(one: End, other: End) -> bool
     ensures { result ≡ is_first_of one other }
 {
@@ -34,7 +35,7 @@ fn is_first(one: End, other: End) -> bool
     low < high || (low == high && one.port <= other.port)
 }
 
-/// Adds an address to what is hashed.
+/// Adds an address to the hash.
 fn add_address(hasher: &mut Sha1, address: IpAddr)
     ensures { (m : List ℕ) → Holds hasher.old m → Holds hasher.new (m ++ address_bytes address) }
 {
@@ -44,7 +45,7 @@ fn add_address(hasher: &mut Sha1, address: IpAddr)
     }
 }
 
-/// The SHA-1 of both ends in this order.
+/// Returns the SHA-1 of both ends in this order.
 fn ordered_digest(protocol: Protocol, first: End, second: End) -> [u8; 20]
     ensures { result ≡ sha1 (ordered_bytes protocol first second) }
 {
@@ -58,7 +59,7 @@ fn ordered_digest(protocol: Protocol, first: End, second: End) -> [u8; 20]
     hasher.finalize()
 }
 
-/// The SHA-1 of both ends, whatever the direction.
+/// Returns the SHA-1 of both ends, in either order.
 fn digest(protocol: Protocol, one: End, other: End) -> [u8; 20]
     ensures { result ≡ sha1 (community_bytes protocol one other) }
 {
@@ -69,9 +70,10 @@ fn digest(protocol: Protocol, one: End, other: End) -> [u8; 20]
     }
 }
 
-/// The Community ID of the packets between two ends, version 1 with a seed of 0, as `1:kVUbhKrwzAjFcntAEO6zYYEnNiI=`. It is the same for both directions.
+/// Returns the Community ID of the packets between two ends, version 1 with a seed of 0, such as
+/// `1:kVUbhKrwzAjFcntAEO6zYYEnNiI=`. It is the same for both directions.
 ///
-/// `AllocError` where it could not be held.
+/// `AllocError` if there is no memory for it.
 pub fn community_id(
     alloc: Global,
     protocol: Protocol,

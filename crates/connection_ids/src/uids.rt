@@ -1,4 +1,4 @@
-//! The identifier of a connection in a log.
+//! Identifiers of a connection in a log.
 ghost use Rattle.std.specs.Prelude.{◌≡◌, ◌<◌, ◌%◌, ◌∷◌, ◌++◌, [], List, ℕ, IfOk, OnOk, drop, take};
 ghost use Rattle.std.specs.Int.{w64, w128, from_be_bytes};
 ghost use Rattle.std.specs.String.{string_bytes};
@@ -13,23 +13,24 @@ use sha2::{Digest, Sha256};
 use std::alloc::{AllocError, Global};
 use std::net::IpAddr;
 
-/// An identifier's digits are made of two numbers of 64 bits, since a division of 128 bits takes several times as long: so many are the lower ones, and
-/// so many the upper ones.
+/// How many of an identifier's digits come from the lower of two 64-bit numbers, and how many from
+/// the upper. A 128-bit division for each digit would take several times as long.
 const LOWER_DIGITS: u32 = 10;
 
 const UPPER_DIGITS: u32 = 7;
 
-/// 62 to the power of these.
+/// 62 to the power of [`LOWER_DIGITS`].
 const LOWER: u128 = 839_299_365_868_340_224;
 
 const UPPER: u128 = 3_521_614_606_208;
 
-/// How long it is.
+/// The length of an identifier, in bytes.
 const UID_LEN: usize = 18;
 
-/// Adds an address to what is hashed.
+/// Adds an address to the hash.
 fn add_address(hasher: &mut Sha256, address: IpAddr)
-    ensures { (m : List ℕ) → Holds256 hasher.old m → Holds256 hasher.new (m ++ address_bytes address) }
+    ensures { (m : List ℕ) → Holds256 hasher.old m
+        → Holds256 hasher.new (m ++ address_bytes address) }
 {
     match address {
         IpAddr::V4(four) => hasher.update(four.octets()),
@@ -37,9 +38,10 @@ fn add_address(hasher: &mut Sha256, address: IpAddr)
     }
 }
 
-/// Adds the protocol and both ends to what is hashed.
+/// Adds the protocol and both ends to the hash.
 fn add_ends(hasher: &mut Sha256, protocol: Protocol, originator: End, responder: End)
-    ensures { (m : List ℕ) → Holds256 hasher.old m → Holds256 hasher.new (m ++ ends_bytes protocol originator responder) }
+    ensures { (m : List ℕ) → Holds256 hasher.old m
+        → Holds256 hasher.new (m ++ ends_bytes protocol originator responder) }
 {
     add_address(hasher, originator.address);
     add_address(hasher, responder.address);
@@ -48,7 +50,7 @@ fn add_ends(hasher: &mut Sha256, protocol: Protocol, originator: End, responder:
     hasher.update(responder.port.to_be_bytes());
 }
 
-/// A hasher that has the key.
+/// Returns a hash that begins with the key.
 #[tactic(auto, unfolding(crate::specs::Uid::uid_key))]
 fn keyed() -> Sha256
     ensures { Holds256 result uid_key }
@@ -58,7 +60,7 @@ fn keyed() -> Sha256
     hasher
 }
 
-/// The SHA-256 of both ends and when the first packet came.
+/// Returns the SHA-256 of both ends and the time of the first packet.
 fn digest(protocol: Protocol, originator: End, responder: End, microseconds: u64) -> [u8; 32]
     ensures { result ≡ sha256 (uid_bytes protocol originator responder microseconds) }
 {
@@ -68,7 +70,7 @@ fn digest(protocol: Protocol, originator: End, responder: End, microseconds: u64
     hasher.finalize()
 }
 
-/// The number that the first 16 bytes spell.
+/// Returns the number in the first 16 bytes, big-endian.
 fn front_number(digest: &[u8; 32]) -> u128
     ensures { result ≡ from_be_bytes w128 (take 16 digest.now) }
 {
@@ -78,7 +80,7 @@ fn front_number(digest: &[u8; 32]) -> u128
     }
 }
 
-/// A digit of base 62, in Zeek's order.
+/// Returns a digit of base 62, in Zeek's order.
 fn digit(n: u8) -> char
     requires { n < 62 }
     ensures is { result ≡ digit_of n }
@@ -93,14 +95,14 @@ fn digit(n: u8) -> char
     }
 }
 
-/// Adds the lowest digit of a number in base 62.
+/// Appends the lowest digit of a number in base 62.
 fn add_digit(text: &mut String, n: u64) -> Result<(), AllocError>
     ensures { OnOk result (string_bytes text.new ≡ string_bytes text.old ++ digit_of (n % 62) ∷ []) }
 {
     text.push(digit((n % 62) as u8))
 }
 
-/// Adds that many of the lowest digits of a number in base 62, the lowest first.
+/// Appends the `count` lowest digits of a number in base 62, lowest first.
 fn add_digits(text: &mut String, count: u32, n: u64) -> Result<(), AllocError>
     ensures { OnOk result (string_bytes text.new ≡ string_bytes text.old ++ base62 count n) }
 {
@@ -111,7 +113,7 @@ fn add_digits(text: &mut String, count: u32, n: u64) -> Result<(), AllocError>
     add_digits(text, count - 1, n / 62)
 }
 
-/// Adds the 17 lowest digits of a number in base 62, the lowest first.
+/// Appends the 17 lowest digits of a number in base 62, lowest first.
 fn add_number(text: &mut String, n: u128) -> Result<(), AllocError>
     ensures { OnOk result (string_bytes text.new ≡ string_bytes text.old ++ base62 17 n) }
 {
@@ -119,10 +121,11 @@ fn add_number(text: &mut String, n: u128) -> Result<(), AllocError>
     add_digits(text, UPPER_DIGITS, (n / LOWER % UPPER) as u64)
 }
 
-/// The identifier of the connection between these ends whose first packet came so many microseconds after 1970-01-01 00:00 UTC: `C` and 17 digits and letters,
-/// as `CKc5sAsfNpAhXmkqpf`.
+/// Returns the identifier of the connection between these ends whose first packet was captured
+/// `microseconds` after 1970-01-01 00:00 UTC: `C` and 17 digits and letters, such as
+/// `CKc5sAsfNpAhXmkqpf`.
 ///
-/// `AllocError` where it could not be held.
+/// `AllocError` if there is no memory for it.
 pub fn uid(
     alloc: Global,
     protocol: Protocol,
@@ -130,7 +133,8 @@ pub fn uid(
     responder: End,
     microseconds: u64,
 ) -> Result<String, AllocError>
-    ensures { IfOk result (λ text. string_bytes text ≡ uid_of protocol originator responder microseconds) }
+    ensures { IfOk result
+        (λ text. string_bytes text ≡ uid_of protocol originator responder microseconds) }
 {
     let digest = digest(protocol, originator, responder, microseconds);
     let mut text = String::with_capacity(alloc, UID_LEN)?;
@@ -139,7 +143,7 @@ pub fn uid(
     Ok(text)
 }
 
-/// The number that the next 8 bytes spell.
+/// Returns the number in the next 8 bytes, big-endian.
 fn next_number(digest: &[u8; 32]) -> u64
     ensures { result ≡ from_be_bytes w64 (take 8 (drop 16 digest.now)) }
 {
@@ -150,7 +154,8 @@ fn next_number(digest: &[u8; 32]) -> u64
     }
 }
 
-/// The number by which Suricata's events of such a connection are found: below 2^52, so that each reader of JSON has it exactly.
+/// Returns the `flow_id` for a connection's Suricata events. It is below 2^52, so that every JSON
+/// reader has it exactly.
 pub fn flow_id(protocol: Protocol, originator: End, responder: End, microseconds: u64) -> u64
     ensures { result ≡ flow_id_of protocol originator responder microseconds }
 {

@@ -1,4 +1,4 @@
-//! What stands of parts. Each function's contract is one law; its body is empty.
+//! A law of parts. The function's contract is the law; its body is empty.
 ghost use Rattle.std.specs.Prelude.{◌≡◌};
 ghost use Rattle.connection_parts.specs.Part.{falls_to};
 ghost use Rattle.connection_parts.specs.declared.part.Part.{Part};

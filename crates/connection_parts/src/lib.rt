@@ -1,7 +1,9 @@
-//! Parts of the connections of a capture, for several processes that share it: [`Part`].
+//! Divides the connections of a capture into parts, for several processes that share it: [`Part`].
 //!
-//! Which part a connection falls to follows from its five-tuple alone, by a hash without a key: it is the same for both directions, on
-//! each machine and in each run. Nothing here takes memory.
+//! A connection's part follows from its protocol and both ends, by an unkeyed hash. So it is the
+//! same for both directions, on each machine and in each run. No call allocates memory.
+//!
+//! Promise: `Part.falls_to` in `specs/` defines the part of a connection.
 #![tactic(auto)]
 
 pub mod laws;

@@ -1,28 +1,29 @@
-//! A part of the connections.
+//! Parts of the connections.
 ghost use Rattle.std.specs.Prelude.{◌≡◌};
 ghost use Rattle.connection_parts.specs.Part.{address_bytes, end_hash as end_hash_of, ends_hash as ends_hash_of, falls_to, fnv_from, part_of};
 
 use connections::{End, Protocol};
 use std::net::IpAddr;
 
-/// What the FNV-1a hash begins with.
+/// The start value of the FNV-1a hash.
 const OFFSET_BASIS: u64 = 0xcbf2_9ce4_8422_2325;
 
-/// What the FNV-1a hash is multiplied by with each byte.
+/// The factor of the FNV-1a hash.
 const PRIME: u64 = 0x100_0000_01b3;
 
-/// The odd number that is nearest to 2^64 by the golden ratio, which spreads low bits over all others.
+/// The odd number nearest to 2^64 divided by the golden ratio. Multiplying by it spreads the low
+/// bits over all others.
 const GOLDEN: u64 = 0x9e37_79b9_7f4a_7c15;
 
 /// One of several parts of the connections.
 #[derive(Clone, Copy, Debug, PartialEq, Eq)]
 pub struct Part {
-    // From 0 on, and the last of these numbers.
+    // The part's number, counted from 0, and the last part's number.
     number: u32,
     last: u32,
 }
 
-/// The hash with these bytes behind those that it is of.
+/// Extends a hash by these bytes.
 fn hash_behind(hash: u64, bytes: &[u8]) -> u64
     ensures { result ≡ fnv_from hash bytes.now }
 {
@@ -33,7 +34,7 @@ fn hash_behind(hash: u64, bytes: &[u8]) -> u64
     hash
 }
 
-/// The hash with an address behind.
+/// Extends a hash by an address.
 fn hash_address(hash: u64, address: IpAddr) -> u64
     ensures { result ≡ fnv_from hash (address_bytes address) }
 {
@@ -43,7 +44,7 @@ fn hash_address(hash: u64, address: IpAddr) -> u64
     }
 }
 
-/// The hash of an end.
+/// Returns the hash of an end.
 #[tactic(auto, using(crate::proofs::HashLemmas::fnv_behind))]
 fn end_hash(end: End) -> u64
     ensures { result ≡ end_hash_of end }
@@ -54,7 +55,7 @@ fn end_hash(end: End) -> u64
     )
 }
 
-/// The hash of a connection between two ends.
+/// Returns the hash of a connection, the same for both directions.
 fn ends_hash(protocol: Protocol, one: End, other: End) -> u64
     ensures { result ≡ ends_hash_of protocol one other }
 {
@@ -66,7 +67,8 @@ fn ends_hash(protocol: Protocol, one: End, other: End) -> u64
 }
 
 impl Part {
-    /// The part of that number, from 1 on, of so many. `None` where there is none of that number.
+    /// Returns the part with this number, counted from 1, of `count` parts. `None` if there is no
+    /// such part.
     pub fn new(number: u32, count: u32) -> Option<Part>
         ensures { result ≡ part_of number count }
     {
@@ -79,7 +81,8 @@ impl Part {
         })
     }
 
-    /// Whether the connections between these ends by that protocol are among this part's. Both directions have the same answer.
+    /// Returns whether connections of this protocol between these ends fall to this part. The order
+    /// of the ends doesn't matter.
     pub fn has(&self, protocol: Protocol, one: End, other: End) -> bool
         ensures { result ≡ falls_to protocol one other self.now }
     {

@@ -1,4 +1,4 @@
--- For how much the connections of a table are accounted after a step.
+-- The memory accounted for a table's connections after a step.
 use Rattle.std.proofs.Common.{◌≡◌, ℕ, zero, suc, ◌+◌, ◌-◌, ◌≤◌, ◌<◌, ◌^◌, Bool, true, false, cond, Option, Some, None, List, [], ◌∷◌, ◌++◌, length}
 use Rattle.std.proofs.Common.{take, drop, refl, sym, ap, ◌∙◌, subst, arith, append-nil, append_assoc}
 use Rattle.std.specs.Prelude.{IfSome}
@@ -15,61 +15,77 @@ use Rattle.connections.specs.declared.connection.Connection.{Connection}
 use Rattle.connections.proofs.TableLemmas.{front_and_last, written}
 
 module _ {T : Type 0} where
-  -- Where another stands in the place of one.
-  pub total_with : (e : FiveTuple) (xs : List (FiveTuple × Connection T)) (c w : Connection T) → at e xs ≡ Some c
+  -- One is replaced.
+  pub total_with : (e : FiveTuple) (xs : List (FiveTuple × Connection T)) (c w : Connection T)
+      → at e xs ≡ Some c
       → total (set_value (is_five_tuple e) xs w) + c.weight ≡ total xs + w.weight
   total_with e [] c w h = absurd cc
   total_with e (x ∷ xs) c w h = go (is_five_tuple e x.0) h (total_with e xs c w)
     where
       go : (b : Bool) → cond b (Some x.1) (at e xs) ≡ Some c
-          → (at e xs ≡ Some c → total (set_value (is_five_tuple e) xs w) + c.weight ≡ total xs + w.weight)
-          → total (cond b ((x.0, w) ∷ xs) (x ∷ set_value (is_five_tuple e) xs w)) + c.weight ≡ total (x ∷ xs) + w.weight
-      go true g later = let same : x.1 ≡ c = cc in let n = ap (λ y. y.weight) same in omega (arith, n)
+          → (at e xs ≡ Some c
+          → total (set_value (is_five_tuple e) xs w) + c.weight ≡ total xs + w.weight)
+          → total (cond b ((x.0, w) ∷ xs) (x ∷ set_value (is_five_tuple e) xs w)) + c.weight ≡ total
+          (x ∷ xs) + w.weight
+      go true g later = let same : x.1 ≡ c = cc in let n = ap (λ y. y.weight) same in
+          omega (arith, n)
       go false g later = let n = later g in omega (arith, n)
 
-  -- Where one is taken out.
-  pub total_others : (e : FiveTuple) (xs : List (FiveTuple × Connection T)) (c : Connection T) → at e xs ≡ Some c
+  -- One is removed.
+  pub total_others : (e : FiveTuple) (xs : List (FiveTuple × Connection T)) (c : Connection T)
+      → at e xs ≡ Some c
       → total (others e xs) + c.weight ≡ total xs
   total_others e [] c h = absurd cc
   total_others e (x ∷ xs) c h = go (is_five_tuple e x.0) h (total_others e xs c)
     where
-      go : (b : Bool) → cond b (Some x.1) (at e xs) ≡ Some c → (at e xs ≡ Some c → total (others e xs) + c.weight ≡ total xs)
+      go : (b : Bool) → cond b (Some x.1) (at e xs) ≡ Some c
+          → (at e xs ≡ Some c → total (others e xs) + c.weight ≡ total xs)
           → total (cond b xs (x ∷ others e xs)) + c.weight ≡ total (x ∷ xs)
-      go true g later = let same : x.1 ≡ c = cc in let n = ap (λ y. y.weight) same in omega (arith, n)
+      go true g later = let same : x.1 ≡ c = cc in let n = ap (λ y. y.weight) same in
+          omega (arith, n)
       go false g later = let n = later g in omega (arith, n)
 
-  -- Where none is found to take out.
-  pub total_missed : (e : FiveTuple) (xs : List (FiveTuple × Connection T)) → at e xs ≡ None → total (others e xs) ≡ total xs
+  -- None is found to remove.
+  pub total_missed : (e : FiveTuple) (xs : List (FiveTuple × Connection T)) → at e xs ≡ None
+      → total (others e xs) ≡ total xs
   total_missed e [] h = refl
   total_missed e (x ∷ xs) h = go (is_five_tuple e x.0) h (total_missed e xs)
     where
-      go : (b : Bool) → cond b (Some x.1) (at e xs) ≡ None → (at e xs ≡ None → total (others e xs) ≡ total xs)
+      go : (b : Bool) → cond b (Some x.1) (at e xs) ≡ None
+          → (at e xs ≡ None → total (others e xs) ≡ total xs)
           → total (cond b xs (x ∷ others e xs)) ≡ total (x ∷ xs)
       go true g later = absurd cc
       go false g later = let n = later g in omega (arith, n)
 
-  -- Where another stands first, in the place of one that was found.
-  pub total_written : (e : FiveTuple) (xs : List (FiveTuple × Connection T)) (c w : Connection T) → at e xs ≡ Some c
-      → total (set_value (is_five_tuple e) (promoted (is_five_tuple e) xs) w) + c.weight ≡ total xs + w.weight
+  -- One is replaced and comes first.
+  pub total_written : (e : FiveTuple) (xs : List (FiveTuple × Connection T)) (c w : Connection T)
+      → at e xs ≡ Some c
+      → total (set_value (is_five_tuple e) (promoted (is_five_tuple e) xs) w) + c.weight ≡ total
+      xs + w.weight
   total_written e xs c w h =
       let n = ap total (written e xs c w h) in let m = total_others e xs c h in omega (arith, n, m)
 
-  -- Where one is let stand first.
-  total_found : (e : FiveTuple) (xs : List (FiveTuple × Connection T)) (f : FiveTuple × Connection T) → lookup_entry (is_five_tuple e) xs ≡ Some f
+  -- One comes first.
+  total_found : (e : FiveTuple) (xs : List (FiveTuple × Connection T))
+      (f : FiveTuple × Connection T) → lookup_entry (is_five_tuple e) xs ≡ Some f
       → f.1.weight + total (others e xs) ≡ total xs
   total_found e [] f h = absurd cc
   total_found e (x ∷ xs) f h = go (is_five_tuple e x.0) h (total_found e xs f)
     where
       go : (b : Bool) → cond b (Some x) (lookup_entry (is_five_tuple e) xs) ≡ Some f
-          → (lookup_entry (is_five_tuple e) xs ≡ Some f → f.1.weight + total (others e xs) ≡ total xs)
+          → (lookup_entry (is_five_tuple e) xs ≡ Some f
+          → f.1.weight + total (others e xs) ≡ total xs)
           → f.1.weight + total (cond b xs (x ∷ others e xs)) ≡ total (x ∷ xs)
-      go true g later = let same : x ≡ f = cc in let n = ap (λ y. y.1.weight) same in omega (arith, n)
+      go true g later = let same : x ≡ f = cc in let n = ap (λ y. y.1.weight) same in
+          omega (arith, n)
       go false g later = let n = later g in omega (arith, n)
 
-  total_promoted : (e : FiveTuple) (xs : List (FiveTuple × Connection T)) → total (promoted (is_five_tuple e) xs) ≡ total xs
+  total_promoted : (e : FiveTuple) (xs : List (FiveTuple × Connection T))
+      → total (promoted (is_five_tuple e) xs) ≡ total xs
   total_promoted e xs = go (lookup_entry (is_five_tuple e) xs) refl
     where
-      go : (o : Option (FiveTuple × Connection T)) → lookup_entry (is_five_tuple e) xs ≡ o → total (option_map_or (λ f. f ∷ others e xs) o xs) ≡ total xs
+      go : (o : Option (FiveTuple × Connection T)) → lookup_entry (is_five_tuple e) xs ≡ o
+          → total (option_map_or (λ f. f ∷ others e xs) o xs) ≡ total xs
       go None h = refl
       go (Some f) h = total_found e xs f h
 
@@ -77,93 +93,124 @@ module _ {T : Type 0} where
   total_append [] ys = omega arith
   total_append (x ∷ xs) ys = let n = total_append xs ys in omega (arith, n)
 
-  -- Where the last is taken out.
-  pub total_front : (xs : List (FiveTuple × Connection T)) (e : FiveTuple) (c : Connection T) → Some (e, c) ≡ last_entry xs
+  -- The last is removed.
+  pub total_front : (xs : List (FiveTuple × Connection T)) (e : FiveTuple) (c : Connection T)
+      → Some (e, c) ≡ last_entry xs
       → total (take (length xs - 1) xs) + c.weight ≡ total xs
   total_front xs e c h =
-      let n = ap total (front_and_last xs (e, c) (sym h)) ∙ total_append (take (length xs - 1) xs) ((e, c) ∷ []) in
+      let n = ap total (front_and_last xs (e, c) (sym h))
+      ∙ total_append (take (length xs - 1) xs) ((e, c) ∷ []) in
       omega (arith, n)
 
-  -- What a table is accounted for after a step.
+  -- What is accounted for a table after a step.
 
-  -- Another that is accounted for as much stands in the place of one.
-  pub accounted_with : (e : FiveTuple) (t : Table T) (c w : Connection T) → Some c ≡ at e t.live → w.weight ≡ c.weight
+  -- One is replaced by another with the same accounted memory.
+  pub accounted_with : (e : FiveTuple) (t : Table T) (c w : Connection T) → Some c ≡ at e t.live
+      → w.weight ≡ c.weight
       → IsAccounted t → IsAccounted (with_other e w t)
-  accounted_with e t c w h same was = let n = total_with e t.live c w (sym h) in omega (arith, n, same, was)
+  accounted_with e t c w h same was = let n = total_with e t.live c w (sym h) in
+      omega (arith, n, same, was)
 
-  -- The same, first.
-  pub accounted_written : (e : FiveTuple) (t : Table T) (c w : Connection T) → Some c ≡ at e t.live → w.weight ≡ c.weight
-      → IsAccounted t → IsAccounted (record t { live = set_value (is_five_tuple e) (promoted (is_five_tuple e) t.live) w })
-  accounted_written e t c w h same was = let n = total_written e t.live c w (sym h) in omega (arith, n, same, was)
+  -- One is replaced by another with the same accounted memory, which comes first.
+  pub accounted_written : (e : FiveTuple) (t : Table T) (c w : Connection T) → Some c ≡ at e t.live
+      → w.weight ≡ c.weight
+      → IsAccounted t
+      → IsAccounted
+      (record t { live = set_value (is_five_tuple e) (promoted (is_five_tuple e) t.live) w })
+  accounted_written e t c w h same was = let n = total_written e t.live c w (sym h) in
+      omega (arith, n, same, was)
 
-  -- One is let stand first.
-  pub accounted_promoted : (e : FiveTuple) (t : Table T) → IsAccounted t → IsAccounted (promoting e t)
+  -- One comes first.
+  pub accounted_promoted : (e : FiveTuple) (t : Table T) → IsAccounted t
+      → IsAccounted (promoting e t)
   accounted_promoted e t was = was ∙ sym (total_promoted e t.live)
 
-  -- One that is accounted for nothing stands first, where none was.
-  pub accounted_first : (e : FiveTuple) (t : Table T) (its : Connection T) (closed : List (FiveTuple × ℕ)) → None ≡ at e t.live → its.weight ≡ 0
-      → IsAccounted t → IsAccounted (record { live = (e, its) ∷ others e t.live; closed = closed; held = t.held })
-  accounted_first e t its closed h none was = let n = total_missed e t.live (sym h) in omega (arith, n, none, was)
+  -- A new one without accounted memory comes first.
+  pub accounted_first : (e : FiveTuple) (t : Table T) (its : Connection T)
+      (closed : List (FiveTuple × ℕ)) → None ≡ at e t.live → its.weight ≡ 0
+      → IsAccounted t
+      → IsAccounted (record { live = (e, its) ∷ others e t.live; closed = closed; held = t.held })
+  accounted_first e t its closed h none was = let n = total_missed e t.live (sym h) in
+      omega (arith, n, none, was)
 
-  -- One that is accounted for nothing stands in the place of one that is taken out.
-  pub accounted_replaced : (e : FiveTuple) (t : Table T) (c w : Connection T) (n : ℕ) → Some c ≡ at e t.live → w.weight ≡ 0 → n ≡ t.held - c.weight
+  -- One without accounted memory replaces one that is removed.
+  pub accounted_replaced : (e : FiveTuple) (t : Table T) (c w : Connection T) (n : ℕ)
+      → Some c ≡ at e t.live → w.weight ≡ 0 → n ≡ t.held - c.weight
       → IsAccounted t → IsAccounted (record (with_other e w t) { held = n })
-  accounted_replaced e t c w n h none less was = let m = total_with e t.live c w (sym h) in omega (arith, m, none, less, was)
+  accounted_replaced e t c w n h none less was = let m = total_with e t.live c w (sym h) in
+      omega (arith, m, none, less, was)
 
-  pub accounted_replaced_first : (e : FiveTuple) (t : Table T) (c w : Connection T) (n : ℕ) → Some c ≡ at e t.live → w.weight ≡ 0
+  pub accounted_replaced_first : (e : FiveTuple) (t : Table T) (c w : Connection T) (n : ℕ)
+      → Some c ≡ at e t.live → w.weight ≡ 0
       → n ≡ t.held - c.weight → IsAccounted t
-      → IsAccounted (record t { live = set_value (is_five_tuple e) (promoted (is_five_tuple e) t.live) w; held = n })
+      → IsAccounted
+      (record t {
+        live = set_value (is_five_tuple e) (promoted (is_five_tuple e) t.live) w;
+        held = n;
+      })
   accounted_replaced_first e t c w n h none less was =
       let m = total_written e t.live c w (sym h) in omega (arith, m, none, less, was)
 
-  -- One is taken out.
-  pub accounted_others : (e : FiveTuple) (t : Table T) (c : Connection T) (closed : List (FiveTuple × ℕ)) (n : ℕ) → Some c ≡ at e t.live
-      → n ≡ t.held - c.weight → IsAccounted t → IsAccounted (record { live = others e t.live; closed = closed; held = n })
-  accounted_others e t c closed n h less was = let m = total_others e t.live c (sym h) in omega (arith, m, less, was)
+  -- One is removed.
+  pub accounted_others : (e : FiveTuple) (t : Table T) (c : Connection T)
+      (closed : List (FiveTuple × ℕ)) (n : ℕ) → Some c ≡ at e t.live
+      → n ≡ t.held - c.weight → IsAccounted t
+      → IsAccounted (record { live = others e t.live; closed = closed; held = n })
+  accounted_others e t c closed n h less was = let m = total_others e t.live c (sym h) in
+      omega (arith, m, less, was)
 
-  -- None is found to take out.
-  pub accounted_missed : (e : FiveTuple) (t : Table T) → None ≡ at e t.live → IsAccounted t → IsAccounted (record t { live = others e t.live })
+  -- None is found to remove.
+  pub accounted_missed : (e : FiveTuple) (t : Table T) → None ≡ at e t.live → IsAccounted t
+      → IsAccounted (record t { live = others e t.live })
   accounted_missed e t h was = let m = total_missed e t.live (sym h) in omega (arith, m, was)
 
-  -- The last one is.
-  pub accounted_front : (t : Table T) (e : FiveTuple) (c : Connection T) (closed : List (FiveTuple × ℕ)) (n : ℕ) → Some (e, c) ≡ last_entry t.live
+  -- The last is removed.
+  pub accounted_front : (t : Table T) (e : FiveTuple) (c : Connection T)
+      (closed : List (FiveTuple × ℕ)) (n : ℕ) → Some (e, c) ≡ last_entry t.live
       → n ≡ t.held - c.weight → IsAccounted t
       → IsAccounted (record { live = take (length t.live - 1) t.live; closed = closed; held = n })
-  accounted_front t e c closed n h less was = let m = total_front t.live e c h in omega (arith, m, less, was)
+  accounted_front t e c closed n h less was = let m = total_front t.live e c h in
+      omega (arith, m, less, was)
 
-  -- One is accounted for anew.
-  pub accounted_settled : (e : FiveTuple) (t : Table T) (c w : Connection T) (n : ℕ) → Some c ≡ at e t.live → n ≡ (t.held - c.weight) + w.weight
+  -- One's accounted memory is updated.
+  pub accounted_settled : (e : FiveTuple) (t : Table T) (c w : Connection T) (n : ℕ)
+      → Some c ≡ at e t.live → n ≡ (t.held - c.weight) + w.weight
       → IsAccounted t → IsAccounted (record (with_other e w t) { held = n })
   accounted_settled e t c w n h more was =
-      let m = total_with e t.live c w (sym h) in let k = total_others e t.live c (sym h) in omega (arith, m, k, more, was)
+      let m = total_with e t.live c w (sym h) in let k = total_others e t.live c (sym h) in
+      omega (arith, m, k, more, was)
 
 split : {A : Type 0} → (n : ℕ) (xs : List A) → xs ≡ take n xs ++ drop n xs
 split zero xs = refl
 split (suc n) [] = refl
 split (suc n) (x ∷ xs) = ap (λ l. x ∷ l) (split n xs)
 
--- A front of a front is one.
+-- A front of a front is a front.
 pub all_is_front : (xs : List (FiveTuple × ℕ)) → IsFront xs xs
 all_is_front xs = record { rest = []; stood = sym (append-nil xs) }
 
 pub front_shorter : (n : ℕ) (xs ys : List (FiveTuple × ℕ)) → IsFront xs ys → IsFront xs (take n ys)
 front_shorter n xs ys f = record {
   rest = drop n ys ++ f.rest;
-  stood = f.stood ∙ ap (λ l. l ++ f.rest) (split n ys) ∙ append_assoc (take n ys) (drop n ys) f.rest;
+  stood = f.stood ∙ ap (λ l. l ++ f.rest) (split n ys)
+      ∙ append_assoc (take n ys) (drop n ys) f.rest;
 }
 
 module _ {T : Type 0} where
-  pub settled_at : (e : FiveTuple) (t : Table T) (c w : Connection T) (n : ℕ) → Some c ≡ at e t.live → w ≡ record c { weight = w.weight }
+  pub settled_at : (e : FiveTuple) (t : Table T) (c w : Connection T) (n : ℕ) → Some c ≡ at e t.live
+      → w ≡ record c { weight = w.weight }
       → (t.held - c.weight + held_by w < 2 ^ 63 → held_by w ≤ w.weight)
       → IsSettled e (at e t.live) t (record (with_other e w t) { held = n })
   settled_at e t c w n h same enough =
       subst (λ o. IsSettled e o t (record (with_other e w t) { held = n })) h
       (w, record { same = same; enough = enough; stands = refl; closed = refl })
 
-  pub none_settled : (e : FiveTuple) (old new : Table T) → None ≡ at e old.live → new ≡ old → IsSettled e (at e old.live) old new
+  pub none_settled : (e : FiveTuple) (old new : Table T) → None ≡ at e old.live → new ≡ old
+      → IsSettled e (at e old.live) old new
   none_settled e old new h same = subst (λ o. IsSettled e o old new) h same
 
-  pub taken_out : (o : Option (Connection T)) (old new : Table T) → IfSome o (WasLast old.live new.live)
+  pub taken_out : (o : Option (Connection T)) (old new : Table T)
+      → IfSome o (WasLast old.live new.live)
       → IfSome o (λ c. new.held ≡ old.held - c.weight) → IfSome o (IsTakenOut old new)
   taken_out None old new l h = _
   taken_out (Some c) old new l h = record { last = l; held = h }

@@ -1,4 +1,4 @@
--- The next number of a stream is that of the place from which on it holds bytes.
+-- A stream's next number is that of the first byte that it stores.
 use Rattle.std.proofs.Common.{if◌then◌else◌, ◌≡◌, ℕ, ◌+◌, ◌%◌, ◌<◌, ◌≤◌, ◌^◌, true, false, Bool, Some, None, Option, [], ◌∷◌, refl, sym, ap, ◌∙◌, arith, subst, length, min, take, drop, ltb}
 use Rattle.std.proofs.lemmas.Bool.{ltb-true, ltb-false}
 use Rattle.std.proofs.lemmas.List.{drop_all}
@@ -23,18 +23,21 @@ begun_number first next Unbegun small h = (omega (arith, small), refl)
 begun_number first next (Open held) small h = h
 begun_number first next Over small h = h
 
--- Behind its beginning.
+-- After it begins.
 pub begun_at_number : (n : ℕ) (t : Stream) → n < 2 ^ 32 → IsNumberOf t.next t.reading
     → IsNumberOf (begun_at (Some n) t).next (begun_at (Some n) t).reading
 begun_at_number n t small h = begun_number n t.next t.reading small h
 
-put_number : (seq next : ℕ) (b : Bytes) (r : Reading) → IsNumberOf next r → IsNumberOf next (put seq b r)
+put_number : (seq next : ℕ) (b : Bytes) (r : Reading) → IsNumberOf next r
+    → IsNumberOf next (put seq b r)
 put_number seq next b Unbegun h = h
 put_number seq next b (Open held) h = h
 put_number seq next b Over h = h
 
-noted_by : (s : Segment) (t : Stream) (b : Bool) → is_begun t.reading ≡ b → IsNumberOf t.next t.reading
-    → IsNumberOf (if b then with_urgent s (with_numbers s t) else t).next (if b then with_urgent s (with_numbers s t) else t).reading
+noted_by : (s : Segment) (t : Stream) (b : Bool) → is_begun t.reading ≡ b
+    → IsNumberOf t.next t.reading
+    → IsNumberOf (if b then with_urgent s (with_numbers s t) else t).next
+    (if b then with_urgent s (with_numbers s t) else t).reading
 noted_by s t true e h = h
 noted_by s t false e h = h
 
@@ -45,7 +48,8 @@ noted_number s t h = noted_by s t (is_begun t.reading) refl h
 bytes_number : (s : Segment) (old new : Stream) → HasPut s old new → IsNumberOf old.next old.reading
     → IsNumberOf new.next new.reading
 bytes_number s old new (left_out few same) h = rw same h
-bytes_number s old new (taken fits same) h = rw same (put_number (first_of s) old.next s.payload.now old.reading h)
+bytes_number s old new (taken fits same) h =
+    rw same (put_number (first_of s) old.next s.payload.now old.reading h)
 
 by_break : (s : Segment) (old new : Stream) (b : Bool) → breaks s ≡ b → HasTaken s old new
     → IsNumberOf old.next old.reading → IsNumberOf new.next new.reading
@@ -56,24 +60,28 @@ pub accepted : (s : Segment) (old new : Stream) → HasTaken s old new
     → IsNumberOf old.next old.reading → IsNumberOf new.next new.reading
 accepted s old new t h = by_break s old new (breaks s) refl t h
 
-handed : (n next : ℕ) (r : Reading) → IsNumberOf next r → IsNumberOf (next_behind n r next) (behind_front n r)
+handed : (n next : ℕ) (r : Reading) → IsNumberOf next r
+    → IsNumberOf (next_behind n r next) (behind_front n r)
 handed n next Unbegun h = h
 handed n next (Open held) h = let k = length (take n (run held.cells)) in
     (rw h.0 (remainder_of_sum held.first held.taken k (2 ^ 32)), h.1)
 handed n next Over h = h
 
--- Bytes that were handed on are let go.
+-- Read bytes are freed.
 pub forgotten_number : (a : Option ℕ) (t : Stream) → IsNumberOf t.next t.reading
     → IsNumberOf (forgetting a t).next (forgetting a t).reading
 forgotten_number a t h = handed (forgotten a t) t.next t.reading h
 
-passed_by : (t u : Stream) (b : Bool) → u.next ≡ t.next → u.reading ≡ t.reading → IsNumberOf t.next t.reading
+passed_by : (t u : Stream) (b : Bool) → u.next ≡ t.next → u.reading ≡ t.reading
+    → IsNumberOf t.next t.reading
     → IsNumberOf (if b then u else t).next (if b then u else t).reading
 passed_by t u true n r h = rw (n, r) h
 passed_by t u false n r h = h
 
-pub urgent_number : (t : Stream) → IsNumberOf t.next t.reading → IsNumberOf (passing_urgent t).next (passing_urgent t).reading
-urgent_number t h = passed_by t (record t { heard = plus t.heard 1; urgent = None }) (has_urgent_next t) refl refl h
+pub urgent_number : (t : Stream) → IsNumberOf t.next t.reading
+    → IsNumberOf (passing_urgent t).next (passing_urgent t).reading
+urgent_number t h = passed_by t (record t { heard = plus t.heard 1; urgent = None })
+    (has_urgent_next t) refl refl h
 
 by_reading : (t : Stream) (r : Reading) → t.reading ≡ r → IsNumberOf t.next r
     → IsNumberOf (stopped t r).next (stopped t r).reading
@@ -85,12 +93,13 @@ pub stopped_number : (t : Stream) → IsNumberOf t.next t.reading
     → IsNumberOf (stopped t t.reading).next (stopped t t.reading).reading
 stopped_number t h = by_reading t t.reading refl h
 
--- Behind the end of one of two byte strings none differ.
+-- Past the end of the shorter list nothing differs.
 none_unlike : (xs : Bytes) → unlike xs [] ≡ 0
 none_unlike [] = refl
 none_unlike (x ∷ xs) = refl
 
-pub unlike_rest : (xs ys : Bytes) (i : ℕ) → min (length xs) (length ys) ≤ i → unlike (drop i xs) (drop i ys) ≡ 0
+pub unlike_rest : (xs ys : Bytes) (i : ℕ) → min (length xs) (length ys) ≤ i
+    → unlike (drop i xs) (drop i ys) ≡ 0
 unlike_rest xs ys i h = go (ltb i (length xs)) refl
   where
     go : (t : Bool) → ltb i (length xs) ≡ t → unlike (drop i xs) (drop i ys) ≡ 0

@@ -1,4 +1,4 @@
--- A table by ends whose hashes are kept beside them.
+-- A table by five-tuples with their hashes.
 use Rattle.std.specs.Prelude.{◌≡◌, List, map}
 use Rattle.std.specs.List.{AllByRecursion}
 use Rattle.connections.specs.HashKeys.{hash_of}
@@ -6,7 +6,7 @@ use Rattle.connections.specs.declared.five_tuple.FiveTuple.{FiveTuple}
 use Rattle.connections.specs.declared.hash_keys.HashKeys.{HashKeys}
 use Rattle.connections.specs.declared.by_five_tuple.HashedEnds.{HashedEnds}
 
--- These ends with their hash.
+-- A five-tuple with its hash.
 abbrev pub hashed_ends : HashKeys → FiveTuple → HashedEnds
 hashed_ends keys e = record { hash = hash_of keys e; five_tuple = e }
 
@@ -17,7 +17,7 @@ module _ {V : Type 0} where
   abbrev pub AreHashed : HashKeys → List (HashedEnds × V) → Type 0
   AreHashed keys = AllByRecursion (λ e. IsHashed keys e.0)
 
-  -- Without the hashes.
+  -- An entry without the hash.
   abbrev pub unhashed_entry : HashedEnds × V → FiveTuple × V
   unhashed_entry e = (e.0.five_tuple, e.1)
 

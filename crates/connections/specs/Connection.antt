@@ -1,4 +1,4 @@
--- What is held of a connection.
+-- The state of a connection.
 use Rattle.std.specs.Prelude.{◌≡◌, ◌⊎◌, ℕ, ◌+◌, ◌==◌, Bool, true, false, ◌&&◌, ◌||◌, not, is_some, Option, Some, None, if◌then◌else◌, [], length, ⊤}
 use Rattle.connections.specs.FiveTuple.{is_end}
 use Rattle.connections.specs.Segment.{acknowledges, answers, begins, begins_stream, bytes_alone, first_of, has_data, IsWithoutData}
@@ -25,15 +25,16 @@ use Rattle.connections.specs.declared.connection.Connection.{Connection}
 use Rattle.connections.specs.declared.connection.Side.{Side}
 use Rattle.connections.specs.declared.connection.Side.TheVariants.{Originator, Responder}
 
--- Who answers is the responder; who sends anything else first is the originator.
+-- The sender of a SYN-ACK is the responder; the sender of any other first segment is the
+-- originator.
 abbrev pub originator_of : Segment → End
 originator_of s = if answers s then s.destination else s.source
 
 abbrev pub responder_of : Segment → End
 responder_of s = if answers s then s.source else s.destination
 
--- Where the stream of a segment's sender begins, if nothing of it came before: behind the SYN; with what its receiver y waits for, where that
--- is behind the segment's first; or with that.
+-- Where the stream of a segment's sender begins if nothing of it came before: behind the SYN, or
+-- else at the later of the receiver y's acknowledgement and the segment's first number.
 abbrev pub start_without_syn : Option ℕ → Segment → Option ℕ
 start_without_syn None s = if begins_stream s then Some (first_of s) else None
 start_without_syn (Some n) s = Some (later (Some n) (first_of s))
@@ -41,61 +42,66 @@ start_without_syn (Some n) s = Some (later (Some n) (first_of s))
 abbrev pub start_of : Host → Segment → Option ℕ
 start_of y s = if begins s then Some (first_of s) else start_without_syn y.acknowledged s
 
--- The stream as a segment is put into it: it began, and what its receiver y acknowledged is kept no further.
+-- The stream when a segment is added: it has begun, and bytes that its receiver y acknowledged
+-- aren't kept any longer.
 abbrev pub begun_for : Host → Segment → Stream → Stream
 begun_for y s t = forgetting y.acknowledged (begun_at (start_of y s) t)
 
--- What is known of a sender x behind a segment that is put into its stream: of one that its receiver y had, no more than its checksum.
+-- The state of the sender x after a segment is added to its stream. Of a segment that its receiver
+-- y already had, only the checksum counts.
 abbrev pub host_by : Judgement → Host → Host → Segment → Host
 host_by judgement.Again x y s = with_checksum s.checksum x
 host_by judgement.Taken x y s = with_taken (with_checksum s.checksum x) y s
 host_by (judgement.Waiting r) x y s = with_taken (with_checksum s.checksum x) y s
 host_by (judgement.Dropped r) x y s = with_taken (with_checksum s.checksum x) y s
 
--- What of a segment is put into its sender's stream: of one that its receiver has, its bytes alone. Of a SYN no bytes are, which wait until its receiver
--- acknowledges them (RFC 7413, section 3).
+-- The part of a segment that is added to its sender's stream: of a retransmission only the bytes. A
+-- SYN's bytes are pending until its receiver acknowledges them (RFC 7413, section 3).
 abbrev pub part_by : Judgement → Segment → Segment
 part_by judgement.Again s = bytes_alone s
 part_by judgement.Taken s = s
 part_by (judgement.Waiting r) s = s
 part_by (judgement.Dropped r) s = s
 
--- One without data that its receiver has adds nothing: neither an old acknowledgement, nor one of what was never sent.
+-- A segment without data that its receiver already has adds nothing, neither an old acknowledgement
+-- nor one of bytes that were never sent.
 abbrev pub adds_nothing : Judgement → Segment → Bool
 adds_nothing judgement.Again s = not (has_data s)
 adds_nothing judgement.Taken s = false
 adds_nothing (judgement.Waiting r) s = false
 adds_nothing (judgement.Dropped r) s = false
 
--- Its receiver takes it, or has it.
+-- Its receiver takes it or already has it.
 abbrev pub IsKept : Judgement → Type 0
 IsKept judgement.Taken = ⊤
 IsKept judgement.Again = ⊤
 IsKept (judgement.Waiting r) = ⊥
 IsKept (judgement.Dropped r) = ⊥
 
--- A segment goes on behind a SYN of its sender's, or it shows that its sender takes the answer to its SYN.
+-- A segment continues behind its sender's SYN, or shows that its sender accepts the SYN-ACK.
 abbrev pub goes_on : Segment → Bool
 goes_on s = acknowledges s && not (begins s)
 
 abbrev pub goes_on_behind : Segment → Segment → Bool
-goes_on_behind s asking = is_end s.source asking.source && (goes_on s && s.sequence == first_of asking)
+goes_on_behind s asking =
+    is_end s.source asking.source && (goes_on s && s.sequence == first_of asking)
 
 abbrev pub confirms : Segment → Segment → Bool
 confirms s answering =
     is_end s.source answering.destination
-    && (goes_on s && (s.sequence == answering.acknowledgment && s.acknowledgment == first_of answering))
+    && (goes_on s
+    && (s.sequence == answering.acknowledgment && s.acknowledgment == first_of answering))
 
 abbrev pub last_of : Segment → Option Segment → Segment
 last_of first None = first
 last_of first (Some answer) = answer
 
--- It shows that a connection began so.
+-- It shows that a connection began with these segments.
 abbrev pub Shows : Segment → Beginning → Type 0
 Shows s b = (confirms s (last_of b.first b.answer) ≡ true) ⊎ (goes_on_behind s b.first ≡ true)
 
 module _ {T : Type 0} where
-  -- One of which nothing came.
+  -- A new connection.
   abbrev pub silent : Protocol → End → End → ℕ → Waiting → T → Connection T
   silent p originator responder time waiting listener = record {
     protocol = p;
@@ -119,9 +125,10 @@ module _ {T : Type 0} where
   abbrev pub NoneWaits : Connection T → Type 0
   NoneWaits c = c.waiting.kept.items ≡ []
 
-  -- The same at the first packet's ends and time, with any value of the caller.
+  -- A new connection, at the first packet's ends and time, with any caller's value.
   abbrev pub IsBegunBy : Segment → Connection T → Type 0
-  IsBegunBy s c = (c ≡ silent Tcp (originator_of s) (responder_of s) s.time c.waiting c.listener) × NoneWaits c
+  IsBegunBy s c = (c ≡ silent Tcp (originator_of s) (responder_of s) s.time c.waiting c.listener)
+      × NoneWaits c
 
   abbrev pub side_of : Connection T → End → Side
   side_of c sender = if is_end sender c.originator then Originator else Responder
@@ -138,7 +145,7 @@ module _ {T : Type 0} where
   abbrev pub has_opening : Connection T → Bool
   has_opening c = is_some c.originator_host.first || is_some c.responder_host.first
 
-  -- What is known of a segment's sender, and of its receiver.
+  -- The states of a segment's sender and of its receiver.
   abbrev pub hosts_from : Side → Connection T → Host × Host
   hosts_from Originator c = (c.originator_host, c.responder_host)
   hosts_from Responder c = (c.responder_host, c.originator_host)
@@ -156,7 +163,7 @@ module _ {T : Type 0} where
   abbrev pub judgement_of : Segment → Connection T → Judgement
   judgement_of s c = judgement_from (side_of c s.source) s c
 
-  -- Of a packet that is dropped, or waits, only counts change, and what waits.
+  -- A dropped or pending packet changes only the counts and the pending segments.
   abbrev pub ChangesCountsAlone : Connection T → Connection T → Type 0
   ChangesCountsAlone old new = new ≡ record old {
     waiting = new.waiting;
@@ -165,24 +172,27 @@ module _ {T : Type 0} where
   }
 
   abbrev pub dropped_from : Side → Reason → Connection T → Connection T
-  dropped_from Originator r c = record c { originator_dropped = with_dropped r c.originator_dropped }
+  dropped_from Originator r c =
+      record c { originator_dropped = with_dropped r c.originator_dropped }
   dropped_from Responder r c = record c { responder_dropped = with_dropped r c.responder_dropped }
 
-  -- What is known of a segment's sender behind it, and how many of its packets before were damaged.
+  -- The sender's state after a segment, and how many earlier packets it shows to be damaged.
   abbrev pub noting_from : Side → Judgement → Segment → Connection T → Connection T
   noting_from Originator j s c = record c {
     originator_host = host_by j c.originator_host c.responder_host s;
-    originator_dropped = with_damaged (damaged_before s.checksum c.originator_host) c.originator_dropped;
+    originator_dropped =
+        with_damaged (damaged_before s.checksum c.originator_host) c.originator_dropped;
   }
   noting_from Responder j s c = record c {
     responder_host = host_by j c.responder_host c.originator_host s;
-    responder_dropped = with_damaged (damaged_before s.checksum c.responder_host) c.responder_dropped;
+    responder_dropped =
+        with_damaged (damaged_before s.checksum c.responder_host) c.responder_dropped;
   }
 
   abbrev pub noting : Judgement → Segment → Connection T → Connection T
   noting j s c = noting_from (side_of c s.source) j s c
 
-  -- Its bytes are put into its sender's stream, and nothing else changes.
+  -- Its bytes are added to its sender's stream. Nothing else changes.
   abbrev pub PutsFrom : Side → Segment → Connection T → Connection T → Type 0
   PutsFrom Originator s old new =
       HasTaken s (begun_for old.responder_host s old.from_originator) new.from_originator
@@ -194,7 +204,7 @@ module _ {T : Type 0} where
   abbrev pub Puts : Segment → Connection T → Connection T → Type 0
   Puts s old new = PutsFrom (side_of old s.source) s old new
 
-  -- Where they are left out, its numbers are noted.
+  -- If its bytes are left out, its numbers are noted.
   abbrev pub left_out_from : Side → Segment → Connection T → Connection T
   left_out_from Originator s c =
       record c { from_originator = noted s (begun_for c.responder_host s c.from_originator) }
@@ -218,7 +228,7 @@ module _ {T : Type 0} where
   abbrev pub counted : Segment → Connection T → Connection T
   counted s c = counted_from (side_of c s.source) s c
 
-  -- The stream of a SYN's sender begins behind it; its data waits.
+  -- The stream of a SYN's sender begins behind it. Its data is pending.
   pub record PutsSyn (s : Segment) (old new : Connection T) : Type 0 where
     pub waits : Waiting
     pub bare : Segment
@@ -227,10 +237,11 @@ module _ {T : Type 0} where
 
   pub data LeavesOutSyn (s : Segment) (old : Connection T) : Connection T → Type 0 where
     no_data : (waits : Waiting) → LeavesOutSyn s old (record old { waiting = waits })
-    nothing : (waits : Waiting) (bare : Segment) → IsWithoutData s bare → LeavesOutSyn s old (without_bytes bare (record old { waiting = waits }))
+    nothing : (waits : Waiting) (bare : Segment) → IsWithoutData s bare
+        → LeavesOutSyn s old (without_bytes bare (record old { waiting = waits }))
 
-  -- A segment is counted, what it says of its sender is noted, and its bytes are put into its sender's stream; those of a SYN wait. The other
-  -- side, the ends and the caller's value stay.
+  -- A segment is counted, its sender's state updated, and its bytes added to its sender's stream;
+  -- those of a SYN are pending. The other side, the ends and the caller's value stay.
   abbrev pub PutsData : Bool → Segment → Connection T → Connection T → Type 0
   PutsData true part old new = new ≡ old
   PutsData false part old new = Puts part old new
@@ -240,17 +251,19 @@ module _ {T : Type 0} where
   PutsPart false j s old new = PutsData (adds_nothing j s) (part_by j s) old new
 
   abbrev pub Accepts : Segment → Connection T → Connection T → Type 0
-  Accepts s old new = PutsPart (begins s) (judgement_of s old) s (noting (judgement_of s old) s (counted s old)) new
+  Accepts s old new =
+      PutsPart (begins s) (judgement_of s old) s (noting (judgement_of s old) s (counted s old)) new
 
-  -- Where memory is refused, its bytes are left out, and its numbers noted.
+  -- Without memory its bytes are left out, and its numbers noted.
   abbrev pub LeavesOutPart : Bool → Judgement → Segment → Connection T → Connection T → Type 0
   LeavesOutPart true j s old new = LeavesOutSyn s old new
   LeavesOutPart false j s old new = new ≡ without_bytes (part_by j s) old
 
   abbrev pub LeavesOut : Segment → Connection T → Connection T → Type 0
-  LeavesOut s old new = LeavesOutPart (begins s) (judgement_of s old) s (noting (judgement_of s old) s (counted s old)) new
+  LeavesOut s old new = LeavesOutPart (begins s) (judgement_of s old) s
+      (noting (judgement_of s old) s (counted s old)) new
 
-  -- One that began with these segments.
+  -- A connection that began with these segments.
   abbrev pub AcceptsAnswer : Option Segment → Connection T → Connection T → Type 0
   AcceptsAnswer None c its = its ≡ c
   AcceptsAnswer (Some answer) c its = Accepts answer c its
@@ -267,44 +280,51 @@ module _ {T : Type 0} where
   counts_from Originator d c = record c {
     last_time = d.time;
     originator_host = with_checksum d.checksum c.originator_host;
-    originator_dropped = with_damaged (damaged_before d.checksum c.originator_host) c.originator_dropped;
+    originator_dropped =
+        with_damaged (damaged_before d.checksum c.originator_host) c.originator_dropped;
     originator_sent = with_packet (length d.payload.now) c.originator_sent;
   }
   counts_from Responder d c = record c {
     last_time = d.time;
     responder_host = with_checksum d.checksum c.responder_host;
-    responder_dropped = with_damaged (damaged_before d.checksum c.responder_host) c.responder_dropped;
+    responder_dropped =
+        with_damaged (damaged_before d.checksum c.responder_host) c.responder_dropped;
     responder_sent = with_packet (length d.payload.now) c.responder_sent;
   }
 
   abbrev pub with_datagram : Datagram → Connection T → Connection T
   with_datagram d c = counts_from (side_of c d.source) d c
 
-  -- A checksum of a datagram is wrong, as it arrives.
+  -- A datagram's checksum counts as wrong.
   abbrev pub is_datagram_damaged : Datagram → Connection T → Bool
   is_datagram_damaged d c =
-      is_damaged (hosts_from (side_of c d.source) c).0 (hosts_from (side_of c d.source) c).1 d.checksum (length d.payload.now)
+      is_damaged (hosts_from (side_of c d.source) c).0 (hosts_from (side_of c d.source) c).1
+      d.checksum (length d.payload.now)
 
-  -- One that a datagram begins; its sender is the originator.
+  -- An exchange that begins with a datagram, whose sender is the originator.
   abbrev pub begun_by_datagram : Datagram → Waiting → T → Connection T
-  begun_by_datagram d waiting listener = with_datagram d (silent Udp d.source d.destination d.time waiting listener)
+  begun_by_datagram d waiting listener =
+      with_datagram d (silent Udp d.source d.destination d.time waiting listener)
 
-  -- How many bytes both streams of it hold.
+  -- How many bytes both its streams store.
   abbrev pub held_by : Connection T → ℕ
   held_by c = held_in c.from_originator.reading + held_in c.from_responder.reading
 
-  -- The same ends anew, of which nothing came; what was damaged before is counted, and what it is accounted for stays.
+  -- The connection restarts. Damaged packets from before are counted, and the accounted memory
+  -- stays.
   pub record IsAnew (time : ℕ) (old new : Connection T) : Type 0 where
     pub originator_damaged : ℕ
     pub responder_damaged : ℕ
-    pub is_silent : new ≡ record (silent old.protocol old.originator old.responder time new.waiting new.listener) {
-      originator_dropped = with_damaged originator_damaged none_dropped;
-      responder_dropped = with_damaged responder_damaged none_dropped;
-      weight = old.weight;
-    }
+    pub is_silent : new
+        ≡ record (silent old.protocol old.originator old.responder time new.waiting new.listener) {
+          originator_dropped = with_damaged originator_damaged none_dropped;
+          responder_dropped = with_damaged responder_damaged none_dropped;
+          weight = old.weight;
+        }
     pub waits : NoneWaits new
 
-  -- Another exchange between the same ends, which a datagram begins. What the checksums of both ends are stays known.
+  -- Another exchange between the same ends, which a datagram begins. What is known about both ends'
+  -- checksums stays.
   pub record IsAfter (d : Datagram) (old new : Connection T) : Type 0 where
     pub is_silent : new ≡ record (silent Udp d.source d.destination d.time new.waiting new.listener) {
       originator_host = host_after (hosts_from (side_of old d.source) old).0;
@@ -312,14 +332,17 @@ module _ {T : Type 0} where
     }
     pub waits : NoneWaits new
 
-  -- A datagram is counted; in the same exchange anew where all that came before was damaged, as the datagram shows.
+  -- A datagram is counted. If it shows that everything before it was damaged, the exchange restarts
+  -- first.
   abbrev pub TakesDatagramIn : Datagram → Connection T → Connection T → Type 0
   TakesDatagramIn d old new =
-      (new ≡ with_datagram d old) ⊎ ((anew : Connection T) × IsAnew d.time old anew × (new ≡ with_datagram d anew))
+      (new ≡ with_datagram d old)
+      ⊎ ((anew : Connection T) × IsAnew d.time old anew × (new ≡ with_datagram d anew))
 
-  -- One side broke it off; or both said their last, and each has that of the other.
+  -- One side sent RST; or both sent all their data and FIN, and each acknowledged the other's FIN.
   abbrev pub is_closed : Connection T → Bool
   is_closed c =
       c.from_originator.is_broken || c.from_responder.is_broken
       || (is_over c.from_originator && is_over c.from_responder
-      && (has_fin_of c.responder_host c.originator_host && has_fin_of c.originator_host c.responder_host))
+      && (has_fin_of c.responder_host c.originator_host
+      && has_fin_of c.originator_host c.responder_host))

@@ -1,4 +1,4 @@
--- The packets of a side of which their receiver took nothing: how many, and why.
+-- How many packets of a side its receiver dropped, and why.
 use Rattle.std.specs.Prelude.{ℕ, ◌==◌, Bool, true, false, if◌then◌else◌}
 use Rattle.connections.specs.Traffic.{plus}
 use Rattle.connections.specs.declared.dropped.Dropped.{Dropped}
@@ -41,10 +41,11 @@ for_reason Syn d = record d { syn = true }
 for_reason Reset d = record d { reset = true }
 for_reason Fin d = record d { fin = true }
 
--- One more.
+-- One more packet.
 abbrev pub with_dropped : Reason → Dropped → Dropped
 with_dropped r d = for_reason r (record d { packets = plus d.packets 1 })
 
--- So many more with a wrong checksum.
+-- This many more packets with a wrong checksum.
 abbrev pub with_damaged : ℕ → Dropped → Dropped
-with_damaged n d = if n == 0 then d else for_reason Checksum (record d { packets = plus d.packets n })
+with_damaged n d = if n == 0 then
+    d else for_reason Checksum (record d { packets = plus d.packets n })

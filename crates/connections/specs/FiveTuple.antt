@@ -1,4 +1,4 @@
--- Between whom packets go, and in which network.
+-- Five-tuples, with the number of the network.
 use Rattle.std.specs.Hash.{HashWrites}
 use Rattle.std.specs.Hash as fed
 use Rattle.std.specs.Prelude.{ℕ, ◌++◌, ◌+◌, ◌*◌, ◌==◌, [], Bool, if◌then◌else◌}
@@ -14,22 +14,24 @@ use Rattle.connections.specs.contracts.five_tuple.EndPartialEq.TheImpl as end_eq
 use Rattle.connections.specs.contracts.five_tuple.EndPartialOrd.TheImpl as end_order
 use Rattle.connections.specs.contracts.five_tuple.FiveTuplePartialEq.TheImpl as ends_eq
 
--- Their addresses and ports are the same.
+-- Two ends are equal.
 abbrev pub is_end : End → End → Bool
 is_end = end_eq.ghosts.eq
 
--- Their networks, their protocols and both their ends are the same.
+-- Two five-tuples are equal: networks, protocols and both ends.
 abbrev pub is_five_tuple : FiveTuple → FiveTuple → Bool
 is_five_tuple = ends_eq.ghosts.eq
 
--- The lower end stands first.
+-- The lower end comes first.
 abbrev pub five_tuple_between : ℕ → Protocol → End → End → FiveTuple
 five_tuple_between n p a b =
-    if partial_le end_order.ghosts.partial_cmp a b then record { network = n; protocol = p; lower = a; upper = b }
+    if partial_le end_order.ghosts.partial_cmp a b then
+    record { network = n; protocol = p; lower = a; upper = b }
     else record { network = n; protocol = p; lower = b; upper = a }
 
--- Of what a hash is made: two addresses of IPv4, two ports and a protocol as one number; of IPv6 each address as one, and the ports and the protocol; and the
--- number of a network, where it has one.
+-- The input of the hash. For IPv4 it is two addresses, and two ports with the protocol, as numbers.
+-- For IPv6 it is each address as a number, and the ports with the protocol. The number of the
+-- network follows if there is one.
 abbrev pub address_number : IpAddr → ℕ
 address_number (V4 a) = ipv4_bits a
 address_number (V6 a) = ipv6_bits a
@@ -41,7 +43,8 @@ abbrev pub block_number : ℕ → ℕ → ℕ
 block_number upper lower = upper * 18446744073709551616 + lower
 
 abbrev pub ends_fed : IpAddr → IpAddr → ℕ → HashWrites
-ends_fed (V4 a) (V4 b) ports = fed.u128 (block_number (both_numbers (ipv4_bits a) (ipv4_bits b)) ports)
+ends_fed (V4 a) (V4 b) ports =
+    fed.u128 (block_number (both_numbers (ipv4_bits a) (ipv4_bits b)) ports)
 ends_fed (V4 a) (V6 b) ports = fed.u128 (ipv4_bits a) ++ (fed.u128 (ipv6_bits b) ++ fed.u64 ports)
 ends_fed (V6 a) b ports = fed.u128 (ipv6_bits a) ++ (fed.u128 (address_number b) ++ fed.u64 ports)
 

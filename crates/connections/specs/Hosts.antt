@@ -1,4 +1,5 @@
--- What is known of an end of a connection, by what it sent and the other end took (RFC 9293, section 3.3.1; RFC 7323).
+-- The TCP state of one end of a connection, by what it sent and the other end took (RFC 9293,
+-- section 3.3.1; RFC 7323).
 use Rattle.std.specs.Prelude.{ℕ, ◌+◌, ◌*◌, ◌%◌, ◌^◌, Bool, false, ◌&&◌, ◌||◌, not, nat_lt, is_some, if◌then◌else◌, Option, Some, None, max, min}
 use Rattle.connections.specs.Segment.{acknowledges, begins, behind_of, end_with_fin, ends, first_of}
 use Rattle.connections.specs.Numbers.{advance, is_behind}
@@ -10,11 +11,11 @@ use Rattle.connections.specs.declared.segment.Checksum.TheVariants.{Right, Parti
 use Rattle.connections.specs.declared.host.Host.{Host}
 use Rattle.connections.specs.declared.host.TheConstants.{FIRST_PACKETS}
 
--- Options that say nothing.
+-- No options.
 abbrev pub no_options : Options
 no_options = record { scale = None; clock = None; size = None; selects = false; is_signed = false }
 
--- One of which nothing was captured.
+-- The state of an end of which nothing was captured.
 abbrev pub silent_host : Host
 silent_host = record {
   first = None;
@@ -30,21 +31,21 @@ silent_host = record {
   unchecked = 0;
 }
 
--- One of which nothing was captured since another exchange, of which what its checksums are is known.
+-- The state at the start of another exchange: what is known about the end's checksums stays.
 abbrev pub host_after : Host → Host
 host_after x = record silent_host { checksums = x.checksums }
 
--- The later of two numbers, of which one may not be known.
+-- The later of two numbers, of which one may be unknown.
 abbrev pub later : Option ℕ → ℕ → ℕ
 later None n = n
 later (Some m) n = if is_behind n m then n else m
 
--- A number is ahead of another that is known.
+-- A number is ahead of a known one.
 abbrev pub is_ahead : ℕ → Option ℕ → Bool
 is_ahead n None = false
 is_ahead n (Some m) = is_behind n m
 
--- A clock is behind another by more than so many.
+-- A timestamp is older than another by more than `least`.
 abbrev pub is_clock_behind : ℕ → Option ℕ → Option ℕ → Bool
 is_clock_behind least (Some recent) (Some clock) = nat_lt least (advance recent clock)
 is_clock_behind least (Some recent) None = false
@@ -54,8 +55,8 @@ abbrev pub shift : Option ℕ → ℕ
 shift None = 0
 shift (Some n) = min n 14
 
--- By how many bits a window of the sender x is shifted: that of a SYN by none; else by what both SYNs agreed on, of which the largest counts
--- where that of x wasn't captured (RFC 7323, section 2.2).
+-- The window shift of the sender x. A SYN's window isn't shifted. Otherwise it is what both SYNs
+-- agreed on, or the largest shift if the SYN of x wasn't captured (RFC 7323, section 2.2).
 abbrev pub shift_of : Host → Host → Segment → ℕ
 shift_of x y s =
     if begins s then 0
@@ -65,13 +66,16 @@ shift_of x y s =
 abbrev pub window_of : Host → Host → Segment → ℕ
 window_of x y s = s.window * 2 ^ shift_of x y s
 
--- The clock that its receiver has of a sender: the latest of what isn't behind what it acknowledged (RFC 7323, section 4.3).
+-- The timestamp that the receiver has of a sender: the latest of a segment that doesn't begin
+-- beyond its acknowledgement (RFC 7323, section 4.3).
 abbrev pub clock_behind : Host → Host → Segment → Option ℕ
 clock_behind x y s =
-    if not (is_some s.options.clock) || (is_ahead (first_of s) y.acknowledged || is_clock_behind 0 x.clock s.options.clock)
+    if not (is_some s.options.clock)
+    || (is_ahead (first_of s) y.acknowledged || is_clock_behind 0 x.clock s.options.clock)
     then x.clock else s.options.clock
 
--- What its checksums are, as those of its first packets show: one among them that isn't wrong shows that wrong ones are.
+-- What an end's checksums are like, by its first packets. One among them that isn't wrong shows
+-- that wrong ones are really wrong.
 abbrev pub checksums_by : Option Checksum → Bool → Checksum → Checksum
 checksums_by None few c = c
 checksums_by (Some Wrong) few c = if few then c else Wrong
@@ -82,7 +86,7 @@ checksums_by (Some Refused) few c = Refused
 abbrev pub checksums_behind : Host → Checksum → Checksum
 checksums_behind x c = checksums_by x.checksums (nat_lt x.unchecked FIRST_PACKETS) c
 
--- How many of its packets were wrong, while none was another.
+-- How many of its packets had a wrong checksum, with no other among them.
 abbrev pub unchecked_by : Checksum → ℕ → ℕ
 unchecked_by Wrong n = plus_up_to 255 n 1
 unchecked_by Right n = 0
@@ -95,7 +99,7 @@ with_checksum c x = record x {
   unchecked = unchecked_by (checksums_behind x c) x.unchecked;
 }
 
--- How many were damaged, as another shows.
+-- How many were damaged, as another checksum shows.
 abbrev pub damaged_by : Checksum → ℕ → ℕ
 damaged_by Wrong n = 0
 damaged_by Right n = n
@@ -105,20 +109,24 @@ damaged_by Refused n = n
 abbrev pub damaged_before : Checksum → Host → ℕ
 damaged_before c x = damaged_by (checksums_behind x c) x.unchecked
 
--- Its window in front of a segment: its SYN is the first that says how that is scaled (RFC 7323, section 2.2).
+-- Its window before a segment. Its SYN is the first that gives the window's scale (RFC 7323,
+-- section 2.2).
 abbrev pub edge_before : Host → Segment → Option ℕ
 edge_before x s = if begins s then None else x.edge
 
 abbrev pub widest_before : Host → Segment → ℕ
 widest_before x s = if begins s then 0 else x.widest
 
--- What is known of the sender x behind a segment that its receiver y took.
+-- The state of the sender x after a segment that its receiver y took.
 abbrev pub with_taken : Host → Host → Segment → Host
 with_taken x y s = record {
   first = if begins s then Some (first_of s) else x.first;
   next = Some (later x.next (end_with_fin s));
-  acknowledged = if acknowledges s then Some (later x.acknowledged s.acknowledgment) else x.acknowledged;
-  edge = if acknowledges s then Some (later (edge_before x s) ((s.acknowledgment + window_of x y s) % 2 ^ 32)) else edge_before x s;
+  acknowledged = if acknowledges s then Some (later x.acknowledged s.acknowledgment) else
+      x.acknowledged;
+  edge = if acknowledges s then
+      Some (later (edge_before x s) ((s.acknowledgment + window_of x y s) % 2 ^ 32)) else
+      edge_before x s;
   widest = max (widest_before x s) (window_of x y s);
   offers = if begins s then s.options else x.offers;
   is_open = x.is_open || (acknowledges s && (is_some x.first && not (begins s)));

@@ -1,4 +1,4 @@
--- What the table ends as, once the connection that it lent is given back.
+-- The table after the borrowed connection is given back.
 use Rattle.std.specs.Prelude.{List, Option}
 use Rattle.lru.specs.LruCache.{LruCache, lru_cache, promoted}
 use Rattle.std.specs.Map.{set_value}
@@ -12,22 +12,34 @@ use Rattle.connections.specs.contracts.by_five_tuple.ByFiveTuple as by_five_tupl
 use Rattle.connections.specs.contracts.connection.Connection as connection
 use Rattle.connections.specs.contracts.table.Connections as table
 
--- What was written to the value under these ends stands among those entries; nothing changes where there is none.
-abbrev pub lends_value : (V : RattleType) → MutBor (LruCache FiveTuple V.Denot) → FiveTuple → List (FiveTuple × V.Denot) → Option (MutBor V.Denot) → Fml
-lends_value V t e xs r = LendsIf (by_five_tuple.the_row V) V t r (λ w. lru_cache (set_value (is_five_tuple e) xs w) t.now.cap) t.now
+-- The value written for this five-tuple is among these entries. Without the five-tuple nothing
+-- changes.
+abbrev pub lends_value : (V : RattleType) → MutBor (LruCache FiveTuple V.Denot) → FiveTuple
+    → List (FiveTuple × V.Denot) → Option (MutBor V.Denot) → Fml
+lends_value V t e xs r =
+    LendsIf (by_five_tuple.the_row V) V t r
+    (λ w. lru_cache (set_value (is_five_tuple e) xs w) t.now.cap) t.now
 
--- What was written to it stands under its ends; all else stays, and all where there is none.
-abbrev pub lends_connection : (T : RattleType) → MutBor (Table T.Denot) → FiveTuple → Option (MutBor (Connection T.Denot)) → Fml
-lends_connection T t e r = LendsIf (table.the_row T) (connection.the_row T) t r (λ w. record t.now { live = set_value (is_five_tuple e) t.now.live w }) t.now
+-- The connection written for this five-tuple is in the table, and everything else stays. Without
+-- the five-tuple nothing changes.
+abbrev pub lends_connection : (T : RattleType) → MutBor (Table T.Denot) → FiveTuple
+    → Option (MutBor (Connection T.Denot)) → Fml
+lends_connection T t e r = LendsIf (table.the_row T) (connection.the_row T) t r
+    (λ w. record t.now { live = set_value (is_five_tuple e) t.now.live w }) t.now
 
--- The connection between these ends is another one, and stands first.
+-- This five-tuple has another connection, which comes first.
 abbrev pub with_first : {T : Type 0} → FiveTuple → Connection T → Table T → Table T
-with_first e c t = record t { live = set_value (is_five_tuple e) (promoted (is_five_tuple e) t.live) c }
+with_first e c t =
+    record t { live = set_value (is_five_tuple e) (promoted (is_five_tuple e) t.live) c }
 
--- The same, where what was written to it stands first.
-abbrev pub lends_first : (T : RattleType) → MutBor (Table T.Denot) → FiveTuple → Option (MutBor (Connection T.Denot)) → Fml
-lends_first T t e r = LendsIf (table.the_row T) (connection.the_row T) t r (λ w. with_first e w t.now) t.now
+-- The connection written for this five-tuple is in the table and comes first. Without the
+-- five-tuple nothing changes.
+abbrev pub lends_first : (T : RattleType) → MutBor (Table T.Denot) → FiveTuple
+    → Option (MutBor (Connection T.Denot)) → Fml
+lends_first T t e r =
+    LendsIf (table.the_row T) (connection.the_row T) t r (λ w. with_first e w t.now) t.now
 
--- What was written to the connection in a block is what the block holds.
-abbrev pub lends_all : (T : RattleType) → MutBor (Connection T.Denot) → MutBor (Connection T.Denot) → Fml
+-- The connection written is the one in the box.
+abbrev pub lends_all : (T : RattleType) → MutBor (Connection T.Denot)
+    → MutBor (Connection T.Denot) → Fml
 lends_all T b r = Lends (boxed.the_row T) (connection.the_row T) b r (λ w. w)

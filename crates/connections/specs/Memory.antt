@@ -1,4 +1,4 @@
--- What the connections of a table are accounted for, in bytes of memory.
+-- The memory accounted for the connections of a table, in bytes.
 use Rattle.std.specs.Prelude.{◌≡◌, ℕ, ◌+◌, ◌-◌, ◌/◌, ◌≤◌, ◌<◌, ◌^◌, Bool, nat_lt, ◌||◌, Option, Some, None, List, [], ◌∷◌, ◌++◌, length}
 use Rattle.connections.specs.Connection.{held_by}
 use Rattle.connections.specs.Table.{with_other, Table, WasLast}
@@ -6,18 +6,18 @@ use Rattle.connections.specs.declared.connection.Connection.{Connection}
 use Rattle.connections.specs.declared.five_tuple.FiveTuple.{FiveTuple}
 use Rattle.connections.specs.declared.table.TheConstants.{CLOSED_COST, CLOSED_SHARE}
 
--- So many bytes those that were closed may take of a limit, and so many those that are open.
+-- The parts of a memory limit for closed and for open connections.
 abbrev pub closed_part : ℕ → ℕ
 closed_part limit = limit / CLOSED_SHARE
 
 abbrev pub open_part : ℕ → ℕ
 open_part limit = limit - closed_part limit
 
--- So many of them fit.
+-- How many closed connections fit.
 abbrev pub closed_count : ℕ → ℕ
 closed_count limit = closed_part limit / CLOSED_COST
 
--- Of those that were closed the latest are known that fit.
+-- The closed connections that fit are remembered, latest first.
 pub record IsFront (xs ys : List (FiveTuple × ℕ)) : Type 0 where
   pub rest : List (FiveTuple × ℕ)
   pub stood : xs ≡ ys ++ rest
@@ -27,21 +27,22 @@ pub record FitsClosed (limit : ℕ) (xs ys : List (FiveTuple × ℕ)) : Type 0 w
   pub fits : length ys ≤ closed_count limit
 
 module _ {T : Type 0} where
-  -- For how much all are accounted.
+  -- The memory accounted for all, in bytes.
   abbrev pub total : List (FiveTuple × Connection T) → ℕ
   total [] = 0
   total (e ∷ xs) = e.1.weight + total xs
 
-  -- The table's count is for how much all are accounted that are open.
+  -- The table's count is the memory accounted for all open connections.
   abbrev pub IsAccounted : Table T → Type 0
   IsAccounted t = t.held ≡ total t.live
 
-  -- More is accounted for than a limit lets.
+  -- The accounted memory exceeds a limit.
   abbrev pub is_crowded : ℕ → Table T → Bool
-  is_crowded limit t = nat_lt (open_part limit) t.held || nat_lt (closed_count limit) (length t.closed)
+  is_crowded limit t = nat_lt (open_part limit) t.held
+      || nat_lt (closed_count limit) (length t.closed)
 
-  -- The connection between these ends is accounted for at least as many bytes as its streams hold, where that is no more than any machine has; all else
-  -- stays.
+  -- The connection's accounted memory is at least the bytes that its streams store, as long as no
+  -- machine has more. Everything else stays.
   pub record IsSettledAs (e : FiveTuple) (c w : Connection T) (old new : Table T) : Type 0 where
     pub same : w ≡ record c { weight = w.weight }
     pub enough : old.held - c.weight + held_by w < 2 ^ 63 → held_by w ≤ w.weight
@@ -52,7 +53,7 @@ module _ {T : Type 0} where
   IsSettled e None old new = new ≡ old
   IsSettled e (Some c) old new = (w : Connection T) × IsSettledAs e c w old new
 
-  -- The connection that was longest without a packet is taken out, and no more accounted for. All others stay.
+  -- The longest-idle connection is removed, and its memory no longer accounted. All others stay.
   pub record IsTakenOut (old new : Table T) (c : Connection T) : Type 0 where
     pub last : WasLast old.live new.live c
     pub held : new.held ≡ old.held - c.weight

@@ -1,5 +1,5 @@
--- TCP as the receiver of a segment sees it (RFC 9293, section 3.10.7.4; RFC 5961; RFC 7323), as far as a monitor knows it: by what was captured
--- of both ends.
+-- TCP as the receiver of a segment applies it (RFC 9293, section 3.10.7.4; RFC 5961; RFC 7323), as
+-- far as a monitor knows: by what was captured of both ends.
 use Rattle.std.specs.Prelude.{ℕ, ◌+◌, ◌%◌, ◌^◌, ◌==◌, Bool, true, false, ◌&&◌, ◌||◌, not, nat_lt, nat_le, is_some, if◌then◌else◌, Option, Some, None, length, max}
 use Rattle.connections.specs.Segment.{acknowledges, answers, begins, behind_of, breaks, end_with_fin, ends, first_of, has_data, takes_numbers}
 use Rattle.connections.specs.Numbers.{advance, is_behind}
@@ -19,14 +19,15 @@ abbrev pub number_or : ℕ → Option ℕ → ℕ
 number_or n None = n
 number_or n (Some m) = m
 
--- A number that is known is ahead of another, by more than so many.
+-- A known number is ahead of another by more than `least`.
 abbrev pub is_ahead_by : ℕ → Option ℕ → ℕ → Bool
 is_ahead_by least None n = false
 is_ahead_by least (Some m) n = nat_lt least (advance m n)
 
--- A checksum that isn't right is wrong as it arrives, unless its sender's were so from its first packet on: then the capture is one of the
--- sender's own machine, whose network card writes the checksums behind it. A partial one is none where the packet has more data than its receiver
--- takes in one (536 bytes, if it doesn't say so): several were joined.
+-- A checksum that isn't correct counts as wrong, unless its sender's were so from its first packet
+-- on. Then the capture is on the sender's own machine, whose network card writes the checksums
+-- behind it. A partial one doesn't count if the packet has more data than its receiver's maximum
+-- segment size (536 bytes by default): several segments were coalesced.
 abbrev pub is_damaged_by : Checksum → Option Checksum → Host → ℕ → Bool
 is_damaged_by Right known y len = false
 is_damaged_by Partial None y len = false
@@ -48,12 +49,14 @@ is_damaged x y c len = is_damaged_by c x.checksums y len
 abbrev pub is_signed_apart : Host → Segment → Bool
 is_signed_apart x s = s.options.is_signed && (is_some x.first && not x.offers.is_signed)
 
--- Both SYNs have a clock, and this segment's is behind that of one that its receiver took (RFC 7323, section 5.3); hosts let it be behind by 1.
+-- Both SYNs have a timestamp, and the segment's is older than one that its receiver took (RFC 7323,
+-- section 5.3). Hosts accept one that is older by 1.
 abbrev pub has_old_clock : Host → Host → Segment → Bool
-has_old_clock x y s = is_some x.offers.clock && (is_some y.offers.clock && is_clock_behind 1 x.clock s.options.clock)
+has_old_clock x y s =
+    is_some x.offers.clock && (is_some y.offers.clock && is_clock_behind 1 x.clock s.options.clock)
 
--- The number that the receiver y waits for, and that behind its window, as it said; behind the SYNs, its own counts from the first number of the
--- sender x on.
+-- The number that the receiver y expects next, and the right edge of its window. After the SYNs
+-- alone its window counts from the first number of the sender x on.
 abbrev pub awaited_of : Option ℕ → Option ℕ → Option ℕ → Option ℕ
 awaited_of (Some n) y x = Some n
 awaited_of None (Some y) x = x
@@ -71,12 +74,15 @@ edge_from None None x window = None
 abbrev pub edge_of : Host → Host → Option ℕ
 edge_of x y = edge_from y.edge y.first x.first y.widest
 
--- Data begins at the end of the receiver's window or behind it; without data, only behind it (RFC 9293, section 3.10.7.4, first).
+-- Data begins at or beyond the right edge of the receiver's window; without data, only beyond it
+-- (RFC 9293, section 3.10.7.4, first).
 abbrev pub is_beyond : Option ℕ → Segment → Bool
 is_beyond None s = false
-is_beyond (Some edge) s = if has_data s then not (is_behind edge (first_of s)) else is_behind (first_of s) edge
+is_beyond (Some edge) s = if has_data s then
+    not (is_behind edge (first_of s)) else is_behind (first_of s) edge
 
--- It ends behind that window. Where no window is known, or its scale isn't, it ends too far behind what came in order to be held.
+-- It ends beyond the window. If no window or no scale is known, it ends too far behind the in-order
+-- data to be stored.
 abbrev pub is_too_far : Option ℕ → Bool → Segment → Bool
 is_too_far None r s = false
 is_too_far (Some reached) r s = r && nat_lt HELD_LIMIT (advance (end_with_fin s) reached)
@@ -90,29 +96,31 @@ is_past None y e f s = is_too_far f.reached f.is_read s
 abbrev pub is_past_edge : Host → Host → Front → Segment → Bool
 is_past_edge x y f s = is_past x.first y.first (edge_of x y) f s
 
--- It ends in front of what its receiver acknowledged last, and by more than a window.
+-- It ends before the receiver's last acknowledgement by more than a window.
 abbrev pub is_far_before : Host → Host → Segment → Bool
 is_far_before x y s = is_ahead_by (max y.widest 65535) (awaited x y) (end_with_fin s)
 
--- It ends in front of what its receiver acknowledged last: that has these bytes.
+-- It ends before the receiver's last acknowledgement, so the receiver has these bytes.
 abbrev pub is_known : Host → Host → Segment → Bool
 is_known x y s = is_ahead_by 0 (awaited x y) (end_with_fin s)
 
--- It has data behind its sender's FIN, or a FIN that is behind it.
+-- It has data after its sender's FIN, or a FIN at a later number.
 abbrev pub is_behind_fin : Option ℕ → Segment → Bool
 is_behind_fin None s = false
-is_behind_fin (Some fin) s = if has_data s then not (is_behind fin (first_of s)) else ends s && is_behind (behind_of s) fin
+is_behind_fin (Some fin) s = if has_data s then not (is_behind fin (first_of s)) else ends s
+    && is_behind (behind_of s) fin
 
--- It acknowledges less than its receiver's SYN; or less than what its sender acknowledged before, by more than a window (RFC 5961, section
--- 5.2).
+-- It acknowledges less than its receiver's SYN, or less than its sender acknowledged before by more
+-- than a window (RFC 5961, section 5.2).
 abbrev pub is_stale : Host → Host → Segment → Bool
-is_stale x y s = is_ahead_by 0 y.first s.acknowledgment || is_ahead_by (max x.widest 65535) x.acknowledged s.acknowledgment
+is_stale x y s = is_ahead_by 0 y.first s.acknowledgment
+    || is_ahead_by (max x.widest 65535) x.acknowledged s.acknowledgment
 
 -- It acknowledges what its receiver isn't known to have sent.
 abbrev pub is_of_unsent : Host → Segment → Bool
 is_of_unsent y s = is_ahead s.acknowledgment y.next
 
--- A segment without SYN and RST in the receiver's window.
+-- A segment in the receiver's window, without SYN and RST.
 abbrev pub judge_data : Host → Host → Front → Segment → Judgement
 judge_data x y f s =
     if is_behind_fin x.fin s then Dropped Fin
@@ -132,8 +140,9 @@ judge_open x y f s =
     else if is_beyond (edge_of x y) s then (if has_data s then Waiting Window else Dropped Window)
     else judge_data x y f s
 
--- RST breaks a connection off only with the number that its receiver waits for next (RFC 5961, section 3.2), or where both take selective
--- acknowledgements, with that behind all that came; of one that sent nothing else, as the answer to what the other end sent.
+-- An RST resets a connection only with the number that its receiver expects next (RFC 5961, section
+-- 3.2), or, if both accept selective acknowledgements, with the one behind all that came. If its
+-- sender sent nothing else, it has to answer what the other end sent.
 abbrev pub is_answer_to : Option ℕ → Segment → Bool
 is_answer_to None s = true
 is_answer_to (Some next) s = acknowledges s && s.acknowledgment == next
@@ -141,19 +150,21 @@ is_answer_to (Some next) s = acknowledges s && s.acknowledgment == next
 abbrev pub is_reset_of : Option ℕ → Host → Host → Front → Segment → Bool
 is_reset_of None x y f s = is_answer_to y.next s
 is_reset_of (Some next) x y f s =
-    first_of s == later y.acknowledged (number_or next f.reached) || (x.offers.selects && y.offers.selects && first_of s == next)
+    first_of s == later y.acknowledged (number_or next f.reached)
+    || (x.offers.selects && y.offers.selects && first_of s == next)
 
 abbrev pub is_reset_taken : Host → Host → Front → Segment → Bool
 is_reset_taken x y f s = is_reset_of x.next x y f s
 
--- A SYN of one that sent none before: it asks for the connection, also at the same time as the other (RFC 9293, section 3.5), or it answers the
--- other's SYN. Behind the opening, or where something else of its sender was captured, it is in the middle of a connection (RFC 5961, section
--- 4.2).
+-- A sender's first SYN. It asks for the connection, maybe simultaneously with the other end (RFC
+-- 9293, section 3.5), or it answers the other's SYN. After the opening, or after other segments of
+-- its sender, it is in the middle of a connection (RFC 5961, section 4.2).
 abbrev pub answers_to : Host → Segment → Bool
 answers_to y s = not (is_ahead_by 0 y.first s.acknowledgment) && not (is_of_unsent y s)
 
 abbrev pub is_late_syn : Host → Host → Segment → Bool
-is_late_syn x y s = if is_some y.first then y.is_open else is_some x.next || (is_some y.next && not (answers s))
+is_late_syn x y s = if is_some y.first then y.is_open else is_some x.next
+    || (is_some y.next && not (answers s))
 
 abbrev pub judge_first_syn : Host → Host → Segment → Judgement
 judge_first_syn x y s =
@@ -161,14 +172,15 @@ judge_first_syn x y s =
     else if answers s && not (answers_to y s) then Dropped Acknowledgment
     else Taken
 
--- The same SYN again, until the connection is open; with ACK for the first time it is the answer of one that asked at the same time.
+-- A retransmitted SYN, until the connection is open. Its first ACK is the answer of an end that
+-- asked simultaneously.
 abbrev pub judge_syn_again : Host → Host → Segment → Judgement
 judge_syn_again x y s =
     if x.is_open || y.is_open then Dropped Syn
     else if answers s && not (is_some x.acknowledged) then Taken
     else Again
 
--- Any other is in the middle of a connection.
+-- Any other SYN is in the middle of a connection.
 abbrev pub judge_syn_by : Option ℕ → Host → Host → Segment → Judgement
 judge_syn_by None x y s = judge_first_syn x y s
 judge_syn_by (Some first) x y s = if first_of s == first then judge_syn_again x y s else Dropped Syn
@@ -176,7 +188,7 @@ judge_syn_by (Some first) x y s = if first_of s == first then judge_syn_again x 
 abbrev pub judge_syn : Host → Host → Segment → Judgement
 judge_syn x y s = judge_syn_by x.first x y s
 
--- What the receiver y does with a segment of the sender x, whose stream came so far.
+-- What the receiver y does with a segment of the sender x, by how far the stream of x came.
 abbrev pub judge : Host → Host → Front → Segment → Judgement
 judge x y f s =
     if is_damaged x y s.checksum (length s.payload.now) then Dropped reason.Checksum

@@ -1,4 +1,4 @@
--- What is read of a direction.
+-- One direction of a connection.
 use Rattle.std.specs.Prelude.{◌≡◌, ℕ, ◌+◌, ◌-◌, ◌%◌, ◌^◌, ◌==◌, ⊤, Bool, true, false, not, nat_lt, ◌&&◌, ◌||◌, if◌then◌else◌, Option, Some, None, [], ◌∷◌, length, max, min, take, drop}
 use Rattle.segments.specs.Cells.{Bytes, Held, differing_in, known_behind, run, with_segment, without_front, IsTooMuch}
 use Rattle.connections.specs.Numbers.{advance, ahead_of, is_behind}
@@ -11,7 +11,7 @@ use Rattle.connections.specs.declared.stream.Stream.{Stream}
 use Rattle.connections.specs.declared.stream.Reading.{Reading}
 use Rattle.connections.specs.declared.stream.Reading.TheVariants.{Unbegun, Open, Over}
 
--- A stream of which nothing came; its first byte has that number.
+-- An empty stream, whose first byte has this number.
 abbrev pub empty_from : ℕ → ℕ → Held
 empty_from limit first = record { first = first; limit = limit; taken = 0; cells = [] }
 
@@ -21,25 +21,25 @@ begun limit first Unbegun = Open (empty_from limit first)
 begun limit first (Open h) = Open h
 begun limit first Over = Over
 
--- A segment ends too far behind what is missing.
+-- A segment ends too far behind the first missing byte.
 abbrev pub IsLeftOut : ℕ → Bytes → Reading → Type 0
 IsLeftOut seq b (Open h) = IsTooMuch seq b h
 IsLeftOut seq b Unbegun = ⊥
 IsLeftOut seq b Over = ⊥
 
--- Any other's bytes are put where none stood.
+-- Any other segment's bytes are added where there are none.
 abbrev pub put : ℕ → Bytes → Reading → Reading
 put seq b (Open h) = Open (with_segment seq b h)
 put seq b Unbegun = Unbegun
 put seq b Over = Over
 
--- The first bytes are let go; all where fewer are there.
+-- The first bytes are freed, or all if there are fewer.
 abbrev pub behind_front : ℕ → Reading → Reading
 behind_front n (Open h) = Open (without_front (length (take n (run h.cells))) h)
 behind_front n Unbegun = Unbegun
 behind_front n Over = Over
 
--- One of which nothing came.
+-- An empty stream.
 abbrev pub silent_stream : Stream
 silent_stream = record {
   reading = Unbegun;
@@ -55,45 +55,47 @@ silent_stream = record {
   passing = None;
 }
 
--- The number of the first byte that is kept, when more are let go.
+-- The number of the first kept byte after more are freed.
 abbrev pub next_behind : ℕ → Reading → ℕ → ℕ
 next_behind n (Open h) next = (next + length (take n (run h.cells))) % 2 ^ 32
 next_behind n Unbegun next = next
 next_behind n Over next = next
 
--- The number of the first byte that was not handed on.
+-- The number of the first unread byte.
 abbrev pub unheard_from : Stream → ℕ
 unheard_from t = (t.next + t.heard % 2 ^ 32) % 2 ^ 32
 
--- Bytes from that number on, up to the urgent one, which is none of the stream (RFC 9293, section 3.8.5; RFC 6093, section 3).
+-- Bytes from this number on, up to the urgent one, which isn't part of the stream (RFC 9293,
+-- section 3.8.5; RFC 6093, section 3).
 abbrev pub up_to_urgent : Option ℕ → ℕ → Bytes → Bytes
 up_to_urgent None n b = b
 up_to_urgent (Some urgent) n b = take (ahead_of urgent n) b
 
--- The bytes that come next: those that were handed on are kept in front of them.
+-- The unread bytes, in order. Kept bytes that were read come before them.
 abbrev pub next_bytes : Stream → Reading → Bytes
 next_bytes t (Open h) = up_to_urgent t.urgent (unheard_from t) (drop t.heard (run h.cells))
 next_bytes t Unbegun = []
 next_bytes t Over = []
 
--- So many of them are handed on; all where fewer are there.
+-- This many more bytes are read, or all if there are fewer.
 abbrev pub handed_on : ℕ → Stream → ℕ
 handed_on n t = plus t.heard (length (take n (next_bytes t t.reading)))
 
 abbrev pub handing_on : ℕ → Stream → Stream
 handing_on n t = record t { heard = handed_on n t }
 
--- The urgent byte came, and none behind it was handed on.
+-- The urgent byte came, and none behind it was read.
 abbrev pub is_urgent_there : Option ℕ → ℕ → ℕ → Bool
 is_urgent_there None n reached = false
 is_urgent_there (Some urgent) n reached = is_behind reached urgent && not (is_behind n urgent)
 
 abbrev pub is_cut_short : Stream → Reading → Bool
-is_cut_short t (Open h) = is_urgent_there t.urgent (unheard_from t) ((t.next + length (run h.cells)) % 2 ^ 32)
+is_cut_short t (Open h) =
+    is_urgent_there t.urgent (unheard_from t) ((t.next + length (run h.cells)) % 2 ^ 32)
 is_cut_short t Unbegun = false
 is_cut_short t Over = false
 
--- It comes next, and is passed over.
+-- The urgent byte comes next and is skipped.
 abbrev pub is_number : Option ℕ → ℕ → Bool
 is_number None n = false
 is_number (Some m) n = m == n
@@ -102,15 +104,18 @@ abbrev pub has_urgent_next : Stream → Bool
 has_urgent_next t = is_number t.urgent (unheard_from t) && is_cut_short t t.reading
 
 abbrev pub passing_urgent : Stream → Stream
-passing_urgent t = if has_urgent_next t then record t { heard = plus t.heard 1; urgent = None } else t
+passing_urgent t = if has_urgent_next t then
+    record t { heard = plus t.heard 1; urgent = None } else t
 
--- Bytes that were handed on are let go: those in front of the number that is acknowledged, and those of which so many were handed on behind them.
+-- Read bytes are freed: those before the acknowledged number, and those with enough read bytes
+-- behind them.
 abbrev pub acknowledged_from : ℕ → Option ℕ → ℕ
 acknowledged_from next None = 0
 acknowledged_from next (Some n) = advance n next
 
 abbrev pub forgotten : Option ℕ → Stream → ℕ
-forgotten acknowledged t = min t.heard (max (acknowledged_from t.next acknowledged) (t.heard - KEPT_LIMIT))
+forgotten acknowledged t =
+    min t.heard (max (acknowledged_from t.next acknowledged) (t.heard - KEPT_LIMIT))
 
 abbrev pub kept_of : ℕ → Reading → ℕ → ℕ
 kept_of n (Open h) heard = heard - length (take n (run h.cells))
@@ -130,77 +135,85 @@ number_begun Unbegun first n = first
 number_begun (Open h) first n = n
 number_begun Over first n = n
 
--- How many bytes are held, in order and behind others that are missing.
+-- How many bytes are stored, in order and out of order.
 abbrev pub came : Held → ℕ
 came h = plus (length (run h.cells)) (known_behind h.cells)
 
--- At how many places bytes differ, as far as both go.
+-- At how many positions bytes differ, up to the shorter list's end.
 abbrev pub unlike : Bytes → Bytes → ℕ
 unlike [] ys = 0
 unlike (x ∷ xs) [] = 0
 unlike (x ∷ xs) (y ∷ ys) = (if x == y then 0 else 1) + unlike xs ys
 
--- At how many places a segment has other bytes than those in order, the first of which has that number.
+-- At how many numbers a segment's byte differs from the in-order bytes, the first of which has this
+-- number.
 abbrev pub differing_in_order : ℕ → Bytes → Segment → ℕ
 differing_in_order next standing s =
-    if nat_lt (ahead_of (first_of s) next) (2 ^ 31) then unlike (drop (ahead_of (first_of s) next) standing) s.payload.now
+    if nat_lt (ahead_of (first_of s) next) (2 ^ 31) then
+    unlike (drop (ahead_of (first_of s) next) standing) s.payload.now
     else unlike standing (drop (ahead_of next (first_of s)) s.payload.now)
 
--- At so many places another byte is kept or held: they are added to a count. Of a stream that isn't read none are known.
+-- A count plus the number of bytes that differ from a kept one. For a stream that isn't read none
+-- are known.
 abbrev pub with_disagreeing : ℕ → Segment → Reading → Reading → ℕ → ℕ
 with_disagreeing next s (Open h) (Open k) count =
-    plus (plus count (differing_in_order next (run h.cells) s)) (differing_in (first_of s) s.payload.now h)
+    plus (plus count (differing_in_order next (run h.cells) s))
+    (differing_in (first_of s) s.payload.now h)
 with_disagreeing next s (Open h) Unbegun count = count
 with_disagreeing next s (Open h) Over count = count
 with_disagreeing next s Unbegun r count = count
 with_disagreeing next s Over r count = count
 
--- Bytes disagreed before they were put in.
+-- Bytes that disagreed before they were added.
 abbrev pub with_more_disagreeing : ℕ → Stream → Stream
 with_more_disagreeing n t = record t { disagreeing = plus t.disagreeing n }
 
--- It is read no further; where it was read, its next byte is the next that is passed on.
+-- It is read no further. If it was read, its next byte is the next to pass on.
 abbrev pub stopped : Stream → Reading → Stream
 stopped t (Open h) = record t { reading = Over; passing = Some (unheard_from t) }
 stopped t Unbegun = record t { reading = Over }
 stopped t Over = t
 
--- The bytes of a segment from a number on, where it doesn't begin behind that.
+-- The bytes of a segment from a number on, unless it begins behind that.
 abbrev pub is_next : ℕ → Segment → Bool
 is_next n s = nat_lt (ahead_of n (first_of s)) (2 ^ 31)
 
 abbrev pub bytes_from : ℕ → Segment → Bytes
 bytes_from n s = if is_next n s then drop (ahead_of n (first_of s)) s.payload.now else []
 
--- Those that are passed on, and the number of the next: none is passed on behind bytes that are missing.
+-- The bytes that are passed on, and the next number. Nothing is passed on behind missing bytes.
 abbrev pub passed : Option ℕ → Segment → Bytes
 passed None s = []
 passed (Some n) s = bytes_from n s
 
 abbrev pub passing_behind : Option ℕ → Segment → Option ℕ
 passing_behind None s = None
-passing_behind (Some n) s = if is_next n s then Some ((n + length (bytes_from n s)) % 2 ^ 32) else None
+passing_behind (Some n) s = if is_next n s then
+    Some ((n + length (bytes_from n s)) % 2 ^ 32) else None
 
--- Of so many bytes those stood already by which no more are held; of a stream that is read no further, those in front of what is passed
--- on. They are added to a count.
+-- A count plus the number of retransmitted bytes. Adding a segment grows what is stored by less
+-- than its length by this many; in a stream that is read no further they are before the next one to
+-- pass on.
 abbrev pub passed_before : Option ℕ → Segment → ℕ → ℕ
 passed_before None s count = count
-passed_before (Some n) s count = plus count (if is_next n s then min (ahead_of n (first_of s)) (length s.payload.now) else 0)
+passed_before (Some n) s count =
+    plus count (if is_next n s then min (ahead_of n (first_of s)) (length s.payload.now) else 0)
 
 abbrev pub with_repeated : Segment → Option ℕ → Reading → Reading → ℕ → ℕ
-with_repeated s passing (Open h) (Open k) count = plus count (length s.payload.now - (came k - came h))
+with_repeated s passing (Open h) (Open k) count =
+    plus count (length s.payload.now - (came k - came h))
 with_repeated s passing (Open h) Unbegun count = count
 with_repeated s passing (Open h) Over count = count
 with_repeated s passing Unbegun r count = count
 with_repeated s passing Over r count = passed_before passing s count
 
--- The number behind the last byte of data that a segment tells of. A FIN has a number of its own, behind which there is no data (RFC 9293,
--- section 3.4).
+-- The number behind the last data byte of a segment. There is no data behind a FIN, which occupies
+-- a number too (RFC 9293, section 3.4).
 abbrev pub end_of : Option ℕ → Segment → ℕ
 end_of None s = behind_of s
 end_of (Some fin) s = if is_behind (behind_of s) fin then fin else behind_of s
 
--- What the numbers of a segment say: how far its sender has come, and with FIN where the stream ends.
+-- What a segment's numbers show: how far its sender has come, and with FIN where the stream ends.
 abbrev pub with_numbers : Segment → Stream → Stream
 with_numbers s t = record t {
   last = if is_behind (end_of t.fin s) t.last then end_of t.fin s else t.last;
@@ -208,8 +221,8 @@ with_numbers s t = record t {
   fin = if ends s then Some (behind_of s) else t.fin;
 }
 
--- Its bytes are taken, and those of them that stood, or don't agree with those that stand, are counted. Those of one that ends too far behind
--- what is missing are left out.
+-- Its bytes are added. Those that were there already, and those that differ, are counted. The bytes
+-- of a segment that ends too far behind the first missing byte are left out.
 abbrev pub with_bytes : Segment → Reading → Stream → Stream
 with_bytes s r t = record t {
   reading = r;
@@ -223,7 +236,7 @@ pub data HasPut (s : Segment) (old new : Stream) : Type 0 where
       ¬ IsLeftOut (first_of s) s.payload.now old.reading
       → new ≡ with_bytes s (put (first_of s) s.payload.now old.reading) old → HasPut s old new
 
--- The stream begins with that number, if it is known and nothing came before.
+-- The stream begins with this number, if it is known and nothing came before.
 abbrev pub begun_at : Option ℕ → Stream → Stream
 begun_at None t = t
 begun_at (Some start) t = record t {
@@ -232,14 +245,16 @@ begun_at (Some start) t = record t {
   last = number_begun t.reading start t.last;
 }
 
--- With URG it tells which byte is urgent: one that didn't come yet, and comes behind the one that was known.
+-- With URG it gives the urgent byte, which counts if it didn't come yet and is behind the last
+-- known one.
 abbrev pub is_newer : Option ℕ → ℕ → Bool
 is_newer None n = true
 is_newer (Some known) n = is_behind n known
 
 abbrev pub urgent_by : Option ℕ → ℕ → Option ℕ → Option ℕ
 urgent_by None reached known = known
-urgent_by (Some n) reached known = if is_newer known n && not (is_behind reached n) then Some n else known
+urgent_by (Some n) reached known = if is_newer known n && not (is_behind reached n) then
+    Some n else known
 
 abbrev pub urgent_in : Segment → Stream → Reading → Option ℕ
 urgent_in s t (Open h) = urgent_by (urgent_of s) ((t.next + length (run h.cells)) % 2 ^ 32) t.urgent
@@ -249,7 +264,8 @@ urgent_in s t Over = t.urgent
 abbrev pub with_urgent : Segment → Stream → Stream
 with_urgent s t = record t { urgent = urgent_in s t t.reading }
 
--- What is noted of a segment without RST, before its bytes are taken: the numbers of a stream that began, and which byte is urgent.
+-- What is noted of a segment without RST before its bytes are added: the numbers of a stream that
+-- began, and the urgent byte.
 abbrev pub is_begun : Reading → Bool
 is_begun Unbegun = false
 is_begun (Open h) = true
@@ -258,12 +274,13 @@ is_begun Over = true
 abbrev pub noted : Segment → Stream → Stream
 noted s t = if is_begun t.reading then with_urgent s (with_numbers s t) else t
 
--- A segment with RST breaks the stream off, and its bytes are not read; of any other the numbers are noted and the bytes taken.
+-- A segment with RST resets the stream, and its bytes aren't read. For any other the numbers are
+-- noted and the bytes added.
 pub record HasTaken (s : Segment) (old new : Stream) : Type 0 where
   pub taken : breaks s ≡ false → HasPut s (noted s old) new
   pub broken : breaks s ≡ true → new ≡ record old { is_broken = true }
 
--- All in front of the FIN came, or is not read any more.
+-- All bytes before the FIN came, or aren't read any more.
 abbrev pub is_read_to : ℕ → ℕ → Reading → Bool
 is_read_to fin next (Open h) = (next + length (run h.cells)) % 2 ^ 32 == fin
 is_read_to fin next Unbegun = true
@@ -273,11 +290,11 @@ abbrev pub has_come_to : Option ℕ → ℕ → Reading → Bool
 has_come_to None next r = false
 has_come_to (Some fin) next r = is_read_to fin next r
 
--- Its sender said its last: it broke the connection off, or all in front of its FIN came.
+-- It is closed: its sender sent RST, or all bytes before its FIN came.
 abbrev pub is_over : Stream → Bool
 is_over s = s.is_broken || has_come_to s.fin s.next s.reading
 
--- Bytes are missing in front of others, or of a FIN, that came.
+-- Bytes are missing before others that came, or before a FIN.
 abbrev pub lacks : Stream → Reading → Bool
 lacks s (Open h) = is_behind s.last ((s.next + length (run h.cells)) % 2 ^ 32)
 lacks s Unbegun = false
@@ -285,11 +302,12 @@ lacks s Over = false
 
 -- How far it came in order, and whether it is read.
 abbrev pub front_of : Stream → Reading → Front
-front_of s (Open h) = record { reached = Some ((s.next + length (run h.cells)) % 2 ^ 32); is_read = true }
+front_of s (Open h) =
+    record { reached = Some ((s.next + length (run h.cells)) % 2 ^ 32); is_read = true }
 front_of s Unbegun = record { reached = None; is_read = false }
 front_of s Over = record { reached = s.passing; is_read = false }
 
--- Bytes are missing in front of a number.
+-- Bytes are missing before a number.
 abbrev pub is_unreached : Option ℕ → Reading → ℕ → Bool
 is_unreached (Some reached) r n = is_behind n reached
 is_unreached None Unbegun n = true
@@ -299,13 +317,13 @@ is_unreached None Over n = false
 abbrev pub is_missing : ℕ → Stream → Bool
 is_missing n s = is_unreached (front_of s s.reading).reached s.reading n
 
--- The next number of a stream is that of the place from which on it holds bytes, within the limit.
+-- The stream's next number is that of the first byte that it stores, within the limit.
 abbrev pub IsNumberOf : ℕ → Reading → Type 0
 IsNumberOf next (Open h) = (next ≡ (h.first + h.taken) % 2 ^ 32) × (h.limit ≡ HELD_LIMIT)
 IsNumberOf next Unbegun = ⊤
 IsNumberOf next Over = ⊤
 
--- How many bytes a direction holds.
+-- How many bytes a direction stores.
 abbrev pub held_in : Reading → ℕ
 held_in (Open h) = length (run h.cells) + known_behind h.cells
 held_in Unbegun = 0

@@ -1,4 +1,4 @@
--- The table of connections: each by its ends, the one with the latest packet first.
+-- The table of connections by five-tuple, most recent packet first.
 use Rattle.std.specs.Prelude.{◌≡◌, ℕ, ◌-◌, ◌<◌, ◌⊎◌, Bool, true, false, ◌&&◌, ◌||◌, not, is_some, if◌then◌else◌, Option, Some, None, IfSome, List, [], ◌∷◌, ◌++◌, length}
 use Rattle.std.specs.Option.{option_and_then}
 use Rattle.std.specs.Map.{lookup, remove_entry, set_value}
@@ -15,19 +15,19 @@ use Rattle.connections.specs.declared.receiver.Reason.TheVariants as reason
 use Rattle.connections.specs.declared.connection.Beginning.{Beginning}
 use Rattle.connections.specs.declared.table.TheConstants.{IDLE_LIMIT, MAX_CONNECTIONS}
 
--- Those that are open, and of those that both sides ended, the time: what still comes of these is left out. And for how many bytes those that are open are
--- accounted.
+-- The open connections; the last times of those that both sides closed, whose later packets are
+-- ignored; and the memory accounted for the open ones.
 pub record Table (T : Type 0) : Type 0 where
   pub live : List (FiveTuple × Connection T)
   pub closed : List (FiveTuple × ℕ)
   pub held : ℕ
 
--- One with this last time had no packet for more than the limit, or there are too many.
+-- A connection with this last time was idle for longer than the limit, or there are too many.
 abbrev pub IsOverAmong : ℕ → ℕ → ℕ → Type 0
 IsOverAmong count time last = (IDLE_LIMIT < time - last) ⊎ (MAX_CONNECTIONS < count)
 
 module _ {X : Type 0} where
-  -- What stands under these ends, and what stands under others.
+  -- The value of a five-tuple, and the entries of all others.
   abbrev pub at : FiveTuple → List (FiveTuple × X) → Option X
   at e xs = lookup (is_five_tuple e) xs
 
@@ -37,131 +37,157 @@ module _ {X : Type 0} where
   abbrev pub without_if : Bool → FiveTuple → List (FiveTuple × X) → List (FiveTuple × X)
   without_if taken e xs = if taken then others e xs else xs
 
-  -- That one stood last, and was taken out.
+  -- This value was the last entry, and was removed.
   pub record WasLast (xs ys : List (FiveTuple × X)) (x : X) : Type 0 where
     pub five_tuple : FiveTuple
     pub stood : xs ≡ ys ++ (five_tuple, x) ∷ []
 
-  -- One with this last time is over among these.
+  -- A connection with this last time is over, among these.
   abbrev pub IsOver : ℕ → List (FiveTuple × X) → ℕ → Type 0
   IsOver time xs last = IsOverAmong (length xs) time last
 
--- From the end on, those were taken out that were over then.
+-- The last entries were removed, each because it was over.
 pub data IsForgotten (time : ℕ) (xs : List (FiveTuple × ℕ)) : List (FiveTuple × ℕ) → Type 0 where
   none : IsForgotten time xs xs
-  one : (ys zs : List (FiveTuple × ℕ)) (e : FiveTuple × ℕ) → IsForgotten time xs ys → ys ≡ zs ++ e ∷ [] → IsOver time ys e.1 → IsForgotten time xs zs
+  one : (ys zs : List (FiveTuple × ℕ)) (e : FiveTuple × ℕ) → IsForgotten time xs ys
+      → ys ≡ zs ++ e ∷ [] → IsOver time ys e.1 → IsForgotten time xs zs
 
--- None is left that is to be taken out: the one that stands last isn't over.
+-- Nothing is left to remove: the last entry isn't over.
 abbrev pub NoneToForget : ℕ → List (FiveTuple × ℕ) → Type 0
 NoneToForget time xs = IfSome (last_entry xs) (λ e. ¬ IsOver time xs e.1)
 
 module _ {T : Type 0} where
-  -- What goes to these ends goes to the one connection there, which stands first then. The others stay.
-  pub record IsPut (e : FiveTuple) (Takes : Option (Connection T) → Connection T → Type 0) (xs ys : List (FiveTuple × Connection T)) : Type 0 where
+  -- A packet goes to the one connection of its five-tuple, which comes first then. The others stay.
+  pub record IsPut (e : FiveTuple) (Takes : Option (Connection T) → Connection T → Type 0)
+      (xs ys : List (FiveTuple × Connection T)) : Type 0 where
     pub its : Connection T
     pub takes : Takes (at e xs) its
     pub stands : ys ≡ (e, its) ∷ others e xs
 
-  -- The connection accepts the segment; where there is none, one does that the segment begins.
+  -- The connection accepts the segment. Without one, the segment begins one that accepts it.
   abbrev pub TakesSegment : Segment → Option (Connection T) → Connection T → Type 0
   TakesSegment s (Some c) its = Accepts s c its
   TakesSegment s None its = (c : Connection T) × IsBegunBy s c × Accepts s c its
 
-  -- One that the segment begins stands first, and is no more among those that were closed.
+  -- A connection that the segment begins comes first, and no longer counts as closed.
   pub record BeginsFirst (s : Segment) (e : FiveTuple) (old new : Table T) : Type 0 where
     pub its : Connection T
     pub takes : TakesSegment s None its
-    pub stands : new ≡ record { live = (e, its) ∷ others e old.live; closed = others e old.closed; held = old.held }
+    pub stands : new ≡ record {
+      live = (e, its) ∷ others e old.live;
+      closed =
+          others e old.closed;
+      held = old.held;
+    }
 
-  -- A datagram is counted, and its time noted, in the exchange that is there, or in one that it begins.
+  -- A datagram is counted, and its time noted, in the exchange of its five-tuple, or in one that it
+  -- begins.
   abbrev pub TakesDatagram : Datagram → Option (Connection T) → Connection T → Type 0
   TakesDatagram d (Some c) its = TakesDatagramIn d c its
   TakesDatagram d None its = (its ≡ begun_by_datagram d its.waiting its.listener) × NoneWaits its
 
-  -- The connection between these ends is another one, in the same place; all others stay.
+  -- Another connection has this five-tuple, in the same position. All others stay.
   abbrev pub with_other : FiveTuple → Connection T → Table T → Table T
   with_other e c t = record t { live = set_value (is_five_tuple e) t.live c }
 
-  -- It stands first.
+  -- It comes first.
   abbrev pub promoting : FiveTuple → Table T → Table T
   promoting e t = record t { live = promoted (is_five_tuple e) t.live }
 
-  -- Of the connection between these ends only counts change, and what waits.
+  -- In the connection of this five-tuple only counts and pending segments change.
   abbrev pub ChangesCountsAt : FiveTuple → Option (Connection T) → Table T → Table T → Type 0
   ChangesCountsAt e None old new = new ≡ old
-  ChangesCountsAt e (Some c) old new = (c' : Connection T) × ChangesCountsAlone c c' × (new ≡ with_other e c' old)
+  ChangesCountsAt e (Some c) old new = (c' : Connection T) × ChangesCountsAlone c c'
+      × (new ≡ with_other e c' old)
 
-  -- A segment that its receiver drops, or that waits, changes no more.
+  -- A dropped or pending segment changes nothing else.
   abbrev pub Drops : Segment → Table T → Table T → Type 0
   Drops s old new = ChangesCountsAt (five_tuple_of s) (at (five_tuple_of s) old.live) old new
 
-  -- A datagram with a wrong checksum is counted in the exchange between its ends.
+  -- A datagram with a wrong checksum is counted in the exchange of its five-tuple.
   abbrev pub DropsDatagramOf : Datagram → Option (Connection T) → Table T → Table T → Type 0
   DropsDatagramOf d None old new = new ≡ old
   DropsDatagramOf d (Some c) old new =
-      new ≡ with_other (five_tuple_of_datagram d) (dropped_from (side_of c d.source) reason.Checksum c) old
+      new ≡ with_other (five_tuple_of_datagram d)
+      (dropped_from (side_of c d.source) reason.Checksum c) old
 
   abbrev pub DropsDatagram : Datagram → Bool → Table T → Table T → Type 0
   DropsDatagram d false old new = new ≡ old
   DropsDatagram d true old new = DropsDatagramOf d (at (five_tuple_of_datagram d) old.live) old new
 
-  -- There is an open connection between the segment's ends, or the segment begins one: behind one that was closed only a SYN does.
+  -- The segment's five-tuple has an open connection, or the segment begins one. After a closed one
+  -- only a SYN does.
   abbrev pub belongs : Segment → Table T → Bool
   belongs s t =
-      is_some (at (five_tuple_of s) t.live) || (begins_one s && (begins s || not (is_some (at (five_tuple_of s) t.closed))))
+      is_some (at (five_tuple_of s) t.live)
+      || (begins_one s && (begins s || not (is_some (at (five_tuple_of s) t.closed))))
 
   abbrev pub closed_behind : Bool → Segment → Table T → List (FiveTuple × ℕ)
-  closed_behind begun s t = without_if (begun && not (is_some (at (five_tuple_of s) t.live))) (five_tuple_of s) t.closed
+  closed_behind begun s t =
+      without_if (begun && not (is_some (at (five_tuple_of s) t.live))) (five_tuple_of s) t.closed
 
   abbrev pub Puts : Bool → Segment → Table T → Table T → Type 0
   Puts true s old new = IsPut (five_tuple_of s) (TakesSegment s) old.live new.live
   Puts false s old new = new ≡ old
 
-  -- The one that was longest without a packet isn't over.
+  -- The longest-idle connection isn't over.
   abbrev pub NoneIsOver : ℕ → List (FiveTuple × Connection T) → Type 0
   NoneIsOver time xs = IfSome (last_entry xs) (λ e. ¬ IsOver time xs e.1.last_time)
 
-  -- Where memory is refused, the bytes are left out of the connection that was there; where there was none, none is begun.
-  abbrev pub LeavesOutAt : Segment → Option (Connection T) → List (FiveTuple × Connection T) → List (FiveTuple × Connection T) → Type 0
+  -- Without memory the bytes are left out of an existing connection, and no connection begins.
+  abbrev pub LeavesOutAt : Segment → Option (Connection T) → List (FiveTuple × Connection T)
+      → List (FiveTuple × Connection T) → Type 0
   LeavesOutAt s None xs ys = ys ≡ xs
-  LeavesOutAt s (Some c) xs ys = (c' : Connection T) × LeavesOut s c c' × (ys ≡ (five_tuple_of s, c') ∷ others (five_tuple_of s) xs)
+  LeavesOutAt s (Some c) xs ys = (c' : Connection T) × LeavesOut s c c'
+      × (ys ≡ (five_tuple_of s, c') ∷ others (five_tuple_of s) xs)
 
-  -- Both sides of the connection between these ends said their last.
+  -- Both sides closed the connection of this five-tuple.
   abbrev pub ended : FiveTuple → Table T → Option (Connection T)
   ended e t = option_and_then (λ c. if is_closed c then Some c else None) (at e t.live)
 
-  -- Another connection stands first, which begins with the segments that this one shows; the one before is taken out, without the SYNs that were
-  -- kept.
+  -- Another connection comes first, which begins with the segments that this one shows. The one
+  -- before is removed, without the SYNs that were kept.
   pub record Replaces (s : Segment) (old new : Table T) (c : Connection T) : Type 0 where
     pub beginning : Beginning
     pub its : Connection T
     pub shows : Shows s beginning
     pub begins : Begins beginning its
     pub was : IfSome (at (five_tuple_of s) old.live) (λ c'. c ≡ record c' { waiting = c.waiting })
-    pub stands : new ≡ record old { live = (five_tuple_of s, its) ∷ others (five_tuple_of s) old.live; held = old.held - c.weight }
+    pub stands : new ≡ record old {
+      live = (five_tuple_of s, its) ∷ others (five_tuple_of s) old.live;
+      held =
+          old.held - c.weight;
+    }
 
   abbrev pub Replaced : Segment → Table T → Table T → Option (Connection T) → Type 0
   Replaced s old new None = new ≡ old
   Replaced s old new (Some c) = Replaces s old new c
 
-  -- The connection between these ends is anew.
+  -- The connection of this five-tuple restarts.
   abbrev pub IsAnewAt : ℕ → FiveTuple → Option (Connection T) → Table T → Table T → Type 0
   IsAnewAt time e None old new = new ≡ old
-  IsAnewAt time e (Some c) old new = (c' : Connection T) × IsAnew time c c' × (new ≡ with_other e c' old)
+  IsAnewAt time e (Some c) old new = (c' : Connection T) × IsAnew time c c'
+      × (new ≡ with_other e c' old)
 
   abbrev pub Restarts : Segment → Table T → Table T → Type 0
   Restarts s old new = IsAnewAt s.time (five_tuple_of s) (at (five_tuple_of s) old.live) old new
 
-  -- Another exchange stands in the place of the one between a datagram's ends.
+  -- Another exchange replaces the one of a datagram's five-tuple.
   abbrev pub BeginsAfter : Datagram → Option (Connection T) → Table T → Table T → Type 0
   BeginsAfter d None old new = new ≡ old
-  BeginsAfter d (Some c) old new = (c' : Connection T) × IsAfter d c c' × (new ≡ record (with_other (five_tuple_of_datagram d) c' old) { held = old.held - c.weight })
+  BeginsAfter d (Some c) old new = (c' : Connection T) × IsAfter d c c'
+      × (new ≡ record (with_other (five_tuple_of_datagram d) c' old) { held = old.held - c.weight })
 
-  -- It stands among those that were closed from then on.
+  -- It counts as closed from then on.
   abbrev pub weight_of : Option (Connection T) → ℕ
   weight_of None = 0
   weight_of (Some c) = c.weight
 
   abbrev pub without_ended : FiveTuple → ℕ → Table T → Table T
   without_ended e time t = if is_some (ended e t)
-      then record { live = others e t.live; closed = (e, time) ∷ others e t.closed; held = t.held - weight_of (at e t.live) } else t
+      then record {
+        live = others e t.live;
+        closed = (e, time) ∷ others e t.closed;
+        held =
+            t.held - weight_of (at e t.live);
+      } else t

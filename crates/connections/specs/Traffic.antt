@@ -1,8 +1,8 @@
--- What a side sent, counted.
+-- Counts of what a side sent.
 use Rattle.std.specs.Prelude.{ℕ, ◌+◌, ◌-◌, ◌^◌, min}
 use Rattle.connections.specs.declared.traffic.Traffic.{Traffic}
 
--- A count with more: it stays where it can't be held.
+-- A count plus more, saturating.
 abbrev pub plus_up_to : ℕ → ℕ → ℕ → ℕ
 plus_up_to most n more = min (n + more) most
 
@@ -13,6 +13,6 @@ plus = plus_up_to (2 ^ 64 - 1)
 abbrev pub nothing_sent : Traffic
 nothing_sent = record { packets = 0; bytes = 0 }
 
--- One more packet, with so many bytes of data.
+-- One more packet, with this many bytes of data.
 abbrev pub with_packet : ℕ → Traffic → Traffic
 with_packet n t = record { packets = plus t.packets 1; bytes = plus t.bytes n }

@@ -1,4 +1,4 @@
-//! A connection in a block of memory of its own.
+//! Heap-allocated connections.
 ghost use Rattle.std.specs.Prelude.{◌≡◌, IfOk};
 ghost use Rattle.std.specs.Borrow.{sem};
 ghost use Rattle.connections.specs.Connection.{Begins};
@@ -8,7 +8,8 @@ use crate::connection::{Beginning, Connection, Listener};
 use std::alloc::{AllocError, Global};
 use std::marker::Model;
 
-/// A connection in a block of its own, so that the table moves a pointer where it would move the connection. A clause sees the connection.
+/// A heap-allocated connection, so that the table moves a pointer instead of the connection. In a
+/// contract its value is the connection.
 #[derive(Drop)]
 pub(crate) struct Boxed<T> {
     block: Box<Connection<T>>,
@@ -23,7 +24,7 @@ impl<T> Model for Boxed<T> {
 }
 
 impl<T: Listener> Boxed<T> {
-    /// `AllocError` where there is no memory for the block.
+    /// Moves a connection to the heap. `AllocError` if there is no memory for it.
     #[inline(always)]
     pub(crate) fn new(alloc: Global, connection: Connection<T>) -> Result<Boxed<T>, AllocError>
         ensures { IfOk result (λ boxed. boxed ≡ connection) }
@@ -32,7 +33,8 @@ impl<T: Listener> Boxed<T> {
         Ok(Boxed { block })
     }
 
-    /// One that began with these segments. `AllocError` where it could not be held.
+    /// Returns a connection that began with these segments. `AllocError` if there is no memory for
+    /// it.
     pub(crate) fn of_beginning(alloc: Global, beginning: &Beginning) -> Result<Boxed<T>, AllocError>
         ensures begun { IfOk result (λ its. Begins beginning.now its) }
         ensures weight { IfOk result (λ its. its.weight ≡ 0) }
@@ -48,7 +50,7 @@ impl<T: Listener> Boxed<T> {
         }
     }
 
-    /// The connection.
+    /// Returns the connection.
     #[inline(always)]
     pub(crate) fn get(&self) -> &Connection<T>
         ensures { result.now ≡ self.now }
@@ -56,7 +58,7 @@ impl<T: Listener> Boxed<T> {
         self.block.as_ref()
     }
 
-    /// The same, to write to.
+    /// Returns the connection for writing.
     #[inline(always)]
     pub(crate) fn get_mut(&mut self) -> &mut Connection<T>
         ensures* writes_back { sem 𝓛 (lends_all T.row self.entry result) }
@@ -65,7 +67,7 @@ impl<T: Listener> Boxed<T> {
         self.block.as_mut()
     }
 
-    /// Its block.
+    /// Returns the box itself.
     #[inline(always)]
     pub(crate) fn into_box(self) -> Box<Connection<T>>
         ensures { result.value ≡ self }

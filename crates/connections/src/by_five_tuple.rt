@@ -1,4 +1,5 @@
-//! A table by the ends of connections, which makes a hash once where the same ends are looked up several times in a row.
+//! A table by five-tuple that hashes once when the same five-tuple is looked up several times in a
+//! row.
 ghost use Rattle.std.specs.Prelude.{◌≡◌, nat_eq};
 ghost use Rattle.std.specs.Ordering.{eq_of_both, on};
 ghost use Rattle.std.proofs.Common.{rules};
@@ -15,14 +16,14 @@ use std::hash::{Hash, Hasher, RandomState};
 use std::marker::Model;
 use std::net::{IpAddr, Ipv4Addr};
 
-/// Ends, with their hash by the keys of a table.
+/// A five-tuple with its hash under a table's keys.
 #[derive(Clone, Copy)]
 struct HashedEnds {
     hash: u64,
     five_tuple: FiveTuple,
 }
 
-// The hash first: it is another one for almost all other ends.
+// The hash is compared first, since it differs for almost all other five-tuples.
 impl PartialEq for HashedEnds {
     ghost eq = { eq_of_both (on (λ e. e.hash) nat_eq) (on (λ e. e.five_tuple) is_five_tuple) };
 
@@ -38,7 +39,7 @@ impl Eq for HashedEnds {
     ghost laws = { Prim.search (same_five_tuples, comparing, rules) };
 }
 
-// The table hashes that number alone: since it is keyed, nobody else can choose it.
+// The table hashes only this number. It is keyed already, so nobody else can choose it.
 impl Hash for HashedEnds {
     ghost use Rattle.std.specs.Hash as fed;
     ghost use Rattle.std.proofs.Common.{rules};
@@ -54,7 +55,7 @@ impl Hash for HashedEnds {
 }
 
 impl HashedEnds {
-    /// These ends with their hash.
+    /// Hashes a five-tuple.
     fn new(keys: HashKeys, five_tuple: &FiveTuple) -> HashedEnds
         ensures { result ≡ hashed_ends keys five_tuple.now }
     {
@@ -64,7 +65,8 @@ impl HashedEnds {
         }
     }
 
-    /// The same: where these are the ends, no hash is made.
+    /// Returns a five-tuple with its hash, which isn't computed again if this is the same
+    /// five-tuple.
     #[inline(always)]
     fn known(&self, keys: HashKeys, five_tuple: &FiveTuple) -> HashedEnds
         requires { IsHashed keys self.now }
@@ -76,7 +78,7 @@ impl HashedEnds {
         HashedEnds::new(keys, five_tuple)
     }
 
-    /// Lets them be these ends with their hash, which is made only where they are others.
+    /// Replaces the five-tuple and its hash. If it is the same one, the hash isn't computed again.
     #[inline(always)]
     fn change_to(&mut self, keys: HashKeys, five_tuple: &FiveTuple)
         requires { IsHashed keys self.old }
@@ -88,11 +90,12 @@ impl HashedEnds {
     }
 }
 
-/// A table by ends, as a [`LruCache`]: the one that was used last stands first. A clause sees that cache, without the hashes.
+/// A table by five-tuple, least recently used last. In a contract its value is a [`LruCache`]
+/// without the hashes.
 #[derive(Drop)]
 pub(crate) struct ByFiveTuple<V> {
     keys: HashKeys,
-    // Those that were looked up last: a packet's ends are looked up several times.
+    // The five-tuple that was looked up last. A packet's is looked up several times.
     latest: HashedEnds,
     table: LruCache<HashedEnds, V>,
 }
@@ -119,11 +122,11 @@ impl<V> ByFiveTuple<V> {
     ghost use Rattle.connections.specs.FiveTuple.{is_five_tuple};
     ghost use Rattle.connections.specs.Lends.{lends_value};
 
-    /// None, and as many as there is memory for. The keys are for the hashes.
+    /// Returns an empty table without a limit but memory. `keys` keys its hashes.
     pub(crate) fn new(alloc: Global, keys: RandomState) -> Result<ByFiveTuple<V>, AllocError>
         ensures { IfOk result (λ table. table ≡ lru_cache [] (2 ^ 64 - 1)) }
     {
-        // (any ends will do until some are looked up)
+        // (a placeholder until the first lookup)
         let nobody = End {
             address: IpAddr::V4(Ipv4Addr::UNSPECIFIED),
             port: 0,
@@ -137,7 +140,7 @@ impl<V> ByFiveTuple<V> {
         })
     }
 
-    /// How many there are.
+    /// Returns the number of entries.
     pub(crate) fn len(&self) -> usize
         ensures len { result ≡ length self.now.entries }
         ensures fits { result < 2 ^ 63 }
@@ -145,7 +148,7 @@ impl<V> ByFiveTuple<V> {
         self.table.len()
     }
 
-    /// The value under these ends.
+    /// Returns the value of a five-tuple. The order of use doesn't change.
     pub(crate) fn peek(&self, five_tuple: &FiveTuple) -> Option<&V>
         ensures { option_copied result ≡ lookup (is_five_tuple five_tuple.now) self.now.entries }
     {
@@ -153,7 +156,7 @@ impl<V> ByFiveTuple<V> {
         self.table.peek(&ends)
     }
 
-    /// Whether there is one.
+    /// Returns whether a five-tuple has a value.
     pub(crate) fn contains(&self, five_tuple: &FiveTuple) -> bool
         ensures { result ≡ is_some (lookup (is_five_tuple five_tuple.now) self.now.entries) }
     {
@@ -161,21 +164,22 @@ impl<V> ByFiveTuple<V> {
         self.table.contains(&ends)
     }
 
-    /// The value under these ends to write to, which stays in its place.
+    /// Returns the value of a five-tuple for writing. The order of use doesn't change.
     pub(crate) fn peek_mut(&mut self, five_tuple: &FiveTuple) -> Option<&mut V>
         ensures* writes_back { sem 𝓛 (lends_value V.row self.entry five_tuple.now self.old.entries result) }
         ensures value { option_copied_mut result ≡ lookup (is_five_tuple five_tuple.now) self.old.entries }
     {
         self.latest.change_to(self.keys, five_tuple);
-        // (a copy, so that the table alone is lent)
+        // (a copy, so that only the table is borrowed)
         let ends = self.latest;
         let value = self.table.peek_mut(&ends)?;
         Some(value)
     }
 
-    /// The same, which stands first then.
+    /// Returns the value of a five-tuple for writing, and makes it the most recently used.
     pub(crate) fn get_mut(&mut self, five_tuple: &FiveTuple) -> Option<&mut V>
-        ensures* writes_back { sem 𝓛 (lends_value V.row self.entry five_tuple.now (promoted (is_five_tuple five_tuple.now) self.old.entries) result) }
+        ensures* writes_back { sem 𝓛 (lends_value V.row self.entry five_tuple.now
+            (promoted (is_five_tuple five_tuple.now) self.old.entries) result) }
         ensures value { option_copied_mut result ≡ lookup (is_five_tuple five_tuple.now) self.old.entries }
     {
         self.latest.change_to(self.keys, five_tuple);
@@ -184,15 +188,16 @@ impl<V> ByFiveTuple<V> {
         Some(value)
     }
 
-    /// Lets what is under these ends stand first.
+    /// Makes a five-tuple the most recently used.
     pub(crate) fn promote(&mut self, five_tuple: &FiveTuple)
-        ensures entries { self.new ≡ lru_cache (promoted (is_five_tuple five_tuple.now) self.old.entries) self.old.cap }
+        ensures entries { self.new ≡ lru_cache (promoted (is_five_tuple five_tuple.now) self.old.entries)
+            self.old.cap }
     {
         self.latest.change_to(self.keys, five_tuple);
         self.table.promote(&self.latest);
     }
 
-    /// The one that stands first.
+    /// Returns the most recently used entry.
     pub(crate) fn peek_mru(&self) -> Option<(&FiveTuple, &V)>
         ensures { option_map deref_pair result ≡ slice_get self.now.entries 0 }
     {
@@ -200,7 +205,7 @@ impl<V> ByFiveTuple<V> {
         Some((&ends.five_tuple, value))
     }
 
-    /// The one that stands last.
+    /// Returns the least recently used entry.
     pub(crate) fn peek_lru(&self) -> Option<(&FiveTuple, &V)>
         ensures { option_map deref_pair result ≡ last_entry self.now.entries }
     {
@@ -208,29 +213,33 @@ impl<V> ByFiveTuple<V> {
         Some((&ends.five_tuple, value))
     }
 
-    /// Takes out what is under these ends.
+    /// Removes a five-tuple and returns its value.
     pub(crate) fn pop(&mut self, five_tuple: &FiveTuple) -> Option<V>
         ensures value { result ≡ lookup (is_five_tuple five_tuple.now) self.old.entries }
-        ensures entries { self.new ≡ lru_cache (remove_entry (is_five_tuple five_tuple.now) self.old.entries) self.old.cap }
+        ensures entries { self.new ≡ lru_cache (remove_entry (is_five_tuple five_tuple.now) self.old.entries)
+            self.old.cap }
     {
         self.latest.change_to(self.keys, five_tuple);
         self.table.pop(&self.latest)
     }
 
-    /// Takes out the one that stands last.
+    /// Removes the least recently used entry and returns it.
     pub(crate) fn pop_lru(&mut self) -> Option<(FiveTuple, V)>
         ensures value { result ≡ last_entry self.old.entries }
-        ensures entries { self.new ≡ lru_cache (take (length self.old.entries - 1) self.old.entries) self.old.cap }
+        ensures entries { self.new ≡ lru_cache (take (length self.old.entries - 1) self.old.entries)
+            self.old.cap }
     {
         let (ends, value) = self.table.pop_lru()?;
         Some((ends.five_tuple, value))
     }
 
-    /// Puts a value under these ends, which stands first then.
+    /// Sets the value of a five-tuple, which becomes the most recently used.
     pub(crate) fn put(&mut self, five_tuple: FiveTuple, value: V) -> Result<(), AllocError>
     where
         V: Drop,
-        ensures entries { OnOk result (self.new ≡ lru_cache (put_entries is_five_tuple self.old five_tuple value) self.old.cap) }
+        ensures entries { OnOk result
+            (self.new ≡ lru_cache (put_entries is_five_tuple self.old five_tuple value)
+            self.old.cap) }
         ensures err { OnErr result (self.new ≡ self.old) }
     {
         self.latest.change_to(self.keys, &five_tuple);

@@ -1,4 +1,4 @@
-//! A connection of TCP, or an exchange over UDP.
+//! A TCP connection or a UDP exchange.
 ghost use Rattle.std.specs.Prelude.{◌≡◌, ◌<◌, ◌≤◌, ◌^◌, IfOk, IfSome, IfNone, OnOk, OnErr, Some, true};
 ghost use Rattle.connections.specs.Connection.{adds_nothing as adds_none, confirms as confirms_answer, counted_from, dropped_from, goes_on_behind, has_opening, held_by, hosts_from as hosts_at, hosts_of, is_closed, judgement_from, judgement_of, last_of, noting_from, part_by, sent_by, side_of, silent, start_of, stream_of, without_bytes, Accepts, ChangesCountsAlone, IsAnew, IsBegunBy, IsKept, LeavesOut, LeavesOutSyn, NoneWaits, Puts, PutsData, PutsSyn, Shows};
 
@@ -12,78 +12,82 @@ use crate::traffic::Traffic;
 use crate::waiting::{Kept, Known, Told, Waiting};
 use std::alloc::{AllocError, Global};
 
-/// A value of a caller that goes with a connection.
+/// A caller's value that goes with a connection.
 pub trait Listener: Drop {
-    /// That of a connection of which nothing came.
+    /// Returns the value for a new connection.
     fn begin(alloc: Global, protocol: Protocol) -> Self;
 
-    /// How many bytes of memory it takes, at most, with itself.
+    /// Returns an upper bound for its memory in bytes, itself included.
     fn capacity(&self) -> usize;
 }
 
-/// Which end sent a packet.
+/// The sender of a packet.
 #[derive(Clone, Copy, Debug, PartialEq, Eq)]
 pub enum Side {
-    /// The one that asked for the connection; where that wasn't captured, the one that sent its first packet.
+    /// The side that asked for the connection. If that wasn't captured, the sender of its first
+    /// packet.
     Originator,
-    /// The other.
+    /// The other side.
     Responder,
 }
 
-/// A connection of TCP, or an exchange of datagrams over UDP, as far as it was captured.
+/// A TCP connection or a UDP exchange, as far as it was captured.
 #[derive(Drop)]
 pub struct Connection<T> {
-    /// What carries it.
+    /// The transport protocol.
     pub protocol: Protocol,
-    /// The end that asked for it; where that wasn't captured, and over UDP, the one that sent its first packet.
+    /// The end that asked for the connection. If that wasn't captured, and over UDP, the sender of
+    /// its first packet.
     pub originator: End,
     /// The other end.
     pub responder: End,
     /// When its first packet was captured, in nanoseconds since 1970-01-01 00:00 UTC.
     pub first_time: u64,
-    /// The same of its last.
+    /// When its last packet was captured, in nanoseconds since 1970-01-01 00:00 UTC.
     pub last_time: u64,
-    // What is known of both ends over TCP.
+    // The TCP state of both ends.
     pub(crate) originator_host: Host,
     pub(crate) responder_host: Host,
-    // Segments of which their receivers' acknowledgements tell whether they were taken; and SYNs, with which another connection between the
-    // same ends may begin.
+    // Pending segments, for which the receiver's acknowledgements will show whether it took them;
+    // and SYNs, with which another connection between the same ends may begin.
     waiting: Waiting,
-    /// What the originator says over TCP.
+    /// The originator's TCP stream.
     pub from_originator: Stream,
-    /// What the responder says over TCP.
+    /// The responder's TCP stream.
     pub from_responder: Stream,
-    /// What the originator sent, and the responder took.
+    /// What the originator sent and the responder took.
     pub originator_sent: Traffic,
-    /// What the responder sent, and the originator took.
+    /// What the responder sent and the originator took.
     pub responder_sent: Traffic,
-    /// What the originator sent over TCP, and the responder took nothing of.
+    /// What the originator sent over TCP and the responder dropped.
     pub originator_dropped: Dropped,
-    /// What the responder sent over TCP, and the originator took nothing of.
+    /// What the responder sent over TCP and the originator dropped.
     pub responder_dropped: Dropped,
-    // For how many bytes of memory it is accounted in its table.
+    // The memory that the table accounts for it, in bytes.
     pub(crate) weight: usize,
-    /// The caller's own.
+    /// The caller's value.
     pub listener: T,
 }
 
-/// The segments with which a connection began: the SYN and the answer to it, or the one of them that was captured.
+/// The segments with which a connection began: the SYN and the SYN-ACK, or the one of them that was
+/// captured.
 #[derive(Clone, Copy)]
 pub(crate) struct Beginning {
-    /// The first one.
+    /// The first segment.
     pub(crate) first: Segment<'static>,
-    /// The answer to it.
+    /// The SYN-ACK behind it.
     pub(crate) answer: Option<Segment<'static>>,
 }
 
-/// What a connection takes besides its listener and what it holds, in bytes, at most: its fields, its entry in the table with the entry's share of a map that
-/// grows, and what the allocator takes for the block of each.
+/// An upper bound for a connection's memory besides its listener and its buffers, in bytes: its
+/// fields, its table entry with a share of a growing map, and the allocator's overhead for both.
 pub const CONNECTION_COST: usize = 1024;
 
-/// How far numbers of one connection may lie apart, at most, so that another isn't seen in them.
+/// How far sequence numbers of one connection may be apart. Beyond that they may be another
+/// connection's.
 const FAR: u32 = 0x1_0000;
 
-/// Whether a number lies far from one that is known.
+/// Returns whether a number is far from a known one.
 fn is_far(known: Option<u32>, number: u32) -> bool {
     match known {
         Some(other) => number.wrapping_sub(other) > FAR && other.wrapping_sub(number) > FAR,
@@ -91,21 +95,22 @@ fn is_far(known: Option<u32>, number: u32) -> bool {
     }
 }
 
-/// What a connection is to a segment between its ends.
+/// What a segment means for the connection between its ends.
 #[derive(Clone, Copy, Debug, PartialEq, Eq)]
 pub struct Verdict {
     /// What the segment's receiver does with it.
     pub judgement: Judgement,
     /// Whether it shows that another connection between the same ends began.
     pub begins_another: bool,
-    /// Whether others wait, of which it may tell that its sender took them.
+    /// Whether segments are pending that it may acknowledge.
     pub tells: bool,
-    /// Whether it shows that all that came before had a wrong checksum, so that nobody took it.
+    /// Whether it shows that everything before it had a wrong checksum, so that nobody took it.
     pub shows_damage: bool,
 }
 
 impl Verdict {
-    /// Whether the segment's receiver takes it, or has it, and nothing is to be done before.
+    /// Returns whether the receiver takes the segment or already has it, and nothing has to be done
+    /// first.
     fn lets_in(&self) -> bool
         ensures { result ≡ true → IsKept self.now.judgement }
     {
@@ -116,12 +121,12 @@ impl Verdict {
     }
 }
 
-/// Whether a SYN with ACK answers this SYN.
+/// Returns whether a SYN-ACK answers this SYN.
 fn answers_this(answering: &Segment<'_>, asking: &Segment<'_>) -> bool {
     answering.source == asking.destination && answering.acknowledgment == asking.first()
 }
 
-/// Whether a segment goes on behind a SYN of its sender's.
+/// Returns whether a segment follows its sender's SYN directly.
 fn is_first_behind(segment: &Segment<'_>, asking: &Segment<'_>) -> bool
     ensures { result ≡ goes_on_behind segment.now asking.now }
 {
@@ -131,7 +136,7 @@ fn is_first_behind(segment: &Segment<'_>, asking: &Segment<'_>) -> bool
         && segment.sequence == asking.first()
 }
 
-/// Whether a segment shows that its sender takes the answer to its SYN.
+/// Returns whether a segment shows that its sender accepted the SYN-ACK `answering`.
 fn confirms(segment: &Segment<'_>, answering: &Segment<'_>) -> bool
     ensures { result ≡ confirms_answer segment.now answering.now }
 {
@@ -143,7 +148,7 @@ fn confirms(segment: &Segment<'_>, answering: &Segment<'_>) -> bool
 }
 
 impl<T: Listener> Connection<T> {
-    /// One of which nothing came, between these ends.
+    /// Returns a new connection between these ends.
     pub(crate) fn new(
         alloc: Global,
         protocol: Protocol,
@@ -174,7 +179,8 @@ impl<T: Listener> Connection<T> {
         }
     }
 
-    /// One that this segment begins; it is not put into a stream. Who answers is the responder.
+    /// Returns a connection that begins with this segment, whose data isn't added yet. The sender
+    /// of a SYN-ACK is the responder.
     pub(crate) fn of_segment(alloc: Global, segment: &Segment<'_>) -> Connection<T>
         ensures { IsBegunBy segment.now result }
     {
@@ -186,14 +192,14 @@ impl<T: Listener> Connection<T> {
         Connection::new(alloc, Protocol::Tcp, originator, responder, segment.time)
     }
 
-    /// Whether a SYN of it was captured.
+    /// Returns whether a SYN of the connection was captured.
     pub fn has_opening(&self) -> bool
         ensures { result ≡ has_opening self.now }
     {
         self.originator_host.first.is_some() || self.responder_host.first.is_some()
     }
 
-    /// Which side a sender of its packets is.
+    /// Returns the side of a packet's sender.
     #[inline(always)]
     pub fn side_of(&self, sender: End) -> Side
         ensures { result ≡ side_of self.now sender }
@@ -205,7 +211,7 @@ impl<T: Listener> Connection<T> {
         }
     }
 
-    /// What that side says over TCP.
+    /// Returns a side's TCP stream.
     pub fn stream(&self, side: Side) -> &Stream
         ensures { result.now ≡ stream_of side self.now }
     {
@@ -215,7 +221,7 @@ impl<T: Listener> Connection<T> {
         }
     }
 
-    /// What that side sent.
+    /// Returns what a side sent.
     pub fn sent(&self, side: Side) -> Traffic
         ensures { result ≡ sent_by side self.now }
     {
@@ -225,7 +231,7 @@ impl<T: Listener> Connection<T> {
         }
     }
 
-    /// What is known of the end of that side, and of the other.
+    /// Returns the states of a side's end and of the other end.
     pub(crate) fn hosts_from(&self, side: Side) -> (&Host, &Host)
         ensures { (result.0.now, result.1.now) ≡ hosts_at side self.now }
     {
@@ -235,21 +241,21 @@ impl<T: Listener> Connection<T> {
         }
     }
 
-    /// What is known of the sender of a segment, and of its receiver.
+    /// Returns the states of a segment's sender and of its receiver.
     fn hosts(&self, segment: &Segment<'_>) -> (&Host, &Host)
         ensures { (result.0.now, result.1.now) ≡ hosts_of segment.now self.now }
     {
         self.hosts_from(self.side_of(segment.source))
     }
 
-    /// What the receiver of a segment does with it.
+    /// Returns what the receiver of a segment does with it.
     pub(crate) fn judge(&self, segment: &Segment<'_>) -> Judgement
         ensures { result ≡ judgement_of segment.now self.now }
     {
         self.judge_from(self.side_of(segment.source), segment)
     }
 
-    /// The same of a segment of that side.
+    /// Returns what the receiver of this side's segment does with it.
     fn judge_from(&self, side: Side, segment: &Segment<'_>) -> Judgement
         ensures { result ≡ judgement_from side segment.now self.now }
     {
@@ -257,8 +263,9 @@ impl<T: Listener> Connection<T> {
         judge(sender, receiver, self.stream(side).front(), segment)
     }
 
-    /// Whether what a segment acknowledges counts: its receiver takes it; or it acknowledges, without data, what its receiver isn't known to have sent, and is
-    /// no old one.
+    /// Returns whether a segment's acknowledgement counts for pending segments. It does if the
+    /// receiver takes the segment, or if the segment isn't old, and without data acknowledges what
+    /// the receiver isn't known to have sent.
     fn is_heeded(&self, segment: &Segment<'_>, judgement: Judgement) -> bool {
         let (sender, receiver) = self.hosts(segment);
         let is_new = judgement == Judgement::Taken
@@ -268,7 +275,7 @@ impl<T: Listener> Connection<T> {
         segment.acknowledges() && is_new
     }
 
-    /// What the connection is to a segment of that side.
+    /// Returns what this side's segment means for the connection.
     fn verdict_from(&self, side: Side, segment: &Segment<'_>) -> Verdict
         ensures judgement { result.judgement ≡ judgement_from side segment.now self.now }
     {
@@ -282,13 +289,14 @@ impl<T: Listener> Connection<T> {
         }
     }
 
-    /// Whether the numbers of a segment are none of this connection: they lie far from those that came.
+    /// Returns whether a segment's numbers are far from this connection's, so that it may be
+    /// another's.
     fn is_apart(&self, segment: &Segment<'_>) -> bool {
         let (sender, receiver) = self.hosts(segment);
         is_far(sender.next, segment.sequence) || is_far(receiver.next, segment.acknowledgment)
     }
 
-    /// With which segments a connection began to which this one is an answer.
+    /// Returns the segments with which another connection began, by its SYN-ACK.
     fn beginning(&self, answering: &Segment<'static>) -> Beginning
         ensures { last_of result.first result.answer ≡ answering.now }
     {
@@ -304,8 +312,9 @@ impl<T: Listener> Connection<T> {
         }
     }
 
-    /// The segments with which another connection between the same ends began, where this one shows that: its sender takes the answer to a SYN,
-    /// or goes on behind a SYN whose receiver wasn't captured.
+    /// Returns the segments with which another connection between the same ends began, if this
+    /// segment shows one. It does if its sender accepts a SYN-ACK, or continues behind a SYN whose
+    /// receiver wasn't captured.
     pub(crate) fn another(&self, segment: &Segment<'_>) -> Option<Beginning>
         ensures { IfSome result (λ beginning. Shows segment.now beginning) }
     {
@@ -324,13 +333,15 @@ impl<T: Listener> Connection<T> {
         }
     }
 
-    /// Whether it shows that. A call of its own, since its segments are much to make room for, which few packets need.
+    /// Returns whether a segment shows that another connection began. (Not inlined: the segments
+    /// need much stack, and few packets get here.)
     #[inline(never)]
     fn shows_another(&self, segment: &Segment<'_>) -> bool {
         self.another(segment).is_some()
     }
 
-    /// Whether a segment goes on behind a SYN of its sender's, of whose receiver nothing was captured.
+    /// Returns whether a segment continues behind its sender's SYN, and nothing of the receiver was
+    /// captured.
     fn goes_on_alone(&self, segment: &Segment<'_>, asking: &Segment<'_>) -> bool
         ensures { result ≡ true → goes_on_behind segment.now asking.now ≡ true }
     {
@@ -338,8 +349,8 @@ impl<T: Listener> Connection<T> {
         receiver.next.is_none() && sender.next.is_some() && is_first_behind(segment, asking)
     }
 
-    /// Whether a packet of that side shows by its checksum that all that came before was damaged: none of it is of the other end, and none had a right
-    /// one.
+    /// Returns whether this side's packet shows by its checksum that everything before it was
+    /// damaged: all of it came from this side, and none had a correct checksum.
     #[inline(always)]
     pub(crate) fn shows_damage(&self, side: Side, checksum: Checksum) -> bool {
         let (host, other) = match side {
@@ -349,7 +360,8 @@ impl<T: Listener> Connection<T> {
         host.is_damaged() && checksum != Checksum::Wrong && other.packets == 0
     }
 
-    /// The connection anew, of which nobody took what came before: that is counted. What it is accounted for stays.
+    /// Restarts the connection, since nobody took what came before. That is counted; the accounted
+    /// memory stays.
     pub(crate) fn restart(&mut self, alloc: Global, time: u64)
         ensures { IsAnew time self.old self.new }
     {
@@ -372,14 +384,14 @@ impl<T: Listener> Connection<T> {
         *self = fresh;
     }
 
-    /// Lets the SYNs go with which another connection began.
+    /// Removes the SYNs of another connection that began.
     pub(crate) fn forget_syns(&mut self)
         ensures { self.new ≡ record self.old { waiting = self.new.waiting } }
     {
         self.waiting.forget_syns();
     }
 
-    /// Counts a packet of which its receiver takes nothing.
+    /// Counts a packet that its receiver drops.
     pub(crate) fn count_dropped(&mut self, side: Side, reason: Reason)
         ensures { self.new ≡ dropped_from side reason self.old }
     {
@@ -389,7 +401,8 @@ impl<T: Listener> Connection<T> {
         }
     }
 
-    /// Counts a segment of which its receiver takes nothing. A SYN is kept: another connection may begin with it.
+    /// Counts a segment that its receiver drops. A SYN is kept, since another connection may begin
+    /// with it.
     pub(crate) fn drop_segment(
         &mut self,
         alloc: Global,
@@ -409,7 +422,8 @@ impl<T: Listener> Connection<T> {
         Ok(())
     }
 
-    /// Keeps a segment until its receiver tells whether it took it; where too many wait, it counts as dropped for that reason.
+    /// Keeps a segment as pending until its receiver shows whether it took it. If too many are
+    /// pending, it counts as dropped for this reason.
     pub(crate) fn wait(
         &mut self,
         alloc: Global,
@@ -426,7 +440,8 @@ impl<T: Listener> Connection<T> {
         Ok(())
     }
 
-    /// Keeps the data of a SYN that its receiver took, until that tells whether it took these too. That of a SYN that it had isn't asked for.
+    /// Keeps the data of a SYN that its receiver took as pending, until the receiver acknowledges
+    /// the data too. That of a retransmitted SYN isn't kept.
     fn keep_data_of_syn(
         &mut self,
         alloc: Global,
@@ -442,13 +457,14 @@ impl<T: Listener> Connection<T> {
         Ok(())
     }
 
-    /// The number behind all that came in order of a segment's sender; that of the segment, where none is known.
+    /// Returns the number behind all in-order data of a segment's sender, or the segment's first
+    /// number if none is known.
     fn reached_at(&self, segment: &Segment<'_>) -> u32 {
         let front = self.stream(self.side_of(segment.source)).front();
         front.reached.unwrap_or(segment.first())
     }
 
-    /// What is known as a segment comes.
+    /// Returns what is known when a segment arrives that may acknowledge pending ones.
     fn known_at(&self, segment: &Segment<'_>) -> Known {
         let (sender, receiver) = self.hosts(segment);
         Known {
@@ -459,7 +475,7 @@ impl<T: Listener> Connection<T> {
         }
     }
 
-    /// Lets those go that wait and that a segment shows to be forged, which its receiver takes.
+    /// Drops the pending segments that a segment shows to be forged, when its receiver takes it.
     fn forget_belied(&mut self, segment: &Segment<'_>)
         ensures { ChangesCountsAlone self.old self.new }
     {
@@ -481,8 +497,8 @@ impl<T: Listener> Connection<T> {
         }
     }
 
-    /// Takes out a segment that waited until its receiver, the sender of this one, acknowledged it. One of which all bytes came otherwise counts as
-    /// dropped.
+    /// Removes a pending segment that this segment acknowledges, and returns it. If all its bytes
+    /// arrived otherwise, it counts as dropped.
     pub(crate) fn take_waiting(&mut self, segment: &Segment<'_>) -> Option<Told>
         ensures { ChangesCountsAlone self.old self.new }
     {
@@ -504,7 +520,7 @@ impl<T: Listener> Connection<T> {
         Some(Told::Had)
     }
 
-    /// Whether bytes of a segment that waited are missing in its sender's stream, in front of a FIN.
+    /// Returns whether bytes of a pending segment are missing in its sender's stream, before a FIN.
     fn lacks(&self, kept: &Kept) -> bool {
         let segment = kept.segment();
         self.stream(self.side_of(segment.source))
@@ -512,7 +528,7 @@ impl<T: Listener> Connection<T> {
             && !is_behind_fin(self.hosts(&segment).0, &segment)
     }
 
-    /// What that side sent over TCP, and the other took nothing of; with it what waits.
+    /// Returns what a side sent over TCP and the other side dropped, pending segments included.
     pub fn dropped(&self, side: Side) -> Dropped {
         let (mut dropped, end) = match side {
             Side::Originator => (self.originator_dropped, self.originator),
@@ -522,7 +538,9 @@ impl<T: Listener> Connection<T> {
         dropped
     }
 
-    /// Where the stream of a segment's sender begins, if nothing of it came before: behind the SYN, or with what its receiver waits for.
+    /// Returns where the stream of a segment's sender begins if nothing of it came before: behind
+    /// the SYN, or else at the later of the receiver's acknowledgement and the segment's first
+    /// number. `None` if neither is known to be its beginning.
     fn start(receiver: &Host, segment: &Segment<'_>) -> Option<u32>
         ensures { result ≡ start_of receiver.now segment.now }
     {
@@ -536,7 +554,8 @@ impl<T: Listener> Connection<T> {
         }
     }
 
-    /// Notes what a segment of that side says of its sender, unless the receiver has all of it.
+    /// Updates the sender's state by this side's segment, unless the receiver has all of it
+    /// already.
     fn note(&mut self, side: Side, segment: &Segment<'_>, judgement: Judgement)
         ensures noted { self.new ≡ noting_from side judgement segment.now self.old }
         ensures weight { self.new.weight ≡ self.old.weight }
@@ -561,7 +580,7 @@ impl<T: Listener> Connection<T> {
         }
     }
 
-    /// Puts a segment's bytes into its sender's stream; those of a SYN wait.
+    /// Adds a segment's bytes to its sender's stream. Those of a SYN become pending.
     fn put(&mut self, alloc: Global, segment: &Segment<'_>) -> Result<(), AllocError>
         ensures taken { OnOk result (Puts segment.now self.old self.new) }
         ensures left_out { OnErr result (self.new ≡ without_bytes segment.now self.old) }
@@ -585,7 +604,7 @@ impl<T: Listener> Connection<T> {
         }
     }
 
-    /// Counts a segment of that side, and notes its time.
+    /// Counts this side's segment, and notes its time.
     fn count(&mut self, side: Side, segment: &Segment<'_>)
         ensures counted { self.new ≡ counted_from side segment.now self.old }
         ensures weight { self.new.weight ≡ self.old.weight }
@@ -597,8 +616,9 @@ impl<T: Listener> Connection<T> {
         }
     }
 
-    /// Puts the segment into its sender's stream, counts it, and notes what it says of its sender. `AllocError` where its bytes could not be
-    /// held: they are left out.
+    /// Adds the segment to its sender's stream, counts it, and updates its sender's state.
+    ///
+    /// `AllocError` if there is no memory for its bytes. They are left out then.
     pub fn accept(&mut self, alloc: Global, segment: &Segment<'_>) -> Result<(), AllocError>
         ensures taken { OnOk result (Accepts segment.now self.old self.new) }
         ensures left_out { OnErr result (LeavesOut segment.now self.old self.new) }
@@ -609,15 +629,19 @@ impl<T: Listener> Connection<T> {
         self.accept_judged(alloc, side, segment, judgement)
     }
 
-    /// The same where the segment's receiver takes it, or has it, and nothing is to be done before; else the connection stays as it is, and `Some` says
-    /// what it is to the segment.
+    /// Accepts the segment, as [`Connection::accept`] does, if its receiver takes or already has it
+    /// and nothing has to be done first. Otherwise the connection doesn't change, and `Some` is the
+    /// segment's verdict.
     pub fn accept_or_tell(
         &mut self,
         alloc: Global,
         segment: &Segment<'_>,
     ) -> Result<Option<Verdict>, AllocError>
-        ensures taken { IfOk result (λ told. IfNone told (IsKept (judgement_of segment.now self.old) × Accepts segment.now self.old self.new)) }
-        ensures judged { IfOk result (λ told. IfSome told (λ verdict. verdict.judgement ≡ judgement_of segment.now self.old)) }
+        ensures taken { IfOk result
+            (λ told. IfNone told
+            (IsKept (judgement_of segment.now self.old) × Accepts segment.now self.old self.new)) }
+        ensures judged { IfOk result
+            (λ told. IfSome told (λ verdict. verdict.judgement ≡ judgement_of segment.now self.old)) }
         ensures stays { IfOk result (λ told. IfSome told (λ verdict. self.new ≡ self.old)) }
         ensures left_out { OnErr result (LeavesOut segment.now self.old self.new) }
         ensures weight { self.new.weight ≡ self.old.weight }
@@ -631,7 +655,7 @@ impl<T: Listener> Connection<T> {
         Ok(None)
     }
 
-    /// Puts the segment of that side into its stream by what its receiver does with it.
+    /// Accepts this side's segment by what its receiver does with it.
     fn accept_judged(
         &mut self,
         alloc: Global,
@@ -653,14 +677,16 @@ impl<T: Listener> Connection<T> {
         self.put_part(alloc, segment, judgement)
     }
 
-    /// Puts what a segment adds into its sender's stream.
+    /// Adds a segment's new bytes to its sender's stream.
     fn put_part(
         &mut self,
         alloc: Global,
         segment: &Segment<'_>,
         judgement: Judgement,
     ) -> Result<(), AllocError>
-        ensures taken { OnOk result (PutsData (adds_none judgement segment.now) (part_by judgement segment.now) self.old self.new) }
+        ensures taken { OnOk result
+            (PutsData (adds_none judgement segment.now) (part_by judgement segment.now) self.old
+            self.new) }
         ensures left_out { OnErr result (self.new ≡ without_bytes (part_by judgement segment.now) self.old) }
         ensures weight { self.new.weight ≡ self.old.weight }
     {
@@ -673,7 +699,7 @@ impl<T: Listener> Connection<T> {
         }
     }
 
-    /// Begins the sender's stream behind its SYN, and keeps the SYN's data.
+    /// Begins the sender's stream behind its SYN. The SYN's data becomes pending.
     fn put_syn(
         &mut self,
         alloc: Global,
@@ -688,7 +714,7 @@ impl<T: Listener> Connection<T> {
         self.put(alloc, &segment.without_data())
     }
 
-    /// Puts a segment that waited into its sender's stream; the data of a SYN was counted with it.
+    /// Adds a pending segment to its sender's stream. A SYN's data was counted with the SYN.
     pub(crate) fn accept_kept(&mut self, alloc: Global, kept: &Kept) -> Result<(), AllocError>
         ensures { self.new.weight ≡ self.old.weight }
     {
@@ -699,7 +725,7 @@ impl<T: Listener> Connection<T> {
         self.accept(alloc, &kept.segment())
     }
 
-    /// How many bytes of memory it takes, at most: its streams hold no more.
+    /// Returns an upper bound for the connection's memory in bytes, its streams included.
     fn capacity(&self) -> usize
         ensures { held_by self.now < 2 ^ 64 → held_by self.now ≤ result }
     {
@@ -715,12 +741,12 @@ impl<T: Listener> Connection<T> {
         streams.saturating_add(others)
     }
 
-    /// Whether it is accounted for what it takes.
+    /// Returns whether the table accounts for the memory that it takes.
     pub fn is_settled(&self) -> bool {
         self.weight == self.capacity()
     }
 
-    /// Lets it be accounted for what it takes, as far as there is room.
+    /// Updates the memory that the table accounts for it, up to `room`.
     pub(crate) fn settle(&mut self, room: usize)
         ensures settled { self.new ≡ record self.old { weight = self.new.weight } }
         ensures within { self.new.weight ≤ room }
@@ -729,7 +755,8 @@ impl<T: Listener> Connection<T> {
         self.weight = self.capacity().min(room);
     }
 
-    /// Whether it is over: one side broke it off, or both said their last, and each has that of the other.
+    /// Returns whether it is closed: one side sent RST, or both sent all their data and FIN, and
+    /// each acknowledged the other's FIN.
     pub fn is_closed(&self) -> bool
         ensures { result ≡ is_closed self.now }
     {

@@ -1,29 +1,29 @@
-//! A datagram of UDP.
+//! UDP datagrams.
 ghost use Rattle.std.specs.Prelude.{◌≡◌};
 ghost use Rattle.connections.specs.Datagram.{five_tuple_of_datagram};
 
 use crate::five_tuple::{End, FiveTuple, Protocol};
 use crate::segment::Checksum;
 
-/// A datagram of UDP as it was captured (RFC 768).
+/// A captured UDP datagram (RFC 768).
 #[derive(Clone, Copy, Debug)]
 pub struct Datagram<'a> {
-    /// When, in nanoseconds since 1970-01-01 00:00 UTC.
+    /// The capture time, in nanoseconds since 1970-01-01 00:00 UTC.
     pub time: u64,
-    /// The number of the network that it came in; 0 where networks aren't told apart.
+    /// The number of the packet's network; 0 if networks aren't told apart.
     pub network: u64,
-    /// Who sent it.
+    /// The sender.
     pub source: End,
-    /// To whom.
+    /// The receiver.
     pub destination: End,
-    /// What its checksum is, or that of the datagram of IP that holds it.
+    /// The result for its checksum and that of the IP header.
     pub checksum: Checksum,
     /// The data.
     pub payload: &'a [u8],
 }
 
 impl<'a> Datagram<'a> {
-    /// Between whom it goes, and in which network.
+    /// Returns the five-tuple.
     pub fn between(&self) -> FiveTuple
         ensures { result ≡ five_tuple_of_datagram self.now }
     {

@@ -1,4 +1,4 @@
-//! The packets of which their receiver took nothing, counted.
+//! Counts of dropped packets.
 ghost use Rattle.std.specs.Prelude.{◌≡◌};
 ghost use Rattle.connections.specs.Dropped.{none_dropped, has_reason, with_damaged, with_dropped};
 
@@ -7,7 +7,7 @@ use crate::receiver::Reason;
 /// How many packets of a side its receiver dropped, and why.
 #[derive(Clone, Copy, Debug, PartialEq, Eq)]
 pub struct Dropped {
-    /// How many; a count that can't be held in 64 bits stays at the most that can.
+    /// The number of packets; it saturates at 2^64 - 1.
     pub packets: u64,
     checksum: bool,
     no_ack: bool,
@@ -21,7 +21,7 @@ pub struct Dropped {
 }
 
 impl Dropped {
-    /// None.
+    /// Returns the count of nothing.
     pub(crate) fn new() -> Dropped
         ensures { result ≡ none_dropped }
     {
@@ -39,7 +39,7 @@ impl Dropped {
         }
     }
 
-    /// One more, for that reason.
+    /// Counts one packet, dropped for this reason.
     pub(crate) fn add(&mut self, reason: Reason)
         ensures { self.new ≡ with_dropped reason self.old }
     {
@@ -57,7 +57,7 @@ impl Dropped {
         }
     }
 
-    /// So many more with a wrong checksum.
+    /// Counts this many packets with a wrong checksum.
     pub(crate) fn add_damaged(&mut self, packets: u64)
         ensures { self.new ≡ with_damaged packets self.old }
     {
@@ -67,7 +67,7 @@ impl Dropped {
         }
     }
 
-    /// Whether one was dropped for that reason.
+    /// Returns whether a packet was dropped for this reason.
     pub fn has(&self, reason: Reason) -> bool
         ensures { result ≡ has_reason self.now reason }
     {

@@ -1,4 +1,4 @@
-//! An exchange of datagrams over UDP: a connection whose packets have no numbers.
+//! UDP exchanges: connections whose packets have no sequence numbers.
 ghost use Rattle.std.specs.Prelude.{◌≡◌};
 ghost use Rattle.connections.specs.declared.receiver.Reason.TheVariants as reason;
 ghost use Rattle.connections.specs.Connection.{begun_by_datagram, dropped_from, is_datagram_damaged, side_of, with_datagram, IsAfter, NoneWaits, TakesDatagramIn};
@@ -11,7 +11,7 @@ use crate::receiver::{Reason, is_damaged};
 use std::alloc::Global;
 
 impl<T: Listener> Connection<T> {
-    /// One that this datagram begins.
+    /// Returns an exchange that begins with this datagram.
     pub(crate) fn of_datagram(alloc: Global, datagram: &Datagram<'_>) -> Connection<T>
         ensures begun { result ≡ begun_by_datagram datagram.now result.waiting result.listener }
         ensures waits { NoneWaits result }
@@ -28,7 +28,8 @@ impl<T: Listener> Connection<T> {
         exchange
     }
 
-    /// Another exchange between the same ends, which this datagram begins; it is not counted. What the checksums of both ends are stays known.
+    /// Returns another exchange between the same ends, which this datagram begins. It isn't counted
+    /// yet. What is known about both ends' checksums stays.
     pub(crate) fn after(&self, alloc: Global, datagram: &Datagram<'_>) -> Connection<T>
         ensures { IsAfter datagram.now self.now result }
     {
@@ -45,7 +46,7 @@ impl<T: Listener> Connection<T> {
         exchange
     }
 
-    /// Whether a checksum of the datagram is wrong, as it arrives.
+    /// Returns whether the datagram's checksum counts as wrong.
     pub fn is_damaged(&self, datagram: &Datagram<'_>) -> bool
         ensures { result ≡ is_datagram_damaged datagram.now self.now }
     {
@@ -53,14 +54,15 @@ impl<T: Listener> Connection<T> {
         is_damaged(sender, receiver, datagram.checksum, datagram.payload.len())
     }
 
-    /// Counts a datagram of which its receiver takes nothing, since a checksum is wrong.
+    /// Counts a datagram that its receiver drops for a wrong checksum.
     pub fn drop_datagram(&mut self, datagram: &Datagram<'_>)
-        ensures { self.new ≡ dropped_from (side_of self.old datagram.now.source) reason.Checksum self.old }
+        ensures { self.new ≡ dropped_from (side_of self.old datagram.now.source)
+            reason.Checksum self.old }
     {
         self.count_dropped(self.side_of(datagram.source), Reason::Checksum);
     }
 
-    /// Notes the datagram's time, and counts it.
+    /// Counts the datagram, and notes its time.
     pub(crate) fn accept_datagram(&mut self, datagram: &Datagram<'_>)
         ensures counted { self.new ≡ with_datagram datagram.now self.old }
         ensures weight { self.new.weight ≡ self.old.weight }
@@ -80,7 +82,8 @@ impl<T: Listener> Connection<T> {
         }
     }
 
-    /// The same, anew where the datagram shows that all before it was damaged.
+    /// Counts the datagram, and notes its time. If it shows that everything before it was damaged,
+    /// the exchange restarts first.
     pub fn take_datagram(&mut self, alloc: Global, datagram: &Datagram<'_>)
         ensures taken { TakesDatagramIn datagram.now self.old self.new }
         ensures weight { self.new.weight ≡ self.old.weight }

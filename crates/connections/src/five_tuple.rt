@@ -1,4 +1,4 @@
-//! The two ends of a connection.
+//! The five-tuple of a connection.
 ghost use Rattle.std.specs.Prelude.{◌≡◌, ◌++◌, nat_eq};
 ghost use Rattle.std.specs.Ordering.{eq_of_both, on};
 ghost use Rattle.std.specs.contracts.net.ip_addr.IpAddrEq.TheImpl.Laws.{laws-law as same_addresses};
@@ -11,7 +11,7 @@ use crate::words::{address_bits, block, both_bits, port_bits};
 use std::hash::{Hash, Hasher};
 use std::net::IpAddr;
 
-/// What carries a connection.
+/// A transport protocol.
 #[derive(Clone, Copy, Debug, PartialEq, Eq)]
 pub enum Protocol {
     /// TCP (RFC 9293).
@@ -23,13 +23,13 @@ pub enum Protocol {
 /// One end of a connection.
 #[derive(Clone, Copy, Debug, PartialOrd, Ord)]
 pub struct End {
-    /// Its address.
+    /// The address.
     pub address: IpAddr,
-    /// Its port.
+    /// The port.
     pub port: u16,
 }
 
-/// Whether two rows of four octets are the same.
+/// Returns whether four octets are equal.
 #[inline(always)]
 fn same_octets(one: [u8; 4], other: [u8; 4]) -> bool
     ensures { result ≡ pointwise nat_eq one other }
@@ -39,7 +39,8 @@ fn same_octets(one: [u8; 4], other: [u8; 4]) -> bool
     a == e && b == f && c == g && d == h
 }
 
-/// Whether two addresses are the same: the four octets of IPv4 are compared at once, and in no loop.
+/// Returns whether two addresses are equal. The octets of IPv4 are compared at once, without a
+/// loop.
 #[inline(always)]
 fn same_address(one: &IpAddr, other: &IpAddr) -> bool
     ensures { result ≡ is_address one.now other.now }
@@ -50,7 +51,7 @@ fn same_address(one: &IpAddr, other: &IpAddr) -> bool
     }
 }
 
-// Each packet's ends are compared several times.
+// By hand for speed: each packet's ends are compared several times.
 impl PartialEq for End {
     ghost eq = { eq_of_both (on (λ e. e.address) is_address) (on (λ e. e.port) nat_eq) };
 
@@ -66,7 +67,7 @@ impl Eq for End {
     ghost laws = { Prim.search (same_addresses, comparing, rules) };
 }
 
-/// Between whom packets go, and in which network: both directions have the same.
+/// A five-tuple, the same for both directions, with the number of the network.
 #[derive(Clone, Copy, Debug)]
 pub struct FiveTuple {
     pub(crate) network: u64,
@@ -75,14 +76,15 @@ pub struct FiveTuple {
     pub(crate) upper: End,
 }
 
-// As ends are: for each packet.
+// By hand for speed, as for ends: five-tuples are compared for each packet.
 impl PartialEq for FiveTuple {
     ghost use Rattle.connections.specs.contracts.five_tuple.EndPartialEq.TheImpl as end_eq;
     ghost use Rattle.connections.specs.contracts.five_tuple.EndEq.TheImpl.Laws.{laws-law as same_ends};
     ghost use Rattle.connections.specs.contracts.five_tuple.ProtocolPartialEq.TheImpl as protocol_eq;
     ghost use Rattle.connections.specs.contracts.five_tuple.ProtocolEq.TheImpl.Laws.{laws-law as same_protocols};
 
-    ghost eq = { eq_of_both (on (λ e. e.network) nat_eq) (eq_of_both (on (λ e. e.protocol) protocol_eq.ghosts.eq)
+    ghost eq = { eq_of_both (on (λ e. e.network) nat_eq)
+        (eq_of_both (on (λ e. e.protocol) protocol_eq.ghosts.eq)
         (eq_of_both (on (λ e. e.lower) end_eq.ghosts.eq) (on (λ e. e.upper) end_eq.ghosts.eq))) };
 
     ghost laws = { Prim.search (same_ends, same_protocols, comparing, rules) depth 8 };
@@ -105,7 +107,8 @@ impl Eq for FiveTuple {
 impl FiveTuple {
     ghost use Rattle.connections.specs.FiveTuple.{five_tuple_between};
 
-    /// Those of the packets that the two send each other by that protocol, in the network of that number.
+    /// Returns the five-tuple of the packets between two ends, by this protocol and in the network
+    /// of this number.
     pub fn between(network: u64, protocol: Protocol, one: End, other: End) -> FiveTuple
         ensures { result ≡ five_tuple_between network protocol one other }
     {
@@ -127,11 +130,12 @@ impl FiveTuple {
     }
 }
 
-// In whole words, of which a hash is made fastest: one block of two where both addresses are of IPv4, and networks aren't told apart.
+// Whole words hash fastest: one block of two words for IPv4 when networks aren't told apart.
 impl Hash for FiveTuple {
     ghost use Rattle.connections.specs.FiveTuple.{ends_fed, network_fed, ports_number};
 
-    ghost hash_input = { λ e. ends_fed e.lower.address e.upper.address (ports_number e.lower.port e.upper.port e.protocol) ++ network_fed e.network };
+    ghost hash_input = { λ e. ends_fed e.lower.address e.upper.address
+        (ports_number e.lower.port e.upper.port e.protocol) ++ network_fed e.network };
 
     ghost respects_eq = { Prim.search (hashing, rules) };
 

@@ -1,4 +1,4 @@
-//! The hash of a five-tuple, by the keys of a table.
+//! The hash of a five-tuple under a table's keys.
 ghost use Rattle.std.specs.Prelude.{◌≡◌};
 ghost use Rattle.std.specs.Hash.FoldHasher.{folded_multiply};
 ghost use Rattle.connections.specs.HashKeys.{after_address, hash_of, hash_of_both};
@@ -8,14 +8,14 @@ use crate::words::{address_bits, both_bits, port_bits};
 use std::hash::{BuildHasher, RandomState};
 use std::net::IpAddr;
 
-/// The keys of the hashes in a table. Peers choose their addresses and ports, and don't know these.
+/// The keys of a table's hashes. Peers choose their addresses and ports, but don't know the keys.
 #[derive(Clone, Copy)]
 pub struct HashKeys {
     first: u64,
     second: u64,
 }
 
-/// Both halves of the product of two numbers, joined: it depends on all bits of both.
+/// Returns the xor of both halves of a product. It depends on all bits of both factors.
 #[inline(always)]
 fn folded(one: u64, other: u64) -> u64
     ensures { result ≡ folded_multiply one other }
@@ -25,7 +25,7 @@ fn folded(one: u64, other: u64) -> u64
 }
 
 impl HashKeys {
-    /// Two keys, by those of the system's hashes.
+    /// Derives two keys from those of the system's hashes.
     pub(crate) fn of(keys: &RandomState) -> HashKeys {
         HashKeys {
             first: keys.hash_one(0_u64),
@@ -33,7 +33,7 @@ impl HashKeys {
         }
     }
 
-    /// A hash of what stands in front, and of an address behind it.
+    /// Extends a hash by an address.
     fn after_address(self, hash: u64, address: u128) -> u64
         ensures { result ≡ after_address self hash address }
     {
@@ -42,7 +42,7 @@ impl HashKeys {
         folded(hash ^ upper, self.second ^ lower)
     }
 
-    /// The hash of two addresses, of which one or both are of IPv6, and of ports and protocol.
+    /// Returns the hash of two addresses, of which at least one is IPv6, and of ports and protocol.
     fn hash_of_both(self, lower: u128, upper: u128, ports: u64) -> u64
         ensures { result ≡ hash_of_both self lower upper ports }
     {
@@ -51,7 +51,8 @@ impl HashKeys {
         folded(hash ^ ports, self.second)
     }
 
-    /// The hash of a five-tuple: where both addresses are of IPv4 and networks aren't told apart, one product.
+    /// Returns the hash of a five-tuple. It is a single product if both addresses are IPv4 and
+    /// networks aren't told apart.
     #[tactic(auto, unfolding(crate::specs::HashKeys::hash_of))]
     #[inline(always)]
     pub(crate) fn hash(self, five_tuple: &FiveTuple) -> u64

@@ -1,4 +1,4 @@
-//! What is known of an end of a connection over TCP.
+//! The TCP state of one end of a connection.
 ghost use Rattle.std.specs.Prelude.{◌≡◌, Some, None};
 ghost use Rattle.connections.specs.Segment.{first_of};
 ghost use Rattle.connections.specs.Hosts.{checksums_behind as checksums_behind_of, clock_behind as clock_behind_of, damaged_before, has_fin_of, host_after, later as later_of, shift_of, silent_host, with_checksum, with_taken as taken_by, window_of};
@@ -6,40 +6,42 @@ ghost use Rattle.connections.specs.Hosts.{checksums_behind as checksums_behind_o
 use crate::numbers::is_behind;
 use crate::segment::{Checksum, Options, Segment};
 
-/// The largest shift of a window (RFC 7323, section 2.3).
+/// The largest window shift (RFC 7323, section 2.3).
 const MAX_SHIFT: u8 = 14;
 
-/// So many packets of a sender, none of them with a right checksum, show that its network card writes the checksums behind the capture.
+/// After this many packets of a sender without a correct checksum, its network card is known to
+/// write the checksums behind the capture.
 const FIRST_PACKETS: u8 = 8;
 
-/// An end of a connection, by what it sent and the other end took: the variables of RFC 9293, section 3.3.1, as far as they were captured.
+/// The state of an end, by what it sent and the other end took: the variables of RFC 9293, section
+/// 3.3.1, as far as they were captured.
 #[derive(Clone, Copy, Debug, PartialEq, Eq)]
 pub struct Host {
-    /// The number behind that of its SYN.
+    /// The sequence number behind its SYN.
     pub(crate) first: Option<u32>,
-    /// The number behind all that it sent.
+    /// The sequence number behind all that it sent.
     pub(crate) next: Option<u32>,
-    /// The number that it waits for, by what it acknowledged.
+    /// The sequence number that it expects next, by its acknowledgements.
     pub(crate) acknowledged: Option<u32>,
-    /// The number behind its window.
+    /// The right edge of its window.
     pub(crate) edge: Option<u32>,
-    /// Its largest window.
+    /// The largest window that it offered.
     pub(crate) widest: u32,
-    /// What the options of its SYN say.
+    /// The options of its SYN.
     pub(crate) offers: Options,
-    /// It acknowledged behind its SYN: the connection is open on its side.
+    /// Whether it acknowledged something after its SYN: the connection is open on its side.
     pub(crate) is_open: bool,
-    /// Its clock, as the other end knows it.
+    /// Its timestamp, as the other end last saw it.
     pub(crate) clock: Option<u32>,
-    /// The number of its FIN.
+    /// The sequence number of its FIN.
     pub(crate) fin: Option<u32>,
-    /// What its checksums are: those of its first packets, or right where one of these was.
+    /// What its checksums are like: those of its first packets, or correct if one of these was.
     pub(crate) checksums: Option<Checksum>,
-    /// How many of its first packets had a wrong checksum, while none had a right one.
+    /// How many of its first packets had a wrong checksum, with no correct one among them.
     pub(crate) unchecked: u8,
 }
 
-/// The later of two numbers, of which one may not be known.
+/// Returns the later of two sequence numbers, of which one may be unknown.
 pub(crate) fn later(known: Option<u32>, number: u32) -> u32
     ensures { result ≡ later_of known number }
 {
@@ -50,7 +52,7 @@ pub(crate) fn later(known: Option<u32>, number: u32) -> u32
 }
 
 impl Host {
-    /// One of which nothing was captured.
+    /// Returns the state of an end of which nothing was captured.
     pub fn new() -> Host
         ensures { result ≡ silent_host }
     {
@@ -75,7 +77,8 @@ impl Host {
         }
     }
 
-    /// One of which nothing was captured since another exchange, of which what its checksums are is known.
+    /// Returns the state at the start of another exchange: nothing was captured, but what is known
+    /// about the end's checksums stays.
     pub(crate) fn after(known: &Host) -> Host
         ensures { result ≡ host_after known.now }
     {
@@ -85,7 +88,7 @@ impl Host {
         }
     }
 
-    /// By how many bits the window of a segment of this end is shifted.
+    /// Returns the window shift of this end's segment, in bits.
     fn shift(&self, receiver: &Host, segment: &Segment<'_>) -> u8
         ensures { result ≡ shift_of self.now receiver.now segment.now }
     {
@@ -101,14 +104,15 @@ impl Host {
         self.offers.scale.unwrap_or(0).min(MAX_SHIFT)
     }
 
-    /// The window of a segment of this end, in bytes.
+    /// Returns the window of this end's segment, in bytes.
     fn window(&self, receiver: &Host, segment: &Segment<'_>) -> u32
         ensures { result ≡ window_of self.now receiver.now segment.now }
     {
         u32::from(segment.window) << self.shift(receiver, segment)
     }
 
-    /// Its clock behind a segment: the latest of what isn't behind what the receiver acknowledged (RFC 7323, section 4.3).
+    /// Returns the timestamp behind a segment: the latest of a segment that doesn't begin beyond
+    /// the receiver's acknowledgement (RFC 7323, section 4.3).
     fn clock_behind(&self, receiver: &Host, segment: &Segment<'_>) -> Option<u32>
         ensures { result ≡ clock_behind_of self.now receiver.now segment.now }
     {
@@ -130,7 +134,8 @@ impl Host {
         }
     }
 
-    /// What its checksums are behind a packet: a right one among its first shows that wrong ones are wrong.
+    /// Returns what this end's checksums are like after a packet. A correct one among its first
+    /// packets shows that wrong ones are really wrong.
     pub(crate) fn checksums_behind(&self, checksum: Checksum) -> Checksum
         ensures { result ≡ checksums_behind_of self.now checksum }
     {
@@ -141,12 +146,14 @@ impl Host {
         }
     }
 
-    /// Whether all its packets had a wrong checksum, and were so few that it may be the first right one that shows it.
+    /// Returns whether all its packets had a wrong checksum, and were so few that the first correct
+    /// one may show that they were damaged.
     pub(crate) fn is_damaged(&self) -> bool {
         self.checksums == Some(Checksum::Wrong) && self.unchecked < FIRST_PACKETS
     }
 
-    /// Notes the checksum of a packet of this end that its receiver took, and says how many of those before it were wrong, as it shows.
+    /// Notes the checksum of a packet that the receiver took. Returns how many earlier packets it
+    /// shows to be damaged.
     pub(crate) fn note_checksum(&mut self, checksum: Checksum) -> u8
         ensures noted { self.new ≡ with_checksum checksum self.old }
         ensures damaged { result ≡ damaged_before checksum self.old }
@@ -162,15 +169,16 @@ impl Host {
         wrong
     }
 
-    /// Notes what the SYN of this end says.
+    /// Notes this end's SYN.
     fn note_syn(&mut self, segment: &Segment<'_>)
-        ensures { self.new ≡ record self.old { first = Some (first_of segment.now); offers = segment.now.options } }
+        ensures { self.new ≡ record self.old
+            { first = Some (first_of segment.now); offers = segment.now.options } }
     {
         self.first = Some(segment.first());
         self.offers = segment.options;
     }
 
-    /// Forgets its window in front of its SYN, whose scale wasn't known.
+    /// Forgets the window from before this end's SYN, since its scale wasn't known.
     fn forget_window(&mut self)
         ensures { self.new ≡ record self.old { edge = None; widest = 0 } }
     {
@@ -178,7 +186,7 @@ impl Host {
         self.widest = 0;
     }
 
-    /// Notes a segment of this end that its receiver took.
+    /// Updates the state by this end's segment, which its receiver took.
     pub(crate) fn note(&mut self, receiver: &Host, segment: &Segment<'_>)
         ensures { self.new ≡ taken_by self.old receiver.now segment.now }
     {
@@ -203,7 +211,7 @@ impl Host {
         }
     }
 
-    /// Whether it acknowledged the other's FIN.
+    /// Returns whether it acknowledged the other's FIN.
     pub(crate) fn has_fin_of(&self, other: &Host) -> bool
         ensures { result ≡ has_fin_of self.now other.now }
     {

@@ -1,4 +1,5 @@
-//! What stands of the two ends of a connection, and of the numbers of a stream. Each function's contract is one law.
+//! Laws of five-tuples, of a stream's numbers, and of dropped packets. Each function's contract is
+//! one law.
 ghost use Rattle.std.specs.Prelude.{◌≡◌, ◌⊎◌, ◌<◌, ◌^◌, ℕ, List, Option, Some};
 ghost use Rattle.std.specs.Cmp.{IsPartialOrder, IsTotalOrder, Agrees};
 ghost use Rattle.connections.specs.FiveTuple.{five_tuple_between};
@@ -23,42 +24,56 @@ fn is_ordered<T: Ord>()
     ensures partial { IsPartialOrder T.eq T.partial_cmp }
 {}
 
-/// Both directions of a connection have one pair of ends.
+/// Both directions of a connection have the same five-tuple.
 pub fn both_directions_have_the_same_ends()
-    ensures { (n : ℕ) (p : Protocol) (a b : AnEnd) → five_tuple_between n p a b ≡ five_tuple_between n p b a }
+    ensures { (n : ℕ) (p : Protocol) (a b : AnEnd)
+        → five_tuple_between n p a b ≡ five_tuple_between n p b a }
 {
     is_ordered::<End>();
 }
 
-/// Packets with the same ends have one protocol, came in one network, and go between the same two, in this direction or the other.
+/// Packets with the same five-tuple have the same protocol and network, and the same two ends, in
+/// this direction or the other.
 pub fn no_other_packets_have_these_ends()
-    ensures { (m n : ℕ) (p q : Protocol) (a b c d : AnEnd) → five_tuple_between m p a b ≡ five_tuple_between n q c d → (m ≡ n) × (p ≡ q) × (((a ≡ c) × (b ≡ d)) ⊎ ((a ≡ d) × (b ≡ c))) }
+    ensures { (m n : ℕ) (p q : Protocol) (a b c d : AnEnd)
+        → five_tuple_between m p a b ≡ five_tuple_between n q c d
+        → (m ≡ n) × (p ≡ q) × (((a ≡ c) × (b ≡ d)) ⊎ ((a ≡ d) × (b ≡ c))) }
 {}
 
-/// What stands in a table under some ends stays where what stands under others is taken out.
+/// Removing a five-tuple from a table leaves the values of all others.
 pub fn what_stands_under_other_ends_stays<T>()
-    ensures { (e f : FiveTuple) → (e ≡ f → ⊥) → (xs : List (FiveTuple × T)) → at f (others e xs) ≡ at f xs }
+    ensures { (e f : FiveTuple) → (e ≡ f → ⊥) → (xs : List (FiveTuple × T))
+        → at f (others e xs) ≡ at f xs }
 {}
 
-/// The next number of a stream is that of the place from which on it holds bytes: at first, and behind each call.
+/// A stream's next sequence number is that of the first byte that it holds, at first and after each
+/// call.
 pub fn the_next_number_is_that_of_what_is_held()
     ensures silent { IsNumberOf silent_stream.next silent_stream.reading }
     ensures begun { (n : ℕ) (t : Stream) → n < 2 ^ 32 → IsNumberOf t.next t.reading
         → IsNumberOf (begun_at (Some n) t).next (begun_at (Some n) t).reading }
-    ensures accepted { (s : Segment) (old new : Stream) → HasTaken s old new → IsNumberOf old.next old.reading → IsNumberOf new.next new.reading }
-    ensures noted { (s : Segment) (t : Stream) → IsNumberOf t.next t.reading → IsNumberOf (noted s t).next (noted s t).reading }
-    ensures handed_on { (n : ℕ) (t : Stream) → IsNumberOf t.next t.reading → IsNumberOf (handing_on n t).next (handing_on n t).reading }
-    ensures urgent { (t : Stream) → IsNumberOf t.next t.reading → IsNumberOf (passing_urgent t).next (passing_urgent t).reading }
+    ensures accepted { (s : Segment) (old new : Stream) → HasTaken s old new
+        → IsNumberOf old.next old.reading → IsNumberOf new.next new.reading }
+    ensures noted { (s : Segment) (t : Stream) → IsNumberOf t.next t.reading
+        → IsNumberOf (noted s t).next (noted s t).reading }
+    ensures handed_on { (n : ℕ) (t : Stream) → IsNumberOf t.next t.reading
+        → IsNumberOf (handing_on n t).next (handing_on n t).reading }
+    ensures urgent { (t : Stream) → IsNumberOf t.next t.reading
+        → IsNumberOf (passing_urgent t).next (passing_urgent t).reading }
     ensures forgotten { (acknowledged : Option ℕ) (t : Stream) → IsNumberOf t.next t.reading
         → IsNumberOf (forgetting acknowledged t).next (forgetting acknowledged t).reading }
-    ensures stopped { (t : Stream) → IsNumberOf t.next t.reading → IsNumberOf (stopped t t.reading).next (stopped t t.reading).reading }
+    ensures stopped { (t : Stream) → IsNumberOf t.next t.reading
+        → IsNumberOf (stopped t t.reading).next (stopped t t.reading).reading }
 {}
 
-/// What a receiver does with a segment, and which streams it reads, is the same behind packets of which it took nothing: these change only counts,
-/// and what waits.
+/// Dropped packets change nothing that is read: only counts and the pending segments. So what a
+/// receiver does with later segments, and which streams it reads, stays the same.
 pub fn dropped_packets_change_nothing_that_is_heard<T>()
-    ensures judgement { (s : Segment) (old new : Connection T) → ChangesCountsAlone old new → judgement_of s new ≡ judgement_of s old }
-    ensures streams { (side : Side) (old new : Connection T) → ChangesCountsAlone old new → stream_of side new ≡ stream_of side old }
+    ensures judgement { (s : Segment) (old new : Connection T) → ChangesCountsAlone old new
+        → judgement_of s new ≡ judgement_of s old }
+    ensures streams { (side : Side) (old new : Connection T) → ChangesCountsAlone old new
+        → stream_of side new ≡ stream_of side old }
     ensures listener { (old new : Connection T) → ChangesCountsAlone old new → new.listener ≡ old.listener }
-    ensures many { (old mid new : Connection T) → ChangesCountsAlone old mid → ChangesCountsAlone mid new → ChangesCountsAlone old new }
+    ensures many { (old mid new : Connection T) → ChangesCountsAlone old mid
+        → ChangesCountsAlone mid new → ChangesCountsAlone old new }
 {}

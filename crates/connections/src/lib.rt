@@ -1,10 +1,15 @@
-//! Connections of TCP and exchanges over UDP, from the packets of a capture.
+//! Tracks TCP connections and UDP exchanges, from the packets of a capture.
 //!
-//! [`Connections`] is a table by protocol and both ends. Each [`Segment`] goes to its connection, where it is put into its
-//! direction's stream; what is there in order is handed out, and a caller's own value ([`Listener`]) goes with the connection.
-//! It ends by FIN or RST of both sides, by a new SYN, after [`IDLE_LIMIT`] without packets, or with the capture. A [`Datagram`]
-//! goes to the exchange between its ends, which ends after [`IDLE_LIMIT`] without packets, or with the capture. What each side sends is
-//! counted ([`Traffic`]).
+//! [`Connections`] is a table by protocol and both ends. Each [`Segment`] goes to its connection,
+//! where it is reassembled in its direction's stream ([`Stream`]) as its receiver would. In-order
+//! data can be read, and a caller's value ([`Listener`]) goes with the connection. A TCP connection
+//! ends by both sides' FINs, an RST, a new SYN, after [`IDLE_LIMIT`] without packets, or with the
+//! capture. A [`Datagram`] goes to the exchange between its ends, which ends after [`IDLE_LIMIT`]
+//! without packets, or with the capture. [`Traffic`] and [`Dropped`] count what each side sent.
+//!
+//! Promise: `Receiver.judge` in `specs/` defines what a receiver does with a segment, `Stream`
+//! which bytes a stream has, `Connection` and `Table` what each call changes, and `Memory` how the
+//! memory is accounted. [`laws`] holds what follows from the definitions alone.
 #![tactic(auto)]
 
 mod boxed;

@@ -1,4 +1,4 @@
-//! How much memory the connections take, and which of them end where that is too much.
+//! The memory of the connections, and which of them are evicted over a limit.
 ghost use Rattle.std.specs.Prelude.{◌≡◌, ◌<◌, ◌≤◌, IfSome, IfNone};
 ghost use Rattle.std.specs.Option.{option_map};
 ghost use Rattle.connections.specs.Table.{at, others};
@@ -9,31 +9,31 @@ use crate::connection::{Connection, Listener};
 use crate::five_tuple::FiveTuple;
 use crate::table::{CLOSED_COST, CLOSED_SHARE, Connections};
 
-/// For so many bytes all are accounted at most, more than there is memory.
+/// The most bytes that are accounted for all connections: more than any machine has.
 const MAX_HELD: usize = 0x7fff_ffff_ffff_ffff;
 
-/// So many bytes of a limit those may take that were closed.
+/// Returns the part of a memory limit for closed connections, in bytes.
 fn part_of_closed(limit: usize) -> usize
     ensures { result ≡ closed_part limit }
 {
     limit / CLOSED_SHARE
 }
 
-/// So many those that are open.
+/// Returns the part of a memory limit for open connections, in bytes.
 fn part_of_open(limit: usize) -> usize
     ensures { result ≡ open_part limit }
 {
     limit - part_of_closed(limit)
 }
 
-/// So many of those that were closed fit.
+/// Returns how many closed connections fit in a memory limit.
 fn count_of_closed(limit: usize) -> usize
     ensures { result ≡ closed_count limit }
 {
     part_of_closed(limit) / CLOSED_COST
 }
 
-/// Forgets those that were closed first, until the others fit a limit.
+/// Forgets the connections that were closed first, until the others fit in a limit.
 fn forget_crowded(closed: &mut ByFiveTuple<u64>, limit: usize)
     ensures fits { FitsClosed limit closed.old.entries closed.new.entries }
     ensures cap { closed.new.cap ≡ closed.old.cap }
@@ -45,15 +45,15 @@ fn forget_crowded(closed: &mut ByFiveTuple<u64>, limit: usize)
 }
 
 impl<T: Listener> Connections<T> {
-    /// For how many bytes of memory those that are open are accounted together.
+    /// Returns the memory that is accounted for the open connections, in bytes.
     pub fn held(&self) -> usize
         ensures { result ≡ self.now.held }
     {
         self.held
     }
 
-    /// Lets the connection between these ends be accounted for what it takes. To be called behind each packet of it that changes that
-    /// ([`Connection::is_settled`]).
+    /// Updates the memory that is accounted for a connection. Call it after each packet that
+    /// changes that ([`Connection::is_settled`]).
     pub fn settle(&mut self, five_tuple: &FiveTuple)
         ensures settled { IsSettled five_tuple.now (at five_tuple.now self.old.live) self.old self.new }
         ensures accounted { IsAccounted self.old → IsAccounted self.new }
@@ -67,16 +67,18 @@ impl<T: Listener> Connections<T> {
         self.held = others + connection.weight;
     }
 
-    /// Whether more is accounted for than this limit of bytes lets. Those that were closed may take an eighth of it.
+    /// Returns whether the accounted memory exceeds `limit`, in bytes. Closed connections may take
+    /// an eighth of it.
     pub fn is_crowded(&self, limit: usize) -> bool
         ensures { result ≡ crowded limit self.now }
     {
         self.held > part_of_open(limit) || self.closed.len() > count_of_closed(limit)
     }
 
-    /// Takes out the connection that was longest without a packet, where those that are open are accounted for more than this limit of bytes lets; and
-    /// forgets those that were closed first, as far as they take too much. To be called until there is none: then all that are open are accounted
-    /// for at most what the limit lets.
+    /// Removes and returns the longest-idle connection if the open ones exceed their part of
+    /// `limit`. Closed connections that exceed theirs are forgotten, the first closed first.
+    ///
+    /// Call it until it returns `None`. Then the open connections are within the limit.
     pub fn take_crowded(&mut self, limit: usize) -> Option<Box<Connection<T>>>
         ensures taken { IfSome result (λ b. IsTakenOut self.old self.new b.value) }
         ensures crowded { IfSome result (λ b. open_part limit < self.old.held) }
@@ -92,7 +94,7 @@ impl<T: Listener> Connections<T> {
         self.take_left()
     }
 
-    /// Takes out the connection between these ends.
+    /// Removes and returns the connection of a five-tuple.
     pub fn take(&mut self, five_tuple: &FiveTuple) -> Option<Box<Connection<T>>>
         ensures taken { option_map (λ b. b.value) result ≡ at five_tuple.now self.old.live }
         ensures others { self.new.live ≡ others five_tuple.now self.old.live }

@@ -1,11 +1,11 @@
-//! Sequence numbers, in the circle of 2^32 (RFC 9293, section 3.4).
+//! Sequence numbers, modulo 2^32 (RFC 9293, section 3.4).
 ghost use Rattle.std.specs.Prelude.{◌≡◌};
 ghost use Rattle.connections.specs.Numbers.{advance as advance_of, is_behind as comes_behind};
 
-/// Half of all numbers: one that is less than this ahead of another comes behind it.
+/// Half of all numbers. A number less than this ahead of another comes after it.
 pub(crate) const HALF: u32 = 0x8000_0000;
 
-/// Whether a number comes behind another, among the numbers around it.
+/// Returns whether a number comes after another, among the numbers around it.
 pub(crate) fn is_behind(number: u32, other: u32) -> bool
     ensures { result ≡ comes_behind number other }
 {
@@ -13,7 +13,7 @@ pub(crate) fn is_behind(number: u32, other: u32) -> bool
     ahead > 0 && ahead < HALF
 }
 
-/// How far a number comes behind another; 0 where it doesn't.
+/// Returns how far a number comes after another; 0 if it doesn't.
 pub(crate) fn advance(number: u32, other: u32) -> u32
     ensures { result ≡ advance_of number other }
 {

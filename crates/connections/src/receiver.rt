@@ -8,10 +8,10 @@ use crate::numbers::{advance, is_behind};
 use crate::segment::{Checksum, Segment};
 use crate::stream::{Front, HELD_LIMIT};
 
-/// The most data that an end takes in a segment if it doesn't say so (RFC 9293, section 3.7.1), in bytes.
+/// The default maximum segment size, in bytes (RFC 9293, section 3.7.1).
 const DEFAULT_SIZE: u16 = 536;
 
-/// The largest window that isn't shifted.
+/// The largest unscaled window.
 const MAX_WINDOW: u32 = 0xffff;
 
 /// Why a receiver drops a packet.
@@ -19,21 +19,22 @@ const MAX_WINDOW: u32 = 0xffff;
 pub enum Reason {
     /// A checksum is wrong.
     Checksum,
-    /// It has no ACK (RFC 9293, section 3.10.7.4, fifth).
+    /// The segment has no ACK (RFC 9293, section 3.10.7.4, fifth).
     NoAck,
-    /// It acknowledges what was acknowledged long before (RFC 5961, section 5.2), or what the receiver never sent.
+    /// It acknowledges what was acknowledged long before (RFC 5961, section 5.2), or what the
+    /// receiver never sent.
     Acknowledgment,
-    /// It lies outside the receiver's window (RFC 9293, section 3.10.7.4, first).
+    /// It is outside the receiver's window (RFC 9293, section 3.10.7.4, first).
     Window,
-    /// Its clock is behind what the receiver took (RFC 7323, section 5).
+    /// Its timestamp is older than one that the receiver took (RFC 7323, section 5).
     Clock,
     /// It is signed, and its sender's SYN wasn't (RFC 2385, section 2).
     Signature,
     /// A SYN in the middle of a connection (RFC 5961, section 4.2).
     Syn,
-    /// An RST with another number than the next (RFC 5961, section 3.2).
+    /// An RST with a number other than the next (RFC 5961, section 3.2).
     Reset,
-    /// It has data behind its sender's FIN.
+    /// It has data after its sender's FIN.
     Fin,
 }
 
@@ -42,15 +43,16 @@ pub enum Reason {
 pub enum Judgement {
     /// It takes the segment.
     Taken,
-    /// It has the bytes of the segment, or there are none, and takes nothing of it.
+    /// The segment is a retransmission or has no bytes, and the receiver takes nothing of it.
     Again,
-    /// It takes the segment if it knows more than was captured, and else drops it for that reason: its next acknowledgement tells.
+    /// It takes the segment if it knows more than was captured, and else drops it for this reason.
+    /// Its next acknowledgement shows which.
     Waiting(Reason),
     /// It drops the segment.
     Dropped(Reason),
 }
 
-/// Whether a number that is known comes behind another by more than so many.
+/// Returns whether a known number is more than `least` ahead of another.
 fn is_ahead_by(least: u32, known: Option<u32>, number: u32) -> bool
     ensures { result ≡ is_ahead_of_by least known number }
 {
@@ -60,8 +62,12 @@ fn is_ahead_by(least: u32, known: Option<u32>, number: u32) -> bool
     }
 }
 
-/// Whether a checksum of a packet is wrong, as it arrives: one that isn't right is, unless its sender's were so from its first packet on; one
-/// that is partial isn't where the packet has more data than the receiver takes in one, so that several were joined.
+/// Returns whether a packet's checksum counts as wrong:
+///
+/// - [`Checksum::Refused`] always does.
+/// - Any other incorrect one does, unless its sender's were so from its first packet on.
+/// - A partial one doesn't if the packet has more data than the receiver's maximum segment size:
+///   several segments were coalesced.
 pub(crate) fn is_damaged(sender: &Host, receiver: &Host, checksum: Checksum, len: usize) -> bool
     ensures { result ≡ is_damaged_at sender.now receiver.now checksum len }
 {
@@ -76,14 +82,14 @@ pub(crate) fn is_damaged(sender: &Host, receiver: &Host, checksum: Checksum, len
     }
 }
 
-/// Whether the segment is signed where its sender's SYN isn't.
+/// Returns whether the segment is signed and its sender's SYN wasn't.
 fn is_signed_apart(sender: &Host, segment: &Segment<'_>) -> bool
     ensures { result ≡ is_signed_apart_by sender.now segment.now }
 {
     segment.options.is_signed && sender.first.is_some() && !sender.offers.is_signed
 }
 
-/// Whether both have a clock, and the segment's is behind that of one that was taken.
+/// Returns whether both ends use timestamps, and the segment's is older than one that was taken.
 fn has_old_clock(sender: &Host, receiver: &Host, segment: &Segment<'_>) -> bool
     ensures { result ≡ has_old_clock_at sender.now receiver.now segment.now }
 {
@@ -96,7 +102,8 @@ fn has_old_clock(sender: &Host, receiver: &Host, segment: &Segment<'_>) -> bool
     }
 }
 
-/// The number that the receiver waits for, as it said; behind the SYNs, the sender's first.
+/// Returns the number that the receiver expects next, by its acknowledgements. After the SYNs alone
+/// it is the sender's first.
 fn awaited(sender: &Host, receiver: &Host) -> Option<u32>
     ensures { result ≡ awaited_by sender.now receiver.now }
 {
@@ -106,7 +113,8 @@ fn awaited(sender: &Host, receiver: &Host) -> Option<u32>
     }
 }
 
-/// The number behind the receiver's window, as it said; behind the SYNs, that of its SYN counts from the sender's first number on.
+/// Returns the right edge of the receiver's window. After the SYNs alone the window in its SYN
+/// counts, from the sender's first number on.
 pub(crate) fn edge(sender: &Host, receiver: &Host) -> Option<u32>
     ensures { result ≡ edge_for sender.now receiver.now }
 {
@@ -116,7 +124,7 @@ pub(crate) fn edge(sender: &Host, receiver: &Host) -> Option<u32>
     }
 }
 
-/// Whether the segment begins at the end of the receiver's window, or behind it.
+/// Returns whether the segment begins at or beyond the right edge of the receiver's window.
 pub(crate) fn is_beyond(edge: Option<u32>, segment: &Segment<'_>) -> bool
     ensures { result ≡ is_beyond_edge edge segment.now }
 {
@@ -127,7 +135,8 @@ pub(crate) fn is_beyond(edge: Option<u32>, segment: &Segment<'_>) -> bool
     }
 }
 
-/// Whether the segment ends behind the receiver's window; where its scale isn't known, more than [`HELD_LIMIT`] behind what came in order.
+/// Returns whether the segment ends beyond the receiver's window. If the window's scale isn't
+/// known, the limit is [`HELD_LIMIT`] behind the in-order data.
 fn is_past_edge(sender: &Host, receiver: &Host, front: Front, segment: &Segment<'_>) -> bool
     ensures { result ≡ is_past_edge_of sender.now receiver.now front segment.now }
 {
@@ -140,7 +149,8 @@ fn is_past_edge(sender: &Host, receiver: &Host, front: Front, segment: &Segment<
     }
 }
 
-/// Whether the segment ends in front of what its receiver acknowledged last, and by more than a window.
+/// Returns whether the segment ends before the receiver's last acknowledgement by more than a
+/// window.
 fn is_far_before(sender: &Host, receiver: &Host, segment: &Segment<'_>) -> bool
     ensures { result ≡ is_far_before_known sender.now receiver.now segment.now }
 {
@@ -148,14 +158,14 @@ fn is_far_before(sender: &Host, receiver: &Host, segment: &Segment<'_>) -> bool
     is_ahead_by(receiver.widest.max(MAX_WINDOW), number, segment.end())
 }
 
-/// Whether the segment ends in front of what its receiver acknowledged last.
+/// Returns whether the segment ends before the receiver's last acknowledgement.
 pub(crate) fn is_known(sender: &Host, receiver: &Host, segment: &Segment<'_>) -> bool
     ensures { result ≡ is_known_to sender.now receiver.now segment.now }
 {
     is_ahead_by(0, awaited(sender, receiver), segment.end())
 }
 
-/// Whether the segment has data behind its sender's FIN, or a FIN behind it.
+/// Returns whether the segment has data after its sender's FIN, or a FIN at a later number.
 pub(crate) fn is_behind_fin(sender: &Host, segment: &Segment<'_>) -> bool
     ensures { result ≡ is_behind_fin_at sender.now.fin segment.now }
 {
@@ -166,7 +176,7 @@ pub(crate) fn is_behind_fin(sender: &Host, segment: &Segment<'_>) -> bool
     }
 }
 
-/// Whether the segment acknowledges much less than its sender did before.
+/// Returns whether the segment acknowledges much less than its sender did before.
 fn is_stale(sender: &Host, receiver: &Host, segment: &Segment<'_>) -> bool
     ensures { result ≡ is_stale_at sender.now receiver.now segment.now }
 {
@@ -175,7 +185,7 @@ fn is_stale(sender: &Host, receiver: &Host, segment: &Segment<'_>) -> bool
         || is_ahead_by(sender.widest.max(MAX_WINDOW), sender.acknowledged, number)
 }
 
-/// Whether the segment acknowledges what its receiver isn't known to have sent.
+/// Returns whether the segment acknowledges what its receiver isn't known to have sent.
 fn is_of_unsent(receiver: &Host, segment: &Segment<'_>) -> bool
     ensures { result ≡ is_of_unsent_by receiver.now segment.now }
 {
@@ -185,7 +195,7 @@ fn is_of_unsent(receiver: &Host, segment: &Segment<'_>) -> bool
     }
 }
 
-/// What the receiver does with a segment without SYN and RST that lies in its window.
+/// Returns what the receiver does with a segment in its window, without SYN and RST.
 fn judge_data(sender: &Host, receiver: &Host, front: Front, segment: &Segment<'_>) -> Judgement
     ensures { result ≡ judged_data sender.now receiver.now front segment.now }
 {
@@ -211,7 +221,7 @@ fn judge_data(sender: &Host, receiver: &Host, front: Front, segment: &Segment<'_
     Judgement::Taken
 }
 
-/// What the receiver does with a segment without SYN and RST.
+/// Returns what the receiver does with a segment without SYN and RST.
 fn judge_open(sender: &Host, receiver: &Host, front: Front, segment: &Segment<'_>) -> Judgement
     ensures { result ≡ judged_open sender.now receiver.now front segment.now }
 {
@@ -237,8 +247,8 @@ fn judge_open(sender: &Host, receiver: &Host, front: Front, segment: &Segment<'_
     judge_data(sender, receiver, front, segment)
 }
 
-/// Whether the receiver takes an RST: it has the number that comes next; where both sides agreed on selective acknowledgements, that behind all
-/// that came serves too.
+/// Returns whether the receiver takes an RST: it has the next number. If both sides agreed on
+/// selective acknowledgements, the number behind all that came is taken too.
 fn takes_reset(sender: &Host, receiver: &Host, front: Front, segment: &Segment<'_>) -> bool
     ensures { result ≡ is_reset_taken sender.now receiver.now front segment.now }
 {
@@ -253,14 +263,14 @@ fn takes_reset(sender: &Host, receiver: &Host, front: Front, segment: &Segment<'
     segment.first() == later(receiver.acknowledged, reached) || (selects && segment.first() == next)
 }
 
-/// Whether a SYN with ACK acknowledges what the receiver sent.
+/// Returns whether a SYN-ACK acknowledges what the receiver sent.
 fn answers_to(receiver: &Host, segment: &Segment<'_>) -> bool
     ensures { result ≡ answers_to_sent receiver.now segment.now }
 {
     !is_ahead_by(0, receiver.first, segment.acknowledgment) && !is_of_unsent(receiver, segment)
 }
 
-/// What the receiver does with a SYN whose sender sent none before.
+/// Returns what the receiver does with a sender's first SYN.
 fn judge_first_syn(sender: &Host, receiver: &Host, segment: &Segment<'_>) -> Judgement
     ensures { result ≡ judged_first_syn sender.now receiver.now segment.now }
 {
@@ -277,7 +287,8 @@ fn judge_first_syn(sender: &Host, receiver: &Host, segment: &Segment<'_>) -> Jud
     Judgement::Taken
 }
 
-/// What the receiver does with a SYN of the number of one that it took: it has it, unless the answer is new.
+/// Returns what the receiver does with a SYN with the number of one that it took: a retransmission,
+/// unless the ACK is new.
 fn judge_syn_again(sender: &Host, receiver: &Host, segment: &Segment<'_>) -> Judgement
     ensures { result ≡ judged_syn_again sender.now receiver.now segment.now }
 {
@@ -290,7 +301,7 @@ fn judge_syn_again(sender: &Host, receiver: &Host, segment: &Segment<'_>) -> Jud
     Judgement::Again
 }
 
-/// What the receiver does with a SYN.
+/// Returns what the receiver does with a SYN.
 fn judge_syn(sender: &Host, receiver: &Host, segment: &Segment<'_>) -> Judgement
     ensures { result ≡ judged_syn sender.now receiver.now segment.now }
 {
@@ -301,10 +312,12 @@ fn judge_syn(sender: &Host, receiver: &Host, segment: &Segment<'_>) -> Judgement
     }
 }
 
-/// What the receiver does with a segment of the sender, by what was captured of both before, and by how far the sender's stream came.
+/// Returns what the receiver does with a segment, by what was captured of both ends before, and by
+/// how far the sender's stream came.
 ///
-/// A wrong checksum counts where one of its sender's first segments was right or partial. Before, the capture is taken for one of the sender's own
-/// machine, whose network card writes the checksums behind the capture.
+/// A wrong checksum counts only after a correct or partial one among the sender's first segments.
+/// Until then the capture is assumed to be on the sender's own machine, whose network card writes
+/// the checksums behind the capture.
 pub fn judge(sender: &Host, receiver: &Host, front: Front, segment: &Segment<'_>) -> Judgement
     ensures { result ≡ judged sender.now receiver.now front segment.now }
 {

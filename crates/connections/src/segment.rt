@@ -1,4 +1,4 @@
-//! A segment of TCP.
+//! TCP segments.
 ghost use Rattle.std.specs.Prelude.{◌≡◌, ◌<◌};
 ghost use Rattle.connections.specs.Segment.{has_flag as is_set, ends, begins, breaks, acknowledges, asks, answers, first_of, behind_of, end_with_fin, five_tuple_of, begins_stream, begins_one, has_data, takes_numbers, urgent_of, data_of_syn, bytes_alone, without_flag as without_flag_of, header_of, IsWithoutData};
 
@@ -10,74 +10,75 @@ const FIN: u8 = 0x01;
 /// The sender's first segment.
 const SYN: u8 = 0x02;
 
-/// The sender breaks the connection off.
+/// The sender resets the connection.
 const RST: u8 = 0x04;
 
-/// The segment acknowledges one.
+/// The acknowledgement number is valid.
 const ACK: u8 = 0x10;
 
-/// A byte of the segment, or of one that follows, is urgent.
+/// The urgent pointer is valid.
 const URG: u8 = 0x20;
 
-/// Whether the checksums of a segment are right.
+/// The result for the checksums of a packet.
 #[derive(Clone, Copy, Debug, PartialEq, Eq)]
 pub enum Checksum {
-    /// They are.
+    /// The checksums are correct.
     Right,
-    /// That of the segment is the sum of the pseudo-header: the sender's network card completes it behind the capture, or the receiver's joined
-    /// several segments in front of it.
+    /// The segment's checksum equals the sum of the pseudo-header. The sender's network card
+    /// completes it behind the capture, or the receiver's coalesced several segments before it.
     Partial,
-    /// One is wrong.
+    /// A checksum is wrong.
     Wrong,
-    /// One is wrong, and it counts whatever those of its sender's first packets were.
+    /// A checksum is wrong, and counts as wrong whatever those of the sender's first packets were.
     Refused,
 }
 
-/// What the options of a segment say.
+/// The options of a segment.
 #[derive(Clone, Copy, Debug, PartialEq, Eq)]
 pub struct Options {
-    /// By how many bits the windows of its sender are shifted (RFC 7323, section 2).
+    /// The window shift in bits (RFC 7323, section 2).
     pub scale: Option<u8>,
-    /// The sender's clock (RFC 7323, section 3).
+    /// The sender's timestamp (RFC 7323, section 3).
     pub clock: Option<u32>,
-    /// The most data that its sender takes in a segment (RFC 9293, section 3.7.1).
+    /// The maximum segment size (RFC 9293, section 3.7.1).
     pub size: Option<u16>,
-    /// Its sender takes selective acknowledgements (RFC 2018, section 2).
+    /// Whether the sender accepts selective acknowledgements (RFC 2018, section 2).
     pub selects: bool,
-    /// It is signed (RFC 2385; RFC 5925).
+    /// Whether the segment is signed (RFC 2385; RFC 5925).
     pub is_signed: bool,
 }
 
-/// A segment of TCP as it was captured.
+/// A captured TCP segment.
 #[derive(Clone, Copy, Debug)]
 pub struct Segment<'a> {
-    /// When, in nanoseconds since 1970-01-01 00:00 UTC.
+    /// The capture time, in nanoseconds since 1970-01-01 00:00 UTC.
     pub time: u64,
-    /// The number of the network that it came in; 0 where networks aren't told apart.
+    /// The number of the packet's network; 0 if networks aren't told apart.
     pub network: u64,
-    /// Who sent it.
+    /// The sender.
     pub source: End,
-    /// To whom.
+    /// The receiver.
     pub destination: End,
-    /// The number of its first byte; with SYN, that of the SYN.
+    /// The sequence number of the first byte; with SYN, that of the SYN.
     pub sequence: u32,
-    /// Where ACK is set, the number that its sender waits for.
+    /// If ACK is set, the sequence number that the sender expects next.
     pub acknowledgment: u32,
     /// CWR, ECE, URG, ACK, PSH, RST, SYN, FIN, from bit 7 to bit 0 (RFC 9293, section 3.1).
     pub flags: u8,
-    /// How many bytes its sender takes from the acknowledged one on, before the window is shifted (RFC 7323, section 2).
+    /// The receive window in bytes, before scaling (RFC 7323, section 2).
     pub window: u16,
-    /// With URG, how far the number behind the urgent byte is from that of its first; 0 stands for 1 there (RFC 6093, section 3).
+    /// With URG, the distance from the first byte's number to the one behind the urgent byte. 0 is
+    /// treated as 1 (RFC 6093, section 3).
     pub urgent_pointer: u16,
-    /// What its options say.
+    /// The options.
     pub options: Options,
-    /// What its checksum is, or that of its datagram.
+    /// The result for its checksum and that of the IP header.
     pub checksum: Checksum,
     /// The data.
     pub payload: &'a [u8],
 }
 
-/// A segment but for its data.
+/// A segment without its data.
 #[derive(Clone, Copy, Debug)]
 pub(crate) struct Header {
     time: u64,
@@ -94,7 +95,7 @@ pub(crate) struct Header {
 }
 
 impl Header {
-    /// A segment with this data.
+    /// Returns a segment with this data.
     pub(crate) fn with_data(self, payload: &[u8]) -> Segment<'_>
         ensures header { header_of result ≡ self }
         ensures data { result.payload.now ≡ payload.now }
@@ -115,7 +116,7 @@ impl Header {
         }
     }
 
-    /// The same without FIN.
+    /// Returns the header with FIN cleared.
     pub(crate) fn without_fin(self) -> Header {
         Header {
             flags: self.flags - self.flags % 2,
@@ -124,7 +125,7 @@ impl Header {
     }
 }
 
-/// Whether the flag of that weight is set.
+/// Returns whether the flag of this weight is set.
 fn has_flag(segment: &Segment<'_>, weight: u8) -> bool
     requires { 0 < weight }
     ensures { result ≡ is_set weight segment.now }
@@ -132,7 +133,7 @@ fn has_flag(segment: &Segment<'_>, weight: u8) -> bool
     segment.flags / weight % 2 == 1
 }
 
-/// Flags without that of the weight.
+/// Returns flags with the one of this weight cleared.
 fn without_flag(flags: u8, weight: u8) -> u8
     requires { 0 < weight }
     ensures { result ≡ without_flag_of weight flags }
@@ -145,64 +146,65 @@ fn without_flag(flags: u8, weight: u8) -> u8
 }
 
 impl<'a> Segment<'a> {
-    /// Between whom it goes, and in which network.
+    /// Returns the five-tuple.
     pub fn between(&self) -> FiveTuple
         ensures { result ≡ five_tuple_of self.now }
     {
         FiveTuple::between(self.network, Protocol::Tcp, self.source, self.destination)
     }
 
-    /// It is its sender's first: SYN is set.
+    /// Returns whether SYN is set.
     pub fn begins(&self) -> bool
         ensures { result ≡ begins self.now }
     {
         has_flag(self, SYN)
     }
 
-    /// It asks for a connection: SYN is set, and ACK is not.
+    /// Returns whether it asks for a connection: SYN without ACK.
     pub fn asks(&self) -> bool
         ensures { result ≡ asks self.now }
     {
         self.begins() && !self.acknowledges()
     }
 
-    /// It answers one that asks: SYN and ACK are set.
+    /// Returns whether it is a SYN-ACK.
     pub fn answers(&self) -> bool
         ensures { result ≡ answers self.now }
     {
         self.begins() && self.acknowledges()
     }
 
-    /// It is its sender's last: FIN is set.
+    /// Returns whether FIN is set.
     pub fn ends(&self) -> bool
         ensures { result ≡ ends self.now }
     {
         has_flag(self, FIN)
     }
 
-    /// It breaks the connection off: RST is set.
+    /// Returns whether RST is set.
     pub fn breaks(&self) -> bool
         ensures { result ≡ breaks self.now }
     {
         has_flag(self, RST)
     }
 
-    /// It acknowledges: ACK is set.
+    /// Returns whether ACK is set.
     pub fn acknowledges(&self) -> bool
         ensures { result ≡ acknowledges self.now }
     {
         has_flag(self, ACK)
     }
 
-    /// A stream may begin with it: it has the SYN, or more than one byte of data. A single byte may be one that asks whether the other end is
-    /// still there, and that end has it (RFC 9293, section 3.8.4).
+    /// Returns whether a stream may begin with it: it has a SYN, or more than one byte of data. A
+    /// single byte may be a keep-alive, which the receiver already has (RFC 9293, section 3.8.4).
     pub(crate) fn begins_stream(&self) -> bool
         ensures { result ≡ begins_stream self.now }
     {
         self.begins() || self.payload.len() > 1
     }
 
-    /// A connection may begin with it: it asks for one, answers, or has data that its receiver may take.
+    /// Returns whether a connection may begin with it: it is a SYN or a SYN-ACK, or has data that
+    /// its receiver may take.
     pub(crate) fn begins_one(&self) -> bool
         ensures { result ≡ begins_one self.now }
     {
@@ -212,14 +214,14 @@ impl<'a> Segment<'a> {
             && self.begins_stream()
     }
 
-    /// The same without its data.
+    /// Returns the segment without its data.
     pub(crate) fn without_data(&self) -> Segment<'static>
         ensures { IsWithoutData self.now result }
     {
         self.header().with_data(&[])
     }
 
-    /// All but its data.
+    /// Returns the header.
     pub(crate) fn header(&self) -> Header
         ensures { result ≡ header_of self.now }
     {
@@ -238,22 +240,22 @@ impl<'a> Segment<'a> {
         }
     }
 
-    /// It has data.
+    /// Returns whether it has data.
     pub fn has_data(&self) -> bool
         ensures { result ≡ has_data self.now }
     {
         !self.payload.is_empty()
     }
 
-    /// It takes up numbers behind its first: it has data, or FIN is set.
+    /// Returns whether it occupies sequence numbers behind its first: it has data or a FIN.
     pub(crate) fn takes_numbers(&self) -> bool
         ensures { result ≡ takes_numbers self.now }
     {
         self.has_data() || self.ends()
     }
 
-    /// The number of the urgent byte that it tells of, where URG is set: that in front of the number to which it points, which is no part of
-    /// the data (RFC 6093, section 3).
+    /// Returns the number of the urgent byte if URG is set. It is the one before the number to
+    /// which the pointer points, and is not part of the data (RFC 6093, section 3).
     pub(crate) fn urgent(&self) -> Option<u32>
         ensures { result ≡ urgent_of self.now }
     {
@@ -264,7 +266,7 @@ impl<'a> Segment<'a> {
         Some(self.first().wrapping_add(ahead))
     }
 
-    /// The same without FIN and URG.
+    /// Returns the segment with FIN and URG cleared.
     pub(crate) fn bytes_alone(&self) -> Segment<'a>
         ensures { result ≡ bytes_alone self.now }
     {
@@ -274,7 +276,7 @@ impl<'a> Segment<'a> {
         }
     }
 
-    /// The data of a SYN, in a segment of its own.
+    /// Returns the data of a SYN as a separate segment.
     pub(crate) fn data_of_syn(&self) -> Segment<'a>
         ensures { result ≡ data_of_syn self.now }
     {
@@ -285,7 +287,7 @@ impl<'a> Segment<'a> {
         }
     }
 
-    /// The number behind all that it takes up: a FIN has one of its own.
+    /// Returns the number behind all that it occupies, a FIN included.
     pub fn end(&self) -> u32
         ensures { result ≡ end_with_fin self.now }
     {
@@ -295,7 +297,7 @@ impl<'a> Segment<'a> {
         self.behind()
     }
 
-    /// The number of its first byte of data, in front of which a SYN counts as one.
+    /// Returns the number of the first data byte. A SYN occupies one number before it.
     pub fn first(&self) -> u32
         ensures { result ≡ first_of self.now }
     {
@@ -305,7 +307,7 @@ impl<'a> Segment<'a> {
         self.sequence
     }
 
-    /// The number behind its last byte of data.
+    /// Returns the number behind the last data byte.
     pub fn behind(&self) -> u32
         ensures { result ≡ behind_of self.now }
     {

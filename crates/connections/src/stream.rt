@@ -8,57 +8,59 @@ use crate::segment::Segment;
 use segments::{SegmentError, TcpReassembler};
 use std::alloc::{AllocError, Global};
 
-/// How many bytes a segment may end behind the first that is missing. The bytes of one that ends further are left out.
+/// How far behind the first missing byte a segment may end. The bytes of one that ends further are
+/// left out.
 pub const HELD_LIMIT: u32 = 262_144;
 
-/// How many bytes are kept that were handed on and aren't acknowledged.
+/// How many bytes are kept after they were read, until they are acknowledged.
 pub const KEPT_LIMIT: usize = 16_384;
 
-/// How a direction is read.
+/// The state of a direction.
 #[derive(Drop)]
 enum Reading {
     /// No segment of it came.
     Unbegun,
-    /// What came stands here.
+    /// Its bytes are reassembled here.
     Open(TcpReassembler),
-    /// It is not read any more.
+    /// It isn't read any more.
     Over,
 }
 
 /// How far a direction came.
 #[derive(Clone, Copy, Debug, PartialEq, Eq)]
 pub struct Front {
-    /// The number behind all bytes that came in order, where it is known.
+    /// The number behind all in-order bytes, if it is known.
     pub reached: Option<u32>,
-    /// Whether they are read.
+    /// Whether the bytes are read.
     pub is_read: bool,
 }
 
-/// One direction of a connection: what came of it in order.
+/// One direction of a connection, reassembled in order.
 #[derive(Drop)]
 pub struct Stream {
     reading: Reading,
-    // The number of the first byte that is kept, in order.
+    // The number of the first kept byte, in order.
     next: u32,
-    // How many bytes were handed on, of those that are kept: others may still come at their places until they are acknowledged.
+    // How many of the kept bytes were read. Until they are acknowledged, others may still arrive at
+    // their numbers.
     heard: usize,
-    // The number of the urgent byte, which is none of the stream.
+    // The number of the urgent byte, which isn't part of the stream.
     urgent: Option<u32>,
     // The number behind the last byte that came.
     last: u32,
     fin: Option<u32>,
     is_broken: bool,
-    // How far its last byte stands from its first.
+    // The distance from the first byte to behind the last.
     length: u64,
-    // How many bytes came once more.
+    // How many bytes were retransmitted.
     repeated: u64,
-    // At how many places another byte came than the one that stands there.
+    // How many retransmitted bytes had another value than the one that is kept.
     disagreeing: u64,
-    // Where it is read no further: the number of the next byte that is passed on, as long as none is missing.
+    // Once it is read no further: the number of the next byte to pass on, until one is missing.
     passing: Option<u32>,
 }
 
-/// How many bytes are held, in order and behind others that are missing.
+/// Returns how many bytes are stored, in order and out of order.
 fn held(segments: &TcpReassembler) -> u64
     ensures { result ≡ came segments.now }
 {
@@ -66,7 +68,7 @@ fn held(segments: &TcpReassembler) -> u64
     in_order.saturating_add(segments.held_behind() as u64)
 }
 
-/// At how many places two slices differ, as far as both go.
+/// Returns at how many positions two slices differ, up to the shorter one's end.
 fn count_unlike(bytes: &[u8], others: &[u8]) -> usize
     ensures is { result ≡ unlike bytes.now others.now }
     ensures within { result ≤ length bytes.now }
@@ -81,7 +83,8 @@ fn count_unlike(bytes: &[u8], others: &[u8]) -> usize
     count
 }
 
-/// At how many places a segment has other bytes than those that stand there in order, the first of which has that number.
+/// Returns at how many numbers a segment's byte differs from the in-order bytes in `standing`, the
+/// first of which has the number `next`.
 fn count_differing(next: u32, standing: &[u8], segment: &Segment<'_>) -> usize
     ensures { result ≡ differing_in_order next standing.now segment.now }
 {
@@ -100,7 +103,7 @@ fn count_differing(next: u32, standing: &[u8], segment: &Segment<'_>) -> usize
     )
 }
 
-/// The count of a slice's bytes as a number of sequence.
+/// Returns a slice's length as a sequence number.
 fn count(bytes: &[u8]) -> u32
     ensures { result ≡ length bytes.now % 2 ^ 32 }
 {
@@ -108,7 +111,7 @@ fn count(bytes: &[u8]) -> u32
 }
 
 impl Stream {
-    /// One of which no segment came. It takes no memory.
+    /// Returns an empty stream. It allocates nothing.
     pub fn new() -> Stream
         ensures { result ≡ silent_stream }
     {
@@ -127,7 +130,7 @@ impl Stream {
         }
     }
 
-    /// It begins with this number, where that is known and nothing came before.
+    /// Begins the stream with this number, if it is known and nothing came before.
     pub(crate) fn begin(&mut self, alloc: Global, start: Option<u32>)
         ensures { self.new ≡ begun_at start self.old }
     {
@@ -138,7 +141,8 @@ impl Stream {
         }
     }
 
-    /// The number behind the last byte of data that a segment tells of: a FIN has a number of its own, behind which there is no data.
+    /// Returns the number behind the last data byte of a segment. There is no data behind a FIN,
+    /// which occupies a number too.
     fn end_of(&self, segment: &Segment<'_>) -> u32
         ensures { result ≡ end_of self.now.fin segment.now }
     {
@@ -163,8 +167,9 @@ impl Stream {
         }
     }
 
-    /// Notes which byte is urgent by a segment with URG: one that didn't come yet, and that is behind the last one of which this is known. It is the
-    /// one in front of the number to which the pointer points, as in Linux (RFC 6093, section 3).
+    /// Notes the urgent byte of a segment with URG. It counts if it didn't come yet and is behind
+    /// the last known one. It is the byte before the number to which the pointer points, as in
+    /// Linux (RFC 6093, section 3).
     fn note_urgent(&mut self, segment: &Segment<'_>)
         ensures { self.new ≡ with_urgent segment.now self.old }
     {
@@ -184,8 +189,8 @@ impl Stream {
         }
     }
 
-    /// Lets bytes go that were handed on: those in front of the number that is acknowledged, and those of which [`KEPT_LIMIT`] or more were handed on
-    /// behind them.
+    /// Frees bytes that were read: those before the acknowledged number, and those with
+    /// [`KEPT_LIMIT`] or more read bytes behind them.
     pub(crate) fn forget(&mut self, acknowledged: Option<u32>)
         ensures { self.new ≡ forgetting acknowledged self.old }
     {
@@ -203,9 +208,10 @@ impl Stream {
         }
     }
 
-    /// Counts the bytes of the segment that stand in front of the next that is passed on.
+    /// Counts the bytes of a segment before the next one to pass on as retransmitted.
     fn count_passed(&mut self, segment: &Segment<'_>)
-        ensures { self.new ≡ record self.old { repeated = passed_before self.old.passing segment.now self.old.repeated } }
+        ensures { self.new ≡ record self.old
+            { repeated = passed_before self.old.passing segment.now self.old.repeated } }
     {
         let Some(next) = self.passing else {
             return;
@@ -219,7 +225,7 @@ impl Stream {
         self.repeated = self.repeated.saturating_add(again as u64);
     }
 
-    /// Puts the segment's bytes into what is held, and counts those of them that stood there.
+    /// Adds a segment's bytes, and counts those that were there already.
     fn put(&mut self, segment: &Segment<'_>) -> Result<(), AllocError>
         ensures put { OnOk result (HasPut segment.now self.old self.new) }
         ensures err { OnErr result (self.new ≡ self.old) }
@@ -247,8 +253,10 @@ impl Stream {
         Ok(())
     }
 
-    /// Puts the segment's bytes where they stand. Where it ends more than [`HELD_LIMIT`] behind the first byte that is missing, they are left
-    /// out. `AllocError` where its bytes could not be held: they are left out too.
+    /// Adds a segment's bytes. Those of a segment that ends more than [`HELD_LIMIT`] behind the
+    /// first missing byte are left out.
+    ///
+    /// `AllocError` if there is no memory for the bytes. They are left out then too.
     pub fn accept(&mut self, segment: &Segment<'_>) -> Result<(), AllocError>
         ensures taken { OnOk result (HasTaken segment.now self.old self.new) }
         ensures left_out { OnErr result ((breaks segment.now ≡ false) × (self.new ≡ noted segment.now self.old)) }
@@ -265,14 +273,15 @@ impl Stream {
         self.put(segment)
     }
 
-    /// The number of the first byte that was not yet handed on.
+    /// Returns the number of the first unread byte.
     fn unheard(&self) -> u32
         ensures { result ≡ unheard_from self.now }
     {
         self.next.wrapping_add((self.heard % 0x1_0000_0000) as u32)
     }
 
-    /// The bytes that come next, up to the first that is missing, or to the urgent one; none where it is not read any more.
+    /// Returns the unread in-order bytes, up to the first missing byte or the urgent one. None if
+    /// the stream is read no further.
     pub fn available(&self) -> &[u8]
         ensures { result.now ≡ next_bytes self.now self.now.reading }
     {
@@ -290,8 +299,8 @@ impl Stream {
         }
     }
 
-    /// Takes bytes off what comes next; all where fewer are there. They are kept until they are acknowledged, so that others that come at their places
-    /// are told of.
+    /// Marks `n` of the available bytes as read, or all if there are fewer. They are kept until
+    /// they are acknowledged, so that retransmitted bytes with other values are counted.
     pub fn take(&mut self, n: usize)
         ensures { self.new ≡ handing_on n self.old }
     {
@@ -299,7 +308,7 @@ impl Stream {
         self.heard = self.heard.saturating_add(n);
     }
 
-    /// Whether what comes next ends in front of the urgent byte, and that is there.
+    /// Returns whether the available bytes end at the urgent byte, and that has come.
     pub fn is_cut(&self) -> bool
         ensures { result ≡ is_cut_short self.now self.now.reading }
     {
@@ -312,7 +321,7 @@ impl Stream {
         }
     }
 
-    /// Passes over the urgent byte, if it comes next: whether it did.
+    /// Skips the urgent byte if it comes next. Returns whether it did.
     pub fn pass_urgent(&mut self) -> bool
         ensures next { result ≡ has_urgent_next self.old }
         ensures passed { self.new ≡ passing_urgent self.old }
@@ -325,38 +334,41 @@ impl Stream {
         true
     }
 
-    /// How many bytes its sender said, by the numbers of its segments: those that are missing count, and those that were sent again
-    /// count once. A segment counts that is less than 2^31 bytes ahead of the others.
+    /// Returns how many bytes its sender sent, by the sequence numbers of its segments. Missing
+    /// bytes count, and retransmitted ones count once. Segments 2^31 or more bytes ahead of the
+    /// others don't count.
     pub fn length(&self) -> u64
         ensures { result ≡ self.now.length }
     {
         self.length
     }
 
-    /// How many bytes came at places where others had come. It is known as long as the stream is read, or its bytes are passed on.
+    /// Returns how many bytes were retransmitted. They are counted as long as the stream is read or
+    /// its bytes are passed on.
     pub fn repeated(&self) -> u64
         ensures { result ≡ self.now.repeated }
     {
         self.repeated
     }
 
-    /// How many bytes came that aren't those that stood at their places: those that wait behind others that are missing, and those that were handed on
-    /// and aren't acknowledged, [`KEPT_LIMIT`] of them. Those that came first stay.
+    /// Returns how many bytes arrived with another value than the one that is kept: out-of-order
+    /// ones, and up to [`KEPT_LIMIT`] read ones that aren't acknowledged. The first ones stay.
     pub fn disagreeing(&self) -> u64
         ensures { result ≡ self.now.disagreeing }
     {
         self.disagreeing
     }
 
-    /// Counts bytes that disagreed before they were put into the stream, as those of a datagram's fragments may.
+    /// Counts bytes that disagreed before they got here, such as those of a datagram's overlapping
+    /// fragments.
     pub fn add_disagreeing(&mut self, count: u64)
         ensures { self.new ≡ with_more_disagreeing count self.old }
     {
         self.disagreeing = self.disagreeing.saturating_add(count);
     }
 
-    /// Reads no further: what is held and what comes is let go. Where it was read, what comes next is passed on by
-    /// [`Stream::pass`].
+    /// Stops reading: frees the bytes and ignores later ones. If it was read so far,
+    /// [`Stream::pass`] passes on what comes next.
     pub fn stop(&mut self)
         ensures { self.new ≡ stopped self.old self.old.reading }
     {
@@ -368,8 +380,9 @@ impl Stream {
         self.reading = Reading::Over;
     }
 
-    /// The bytes of a segment that come next in a stream that is read no further: those behind all that were taken or passed on. None of
-    /// them is kept. Where bytes are missing in front of a segment, neither its bytes nor any that follow are passed on.
+    /// Returns the next bytes, in a segment, of a stream that is read no further: those behind all
+    /// that were read or passed on. None is kept. Once bytes are missing before a segment, nothing
+    /// more is passed on.
     pub fn pass<'a>(&mut self, segment: &Segment<'a>) -> &'a [u8]
         ensures bytes { result.now ≡ passed self.old.passing segment.now }
         ensures passing { self.new ≡ record self.old { passing = passing_behind self.old.passing segment.now } }
@@ -387,14 +400,14 @@ impl Stream {
         bytes
     }
 
-    /// Whether its sender broke the connection off.
+    /// Returns whether its sender reset the connection.
     pub(crate) fn is_broken(&self) -> bool
         ensures { result ≡ self.now.is_broken }
     {
         self.is_broken
     }
 
-    /// Whether bytes are missing in front of this number, as far as it is known.
+    /// Returns whether bytes are missing before this number, as far as it is known.
     pub(crate) fn lacks(&self, number: u32) -> bool
         ensures { result ≡ is_missing number self.now }
     {
@@ -404,7 +417,8 @@ impl Stream {
         }
     }
 
-    /// Whether its sender said its last: it broke the connection off, or all in front of its FIN came.
+    /// Returns whether it is closed: its sender reset the connection, or all bytes before its FIN
+    /// came.
     pub fn is_closed(&self) -> bool
         ensures { result ≡ is_over self.now }
     {
@@ -420,7 +434,7 @@ impl Stream {
         }
     }
 
-    /// How far it came.
+    /// Returns how far it came.
     pub(crate) fn front(&self) -> Front
         ensures { result ≡ front_of self.now self.now.reading }
     {
@@ -435,7 +449,7 @@ impl Stream {
         }
     }
 
-    /// How many bytes of memory it takes besides itself, at most: as many as it holds, or more.
+    /// Returns an upper bound for its memory besides itself, in bytes.
     pub(crate) fn capacity(&self) -> usize
         ensures { held_in self.now.reading ≤ result }
     {
@@ -445,7 +459,7 @@ impl Stream {
         }
     }
 
-    /// Whether bytes are missing in front of others, or of a FIN, that came.
+    /// Returns whether bytes are missing before others that came, or before a FIN.
     pub fn has_gap(&self) -> bool
         ensures { result ≡ lacks self.now self.now.reading }
     {

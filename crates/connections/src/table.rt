@@ -1,4 +1,4 @@
-//! The connections that are open.
+//! The table of connections.
 ghost use Rattle.std.specs.Prelude.{◌≡◌, ◌-◌, ◌^◌, ◌≤◌, length, true, false, IfOk, IfSome, IfNone, IsNone, OnErr, OnOk, [], ◌∷◌};
 ghost use Rattle.std.specs.Borrow.{sem};
 ghost use Rattle.std.specs.Option.{option_copied_mut, option_map};
@@ -21,26 +21,28 @@ use std::hash::RandomState;
 use std::marker::Model;
 use std::mem;
 
-/// After so many nanoseconds of the capture's clock without a packet a connection is over: 300 seconds.
+/// How long a connection may be idle, in nanoseconds of the capture's clock: 300 seconds.
 pub const IDLE_LIMIT: u64 = 300_000_000_000;
 
-/// No more connections are held than this; then the one that was longest without a packet is over.
+/// The most connections. Beyond that the longest-idle ones are evicted.
 pub const MAX_CONNECTIONS: usize = 1_048_576;
 
-/// Of a limit of memory those that were closed may take this part.
+/// The share of a memory limit that closed connections may take: one part in this many.
 pub const CLOSED_SHARE: usize = 8;
 
-/// What one that was closed takes, in bytes, at most: its entry in the table, with its share of a map that grows.
+/// An upper bound for a closed connection's memory, in bytes: its table entry, with a share of a
+/// growing map.
 pub const CLOSED_COST: usize = 256;
 
-/// The connections that are open, each with a value of the caller, the one with the latest packet first.
+/// The open connections, each with a caller's value, most recent packet first.
 #[derive(Drop)]
 pub struct Connections<T> {
     alloc: Global,
     pub(crate) live: ByFiveTuple<Boxed<T>>,
-    // Those that both sides ended, each with its last time. What still comes of them is left out.
+    // The connections that both sides closed, each with its last time. Later packets of them are
+    // ignored.
     pub(crate) closed: ByFiveTuple<u64>,
-    // For how many bytes those that are open are accounted together.
+    // The memory accounted for the open connections, in bytes.
     pub(crate) held: usize,
 }
 
@@ -55,14 +57,15 @@ impl<T> Model for Connections<T> {
     ghost invariant = { λ c. (c.live.cap ≡ 2 ^ 64 - 1) × (c.closed.cap ≡ 2 ^ 64 - 1) × (c.held < 2 ^ 63) };
 }
 
-/// Puts a value under these ends, in the place of what stood there.
+/// Sets the value of a five-tuple.
 fn put_under<X: Drop>(
     table: &mut ByFiveTuple<X>,
     five_tuple: FiveTuple,
     value: X,
 ) -> Result<(), AllocError>
     requires { table.old.cap ≡ 2 ^ 64 - 1 }
-    ensures put { OnOk result (table.new.entries ≡ (five_tuple, value) ∷ others five_tuple table.old.entries) }
+    ensures put { OnOk result
+        (table.new.entries ≡ (five_tuple, value) ∷ others five_tuple table.old.entries) }
     ensures err { OnErr result (table.new ≡ table.old) }
     ensures cap { table.new.cap ≡ table.old.cap }
 {
@@ -71,7 +74,8 @@ fn put_under<X: Drop>(
     Ok(())
 }
 
-/// Whether one with this last time had no packet for more than [`IDLE_LIMIT`], or there are more than [`MAX_CONNECTIONS`].
+/// Returns whether a connection with this last time was idle for more than [`IDLE_LIMIT`], or there
+/// are more than [`MAX_CONNECTIONS`].
 fn is_over(time: u64, last_time: u64, count: usize) -> bool
     ensures over { result ≡ true → IsOverAmong count time last_time }
     ensures not_over { result ≡ false → ¬ IsOverAmong count time last_time }
@@ -79,7 +83,8 @@ fn is_over(time: u64, last_time: u64, count: usize) -> bool
     time.saturating_sub(last_time) > IDLE_LIMIT || count > MAX_CONNECTIONS
 }
 
-/// Forgets those that had no packet for more than [`IDLE_LIMIT`], and the oldest where there are more than [`MAX_CONNECTIONS`].
+/// Forgets the closed connections that were idle for more than [`IDLE_LIMIT`], and the oldest
+/// beyond [`MAX_CONNECTIONS`].
 fn forget_idle(closed: &mut ByFiveTuple<u64>, time: u64)
     ensures forgotten { IsForgotten time closed.old.entries closed.new.entries }
     ensures none_to_forget { NoneToForget time closed.new.entries }
@@ -94,7 +99,8 @@ fn forget_idle(closed: &mut ByFiveTuple<u64>, time: u64)
 }
 
 impl<T: Listener> Connections<T> {
-    /// None. The keys are for the hashes, so that nobody who doesn't know them can choose ends whose hashes are the same.
+    /// Returns an empty table. `keys` keys its hashes, so that nobody without the keys can choose
+    /// five-tuples whose hashes collide.
     pub fn new(alloc: Global, keys: RandomState) -> Result<Connections<T>, AllocError>
         ensures { IfOk result (λ c. c ≡ record { live = []; closed = []; held = 0 }) }
     {
@@ -106,10 +112,11 @@ impl<T: Listener> Connections<T> {
         })
     }
 
-    /// Counts a segment of which its receiver takes nothing in the connection between its ends. All else stays as it is, and the connection
-    /// in its place among the others. A SYN is kept: another connection may begin with it.
+    /// Counts a segment that its receiver drops, in the connection between its ends. Nothing else
+    /// changes, not even the order of use. A SYN is kept, since another connection may begin with
+    /// it.
     ///
-    /// `AllocError` where it could not be held.
+    /// `AllocError` if there is no memory for it.
     pub fn drop_segment(&mut self, segment: &Segment<'_>, reason: Reason) -> Result<(), AllocError>
         ensures drops { Drops segment.now self.old self.new }
         ensures accounted { IsAccounted self.old → IsAccounted self.new }
@@ -121,8 +128,8 @@ impl<T: Listener> Connections<T> {
         Ok(())
     }
 
-    /// Begins the connection between a segment's ends anew, where the segment shows that nobody took what came before, since all of it was
-    /// damaged.
+    /// Restarts the connection between a segment's ends, when the segment shows that everything
+    /// before it was damaged and nobody took it.
     pub fn restart(&mut self, segment: &Segment<'_>)
         ensures restarts { Restarts segment.now self.old self.new }
         ensures accounted { IsAccounted self.old → IsAccounted self.new }
@@ -134,10 +141,10 @@ impl<T: Listener> Connections<T> {
         connection.get_mut().restart(alloc, segment.time);
     }
 
-    /// Keeps a segment in the connection between its ends, until its receiver tells whether it took it; where more than [`MAX_WAITING`] wait, it
-    /// counts as dropped for that reason.
+    /// Keeps a segment as pending in its connection, until its receiver shows whether it took it.
+    /// If more than [`MAX_WAITING`] are pending, it counts as dropped for this reason.
     ///
-    /// `AllocError` where it could not be held.
+    /// `AllocError` if there is no memory for it.
     pub fn wait(&mut self, segment: &Segment<'_>, reason: Reason) -> Result<(), AllocError>
         ensures drops { Drops segment.now self.old self.new }
         ensures accounted { IsAccounted self.old → IsAccounted self.new }
@@ -149,8 +156,10 @@ impl<T: Listener> Connections<T> {
         Ok(())
     }
 
-    /// Takes out a segment that waited until its receiver, the sender of this one, acknowledged it; one of which all bytes came otherwise counts
-    /// as dropped. To be called before this one is put into its connection, until there is none.
+    /// Removes and returns a pending segment that this segment acknowledges. One whose bytes all
+    /// arrived otherwise counts as dropped.
+    ///
+    /// Call it before this segment is accepted, until it returns `None`.
     pub fn take_waiting(&mut self, segment: &Segment<'_>) -> Option<Told>
         ensures drops { Drops segment.now self.old self.new }
         ensures accounted { IsAccounted self.old → IsAccounted self.new }
@@ -162,9 +171,9 @@ impl<T: Listener> Connections<T> {
         None
     }
 
-    /// Puts a segment that waited into the connection between its ends.
+    /// Adds a pending segment to its connection's stream.
     ///
-    /// `AllocError` where its bytes could not be held: they are left out.
+    /// `AllocError` if there is no memory for its bytes. They are left out then.
     pub fn accept_kept(&mut self, kept: &Kept) -> Result<(), AllocError>
         ensures { IsAccounted self.old → IsAccounted self.new }
     {
@@ -175,7 +184,7 @@ impl<T: Listener> Connections<T> {
         Ok(())
     }
 
-    /// Puts a segment into a connection that it begins.
+    /// Adds a connection that begins with a segment.
     fn begin(&mut self, five_tuple: FiveTuple, segment: &Segment<'_>) -> Result<(), AllocError>
         ensures begun { OnOk result (BeginsFirst segment.now five_tuple self.old self.new) }
         ensures err { OnErr result (self.new ≡ self.old) }
@@ -189,17 +198,23 @@ impl<T: Listener> Connections<T> {
         Ok(())
     }
 
-    /// Puts the segment into the connection between its ends, and says whether there is one. There is none where the segment
-    /// neither begins one nor has data, or where the last one was closed.
+    /// Adds the segment to its connection, and returns whether there is one. There is none if the
+    /// segment neither begins one nor has data, or if the last one was closed.
     ///
-    /// `AllocError` where a new connection or the segment's bytes could not be held: these are left out.
+    /// `AllocError` if there is no memory for a new connection or the segment's bytes. These are
+    /// left out then.
     pub fn accept(&mut self, segment: &Segment<'_>) -> Result<bool, AllocError>
         ensures belongs { IfOk result (λ belongs_to_one. belongs_to_one ≡ belongs segment.now self.old) }
-        ensures put { IfOk result (λ belongs_to_one. Puts belongs_to_one segment.now self.old self.new) }
-        ensures others { others (five_tuple_of segment.now) self.new.live ≡ others (five_tuple_of segment.now) self.old.live }
+        ensures put { IfOk result
+            (λ belongs_to_one. Puts belongs_to_one segment.now self.old self.new) }
+        ensures others { others (five_tuple_of segment.now) self.new.live ≡ others (five_tuple_of segment.now)
+            self.old.live }
         ensures refused { OnErr result (belongs segment.now self.old ≡ true) }
-        ensures left_out { OnErr result (LeavesOutAt segment.now (at (five_tuple_of segment.now) self.old.live) self.old.live self.new.live) }
-        ensures closed { IfOk result (λ belongs_to_one. self.new.closed ≡ closed_behind belongs_to_one segment.now self.old) }
+        ensures left_out { OnErr result
+            (LeavesOutAt segment.now (at (five_tuple_of segment.now) self.old.live) self.old.live
+            self.new.live) }
+        ensures closed { IfOk result
+            (λ belongs_to_one. self.new.closed ≡ closed_behind belongs_to_one segment.now self.old) }
         ensures accounted { IsAccounted self.old → IsAccounted self.new }
     {
         let five_tuple = segment.between();
@@ -215,11 +230,14 @@ impl<T: Listener> Connections<T> {
         Ok(true)
     }
 
-    /// Counts the datagram, and notes its time, in the exchange between its ends, which it begins where there is none.
+    /// Counts the datagram, and notes its time, in the exchange between its ends. Without one it
+    /// begins an exchange.
     ///
-    /// `AllocError` where a new one could not be held: it is left out.
+    /// `AllocError` if there is no memory for a new one. The datagram is left out then.
     pub fn accept_datagram(&mut self, datagram: &Datagram<'_>) -> Result<(), AllocError>
-        ensures put { OnOk result (IsPut (five_tuple_of_datagram datagram.now) (TakesDatagram datagram.now) self.old.live self.new.live) }
+        ensures put { OnOk result
+            (IsPut (five_tuple_of_datagram datagram.now) (TakesDatagram datagram.now) self.old.live
+            self.new.live) }
         ensures err { OnErr result (self.new.live ≡ self.old.live) }
         ensures closed { self.new.closed ≡ self.old.closed }
         ensures accounted { IsAccounted self.old → IsAccounted self.new }
@@ -235,7 +253,7 @@ impl<T: Listener> Connections<T> {
         Ok(())
     }
 
-    /// The connection between these ends.
+    /// Returns the connection of a five-tuple for writing. The order of use doesn't change.
     pub fn get_mut(&mut self, five_tuple: &FiveTuple) -> Option<&mut Connection<T>>
         ensures* writes_back { sem 𝓛 (lends_connection T.row self.entry five_tuple.now result) }
         ensures value { option_copied_mut result ≡ at five_tuple.now self.old.live }
@@ -244,7 +262,7 @@ impl<T: Listener> Connections<T> {
         Some(connection.get_mut())
     }
 
-    /// The same, which stands first then.
+    /// Returns the connection of a five-tuple for writing, and makes it the most recently used.
     pub fn get_first_mut(&mut self, five_tuple: &FiveTuple) -> Option<&mut Connection<T>>
         ensures* writes_back { sem 𝓛 (lends_first T.row self.entry five_tuple.now result) }
         ensures value { option_copied_mut result ≡ at five_tuple.now self.old.live }
@@ -253,8 +271,8 @@ impl<T: Listener> Connections<T> {
         Some(connection.get_mut())
     }
 
-    /// Lets the connection between these ends stand first. Packets mostly come several in a row, so that it does already: the table is searched only where it
-    /// doesn't.
+    /// Makes a connection the most recently used. Packets mostly come several in a row, so the
+    /// table is searched only if it isn't first already.
     pub fn promote(&mut self, five_tuple: &FiveTuple)
         ensures promoted { self.new ≡ promoting five_tuple.now self.old }
         ensures accounted { IsAccounted self.old → IsAccounted self.new }
@@ -264,7 +282,7 @@ impl<T: Listener> Connections<T> {
         }
     }
 
-    /// Whether the connection between these ends stands first.
+    /// Returns whether the connection of a five-tuple is the most recently used.
     fn is_first(&self, five_tuple: &FiveTuple) -> bool
         ensures { result ≡ true → promoting five_tuple.now self.now ≡ self.now }
     {
@@ -274,16 +292,20 @@ impl<T: Listener> Connections<T> {
         }
     }
 
-    /// Takes out the exchange between a datagram's ends, in whose place another begins with that. Nothing of it came; what the checksums of both ends
-    /// are stays known.
+    /// Removes and returns the exchange between a datagram's ends, and begins another one in its
+    /// place. The datagram isn't counted yet. What is known about both ends' checksums stays.
     ///
-    /// `AllocError` where the other one could not be held. Nothing changes then.
+    /// `AllocError` if there is no memory for the other one. Nothing changes then.
     pub fn take_exchange(
         &mut self,
         datagram: &Datagram<'_>,
     ) -> Result<Option<Box<Connection<T>>>, AllocError>
-        ensures taken { IfOk result (λ taken. option_map (λ b. b.value) taken ≡ at (five_tuple_of_datagram datagram.now) self.old.live) }
-        ensures left { OnOk result (BeginsAfter datagram.now (at (five_tuple_of_datagram datagram.now) self.old.live) self.old self.new) }
+        ensures taken { IfOk result
+            (λ taken. option_map (λ b. b.value) taken ≡ at (five_tuple_of_datagram datagram.now)
+            self.old.live) }
+        ensures left { OnOk result
+            (BeginsAfter datagram.now (at (five_tuple_of_datagram datagram.now) self.old.live)
+            self.old self.new) }
         ensures err { OnErr result (self.new ≡ self.old) }
         ensures accounted { IsAccounted self.old → IsAccounted self.new }
     {
@@ -297,11 +319,12 @@ impl<T: Listener> Connections<T> {
         Ok(Some(over))
     }
 
-    /// Whether one is over at this time, or is to be forgotten of those that were closed: where none is, [`Connections::take_idle`] changes
-    /// nothing.
+    /// Returns whether a connection is over at this time, or a closed one is to be forgotten. If
+    /// not, [`Connections::take_idle`] changes nothing.
     pub fn has_idle(&self, time: u64) -> bool
         ensures none { result ≡ false → NoneIsOver time self.now.live × NoneToForget time self.now.closed }
-        ensures one { NoneIsOver time self.now.live → NoneToForget time self.now.closed → result ≡ false }
+        ensures one { NoneIsOver time self.now.live → NoneToForget time self.now.closed
+            → result ≡ false }
     {
         let is_live_over = match self.live.peek_lru() {
             Some((_, oldest)) => is_over(time, oldest.get().last_time, self.live.len()),
@@ -314,10 +337,13 @@ impl<T: Listener> Connections<T> {
         is_live_over || is_closed_over
     }
 
-    /// Takes out the connection that was longest without a packet, where it is over at this time: it had none for more than
-    /// [`IDLE_LIMIT`], or there are more than [`MAX_CONNECTIONS`]. To be called until there is none.
+    /// Removes and returns the longest-idle connection if it is over at this time: it was idle for
+    /// more than [`IDLE_LIMIT`], or there are more than [`MAX_CONNECTIONS`].
+    ///
+    /// Call it until it returns `None`.
     pub fn take_idle(&mut self, time: u64) -> Option<Box<Connection<T>>>
-        ensures taken { IfSome result (λ b. WasLast self.old.live self.new.live b.value × IsOver time self.old.live b.value.last_time) }
+        ensures taken { IfSome result (λ b. WasLast self.old.live self.new.live b.value
+            × IsOver time self.old.live b.value.last_time) }
         ensures none { IfNone result ((self.new.live ≡ self.old.live) × NoneIsOver time self.old.live) }
         ensures closed { IsForgotten time self.old.closed self.new.closed }
         ensures none_to_forget { NoneToForget time self.new.closed }
@@ -336,15 +362,17 @@ impl<T: Listener> Connections<T> {
         Some(over)
     }
 
-    /// Takes out the connection between the segment's ends where the segment shows that another one began, and puts that in its place: a
-    /// SYN in the middle of a connection is no more than counted, until the other end answers it.
+    /// Removes and returns the connection between the segment's ends if the segment shows that
+    /// another one began, and puts that in its place. A SYN in the middle of a connection is only
+    /// counted, until the other end answers it.
     ///
-    /// `AllocError` where the other one could not be held. Nothing changes then.
+    /// `AllocError` if there is no memory for the other one. Nothing changes then.
     pub fn take_replaced(
         &mut self,
         segment: &Segment<'_>,
     ) -> Result<Option<Box<Connection<T>>>, AllocError>
-        ensures replaced { IfOk result (λ taken. Replaced segment.now self.old self.new (option_map (λ b. b.value) taken)) }
+        ensures replaced { IfOk result
+            (λ taken. Replaced segment.now self.old self.new (option_map (λ b. b.value) taken)) }
         ensures accounted { IsAccounted self.old → IsAccounted self.new }
     {
         let five_tuple = segment.between();
@@ -364,16 +392,18 @@ impl<T: Listener> Connections<T> {
         Ok(Some(over))
     }
 
-    /// Takes out the connection between the segment's ends where both sides ended it. What still comes of it is left out then,
-    /// until a segment asks for a new one.
+    /// Removes and returns the connection between the segment's ends if both sides closed it. Later
+    /// packets of it are ignored, until a segment asks for a new one.
     ///
-    /// `AllocError` where it could not be held that it is closed: nothing changes.
+    /// `AllocError` if there is no memory to remember that it is closed. Nothing changes then.
     pub fn take_closed(
         &mut self,
         segment: &Segment<'_>,
     ) -> Result<Option<Box<Connection<T>>>, AllocError>
-        ensures taken { IfOk result (λ taken. option_map (λ b. b.value) taken ≡ ended (five_tuple_of segment.now) self.old) }
-        ensures left { OnOk result (self.new ≡ without_ended (five_tuple_of segment.now) segment.now.time self.old) }
+        ensures taken { IfOk result
+            (λ taken. option_map (λ b. b.value) taken ≡ ended (five_tuple_of segment.now) self.old) }
+        ensures left { OnOk result
+            (self.new ≡ without_ended (five_tuple_of segment.now) segment.now.time self.old) }
         ensures err { OnErr result (self.new ≡ self.old) }
         ensures accounted { IsAccounted self.old → IsAccounted self.new }
     {
@@ -391,8 +421,8 @@ impl<T: Listener> Connections<T> {
         Ok(Some(over))
     }
 
-    /// Takes out one of the connections that are left, the one that was longest without a packet. To be called at the capture's
-    /// end, until there is none.
+    /// Removes and returns the longest-idle of the remaining connections. At the end of the
+    /// capture, call it until it returns `None`.
     pub fn take_left(&mut self) -> Option<Box<Connection<T>>>
         ensures taken { IfSome result (λ b. WasLast self.old.live self.new.live b.value) }
         ensures none { IfNone result (self.old.live ≡ []) }

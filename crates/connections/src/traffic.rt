@@ -1,18 +1,18 @@
-//! What a side sent, counted.
+//! Counts of what a side sent.
 ghost use Rattle.std.specs.Prelude.{◌≡◌, length};
 ghost use Rattle.connections.specs.Traffic.{nothing_sent, with_packet};
 
-/// What one side sent, as it was captured. A count that can't be held in 64 bits stays at the most that can.
+/// What one side sent, as it was captured. The counts saturate at 2^64 - 1.
 #[derive(Clone, Copy, Debug, PartialEq, Eq)]
 pub struct Traffic {
-    /// How many packets.
+    /// The number of packets.
     pub packets: u64,
-    /// How many bytes of data they have together, those that were sent again too.
+    /// The bytes of data in them, retransmitted ones included.
     pub bytes: u64,
 }
 
 impl Traffic {
-    /// That of a side that sent nothing.
+    /// Returns the count of nothing.
     pub(crate) fn new() -> Traffic
         ensures { result ≡ nothing_sent }
     {

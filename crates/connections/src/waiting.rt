@@ -1,8 +1,10 @@
-//! Segments of which their receivers' next acknowledgements tell whether they were taken.
+//! Pending segments, for which the receiver's next acknowledgements will show whether it took them.
 //!
-//! Where bytes were lost on the way to the capture, a receiver takes a segment that acknowledges them, or that lies behind its window as that is
-//! known; where they were never sent, it drops it (RFC 9293, section 3.10.7.4). So the segment waits until the receiver acknowledges its bytes:
-//! where no others came at their places before, it took these. The data of a SYN waits so too (RFC 7413, section 3).
+//! If the capture lost bytes, a receiver takes a segment that acknowledges them, or that is beyond
+//! its window as far as that is known. If they were never sent, it drops the segment (RFC 9293,
+//! section 3.10.7.4). So the segment is pending until the receiver acknowledges its bytes: if no
+//! others came at their numbers before, it took these. The data of a SYN is pending too (RFC 7413,
+//! section 3).
 ghost use Rattle.std.specs.Prelude.{◌≡◌, ◌<◌, length, IfSome, []};
 
 use crate::dropped::Dropped;
@@ -13,60 +15,64 @@ use crate::receiver::Reason;
 use crate::segment::{Header, Segment};
 use std::alloc::{AllocError, AllocFailed, Global};
 
-/// How many segments of a connection wait; no more are kept.
+/// The most pending segments of a connection.
 pub const MAX_WAITING: usize = 32;
 
-/// How many bytes of data they have together, at most.
+/// The most bytes of data in them.
 const MAX_BYTES: usize = 0x1_0000;
 
-/// How many bytes of memory one takes besides its data, at most: its fields, and what the allocator takes.
+/// An upper bound for a pending segment's memory besides its data, in bytes: its fields and the
+/// allocator's overhead.
 const KEPT_COST: usize = 320;
 
-/// So much of both is left to segments that begin in the window, and acknowledge what was sent: most that is forged does neither.
+/// How much of both is reserved for segments that begin in the window and acknowledge what was
+/// sent. Most forged segments do neither.
 const KEPT_FREE: usize = 8;
 
 const BYTES_FREE: usize = 0x4000;
 
-/// A segment that waits.
+/// A pending segment.
 #[derive(Drop)]
 pub struct Kept {
     header: Header,
     payload: Vec<u8>,
-    // Why it was dropped, if it isn't taken; of the data of a SYN, which was counted with it, nothing.
+    // Why it was dropped, if it isn't taken. None for the data of a SYN, which was counted with the
+    // SYN.
     reason: Option<Reason>,
-    // Whether it begins behind its receiver's window, as that is known.
+    // Whether it begins beyond its receiver's window, as far as that is known.
     is_beyond: bool,
 }
 
 impl Kept {
-    /// The segment.
+    /// Returns the segment.
     pub fn segment(&self) -> Segment<'_> {
         self.header.with_data(self.payload.as_slice())
     }
 
-    /// Why it was dropped, if it isn't taken.
+    /// Returns why it was dropped, if it isn't taken.
     pub(crate) fn reason(&self) -> Option<Reason> {
         self.reason
     }
 
-    /// Whether it is the data of a SYN, which was counted with it.
+    /// Returns whether it is the data of a SYN, which was counted with the SYN.
     pub(crate) fn is_of_syn(&self) -> bool {
         self.reason.is_none()
     }
 
-    /// Whether it is a SYN.
+    /// Returns whether it is a SYN.
     fn begins(&self) -> bool {
         self.segment().begins()
     }
 
-    /// Whether it is a SYN that asks, or one that answers.
+    /// Returns whether it is a SYN-ACK (`answers`), or a SYN without ACK.
     fn is_syn(&self, answers: bool) -> bool {
         let segment = self.segment();
         segment.begins() && segment.answers() == answers
     }
 
-    /// Whether a segment shows that its sender took bytes of this one: it acknowledges them, and nothing behind all that was sent; and it comes
-    /// behind what this one acknowledges, if that wasn't known to be sent.
+    /// Returns whether another segment shows that its sender took bytes of this one. It
+    /// acknowledges them, and nothing beyond all that was sent. If this segment's acknowledgement
+    /// wasn't known to be of sent bytes, the other one comes behind it.
     fn is_told_by(&self, teller: &Segment<'_>, known: Known) -> bool {
         let (number, segment) = (teller.acknowledgment, self.segment());
         segment.destination == teller.source
@@ -77,8 +83,9 @@ impl Kept {
             && (self.is_of_syn() || (self.fits_to(teller, known) && self.stands(teller, known)))
     }
 
-    /// Whether a segment acknowledges it whole, or not more than was known to be sent; or what the receiver's window had room for, where it acknowledges what
-    /// was sent, and begins in front of the window's end.
+    /// Returns whether a segment acknowledges all of it, or no more than was known to be sent. It
+    /// may also acknowledge as much as the receiver's window had room for, if this segment begins
+    /// within the window and acknowledges what was sent.
     fn fits_to(&self, teller: &Segment<'_>, known: Known) -> bool {
         let number = teller.acknowledgment;
         let is_unsure = self.reason == Some(Reason::Acknowledgment) || self.is_beyond;
@@ -87,20 +94,22 @@ impl Kept {
             || (!is_unsure && known.edge == Some(number))
     }
 
-    /// Whether what it acknowledges was sent, where a segment came: all of that came, or that segment begins there.
+    /// Returns whether the bytes that it acknowledges were sent, by the time a segment came: all of
+    /// them came, or that segment begins there.
     fn stands(&self, teller: &Segment<'_>, known: Known) -> bool {
         let number = self.header.acknowledgment;
         !is_behind(number, known.reached) || number == teller.first()
     }
 
-    /// Whether it goes on where another one ends, or the other where it does.
+    /// Returns whether it is adjacent to another pending segment of the same sender.
     fn is_beside(&self, other: &Kept) -> bool {
         let (segment, beside) = (self.segment(), other.segment());
         segment.source == beside.source
             && (segment.first() == beside.end() || beside.first() == segment.end())
     }
 
-    /// Whether a segment of its sender's shows that it is forged: without data, that segment stands in front of it, and acknowledges more.
+    /// Returns whether a segment of its sender shows that it is forged: that segment has no data,
+    /// isn't behind it, and acknowledges more.
     fn is_unsent_by(&self, segment: &Segment<'_>) -> bool {
         !self.is_of_syn()
             && !self.begins()
@@ -110,7 +119,7 @@ impl Kept {
             && is_behind(segment.acknowledgment, self.header.acknowledgment)
     }
 
-    /// Cuts off what stands behind this number; a FIN there too.
+    /// Truncates it at this number, with its FIN.
     fn cut(&mut self, number: u32) {
         if is_behind(self.segment().end(), number) {
             let len = advance(number, self.header.sequence) as usize;
@@ -119,8 +128,9 @@ impl Kept {
         }
     }
 
-    /// Whether a segment of its receiver's, which comes behind that number, shows that it is forged: it acknowledges a part of what stands between the number
-    /// and the segment's end, and came before that.
+    /// Returns whether a segment of its receiver, behind the number `reached`, shows that it is
+    /// forged. It does if this one acknowledged only a part of what is between that number and the
+    /// segment's end, before the segment came.
     fn is_belied_by(&self, segment: &Segment<'_>, reached: u32) -> bool {
         let (number, first) = (self.header.acknowledgment, segment.first());
         let begin = if is_behind(first, reached) {
@@ -136,21 +146,21 @@ impl Kept {
     }
 }
 
-/// What is known as a segment comes that tells what was taken.
+/// What is known when a segment arrives that may acknowledge pending ones.
 #[derive(Clone, Copy)]
 pub(crate) struct Known {
     /// The number behind all that its receiver sent.
     pub(crate) sent: Option<u32>,
-    /// The number behind all that came in order of its sender.
+    /// The number behind all in-order data of its sender.
     pub(crate) reached: u32,
     /// The number of its receiver's FIN.
     pub(crate) fin: Option<u32>,
-    /// The number behind its sender's window.
+    /// The right edge of its sender's window.
     pub(crate) edge: Option<u32>,
 }
 
 impl Known {
-    /// Whether the segment acknowledges no more than is known to be sent.
+    /// Returns whether the segment acknowledges no more than is known to be sent.
     fn covers(self, teller: &Segment<'_>) -> bool {
         match self.sent {
             Some(next) => !is_behind(teller.acknowledgment, next),
@@ -159,23 +169,23 @@ impl Known {
     }
 }
 
-/// What came of a segment that waited.
+/// What became of a pending segment.
 #[derive(Drop)]
 pub enum Told {
     /// Its receiver took it.
     Taken(Kept),
-    /// Its receiver has its bytes otherwise.
+    /// Its receiver got the bytes otherwise.
     Had,
 }
 
-/// The segments of a connection that wait, in the order in which they came.
+/// The pending segments of a connection, in the order of arrival.
 #[derive(Drop)]
 pub(crate) struct Waiting {
     kept: Vec<Kept>,
 }
 
 impl Waiting {
-    /// None.
+    /// Returns an empty list.
     pub(crate) fn new(alloc: Global) -> Waiting
         ensures { result.kept.items ≡ [] }
     {
@@ -184,12 +194,12 @@ impl Waiting {
         }
     }
 
-    /// Whether there is none.
+    /// Returns whether there are none.
     pub(crate) fn is_empty(&self) -> bool {
         self.kept.is_empty()
     }
 
-    /// How many bytes of data they have.
+    /// Returns how many bytes of data they have.
     fn bytes(&self) -> usize {
         let mut bytes = 0_usize;
         for kept in &self.kept {
@@ -198,7 +208,7 @@ impl Waiting {
         bytes
     }
 
-    /// How many bytes of memory they take, at most.
+    /// Returns an upper bound for their memory in bytes.
     pub(crate) fn capacity(&self) -> usize {
         let mut bytes = self.kept.capacity().saturating_mul(KEPT_COST);
         for kept in &self.kept {
@@ -207,7 +217,8 @@ impl Waiting {
         bytes
     }
 
-    /// Keeps a segment, which may begin behind its receiver's window, and says whether there was room for it.
+    /// Keeps a segment, which may begin beyond its receiver's window. Returns whether there was
+    /// room for it.
     pub(crate) fn keep(
         &mut self,
         alloc: Global,
@@ -233,7 +244,7 @@ impl Waiting {
         Ok(true)
     }
 
-    /// Keeps a SYN, without its data.
+    /// Keeps a SYN without its data.
     pub(crate) fn keep_syn(
         &mut self,
         alloc: Global,
@@ -243,7 +254,7 @@ impl Waiting {
         self.push(alloc, &segment.without_data(), Some(reason), false)
     }
 
-    /// Puts a segment behind those that wait.
+    /// Appends a segment.
     fn push(
         &mut self,
         alloc: Global,
@@ -265,8 +276,9 @@ impl Waiting {
         }
     }
 
-    /// Whether a segment that begins behind the window, and of which another one acknowledges more than is known to be sent, stands in a row with what
-    /// was sent, or with one that waits too: a forged one stands alone.
+    /// Returns whether a pending segment may be genuine. If it begins beyond the window and the
+    /// acknowledgement covers more than is known to be sent, it has to be adjacent to sent data or
+    /// to another pending segment. A forged one isn't.
     fn is_in_row(&self, kept: &Kept, teller: &Segment<'_>, known: Known) -> bool {
         !kept.is_beyond
             || known.covers(teller)
@@ -274,7 +286,8 @@ impl Waiting {
             || self.kept.iter().any(|other| kept.is_beside(other))
     }
 
-    /// Lets those go that a segment of their sender's shows to be forged, and counts them as dropped.
+    /// Removes the segments that a segment of their sender shows to be forged, and counts them as
+    /// dropped.
     pub(crate) fn forget_unsent(&mut self, segment: &Segment<'_>, dropped: &mut Dropped) {
         for kept in &self.kept {
             if let (true, Some(reason)) = (kept.is_unsent_by(segment), kept.reason) {
@@ -284,7 +297,8 @@ impl Waiting {
         self.kept.retain(|kept| !kept.is_unsent_by(segment));
     }
 
-    /// Lets those go that a segment of their receiver's shows to be forged, which comes behind that number, and counts them as dropped.
+    /// Removes the segments that a segment of their receiver, behind the number `reached`, shows to
+    /// be forged, and counts them as dropped.
     pub(crate) fn forget_belied(
         &mut self,
         segment: &Segment<'_>,
@@ -300,7 +314,7 @@ impl Waiting {
             .retain(|kept| !kept.is_belied_by(segment, reached));
     }
 
-    /// Where the first one waits of which a segment shows that its sender took bytes.
+    /// Returns the index of the first pending segment that `teller` acknowledges.
     fn place_told(&self, teller: &Segment<'_>, known: Known) -> Option<usize>
         ensures { IfSome result (λ place. place < length self.now.kept.items) }
     {
@@ -313,8 +327,8 @@ impl Waiting {
         None
     }
 
-    /// Takes out the first segment of which this one shows that its sender took bytes, without what stands behind these, or behind the other end's
-    /// FIN.
+    /// Removes and returns the first pending segment that `teller` acknowledges, truncated at the
+    /// acknowledged bytes and at the other end's FIN.
     pub(crate) fn take(&mut self, teller: &Segment<'_>, known: Known) -> Option<Kept> {
         let place = self.place_told(teller, known)?;
         let mut kept = self.kept.remove(place);
@@ -325,23 +339,23 @@ impl Waiting {
         Some(kept)
     }
 
-    /// Lets the data of a SYN to that end go, which its receiver didn't acknowledge with the SYN.
+    /// Removes the pending data of a SYN to this end, whose receiver acknowledged only the SYN.
     pub(crate) fn forget_data_of_syn(&mut self, receiver: End) {
         self.kept.retain(|kept| !(kept.is_of_syn() && kept.header.destination == receiver));
     }
 
-    /// Takes out the SYN that waits: one that asks, or one that answers.
+    /// Removes and returns the SYN-ACK (`answers`), or the SYN without ACK.
     pub(crate) fn take_syn(&mut self, answers: bool) -> Option<Kept> {
         let place = self.kept.iter().position(|kept| kept.is_syn(answers))?;
         Some(self.kept.remove(place))
     }
 
-    /// Lets both go.
+    /// Removes both SYNs.
     pub(crate) fn forget_syns(&mut self) {
         self.kept.retain(|kept| !kept.begins());
     }
 
-    /// Counts those of that end as dropped.
+    /// Counts the pending segments of this end as dropped.
     pub(crate) fn count(&self, sender: End, dropped: &mut Dropped) {
         for kept in &self.kept {
             if let (true, Some(reason)) = (kept.header.source == sender, kept.reason) {
@@ -350,7 +364,7 @@ impl Waiting {
         }
     }
 
-    /// The SYN that waits: one that asks, or one that answers.
+    /// Returns the SYN-ACK (`answers`), or the SYN without ACK.
     pub(crate) fn syn(&self, answers: bool) -> Option<Segment<'static>> {
         for kept in &self.kept {
             if kept.is_syn(answers) {

@@ -1,11 +1,11 @@
-//! The numbers of which the hash of a five-tuple is made.
+//! The words of a five-tuple that are hashed.
 ghost use Rattle.std.specs.Prelude.{◌≡◌};
 ghost use Rattle.connections.specs.FiveTuple.{address_number, block_number, both_numbers, ports_number};
 
 use crate::five_tuple::Protocol;
 use std::net::IpAddr;
 
-/// An address as a number, big-endian.
+/// Returns an address as a big-endian number.
 pub(crate) fn address_bits(address: IpAddr) -> u128
     ensures { result ≡ address_number address }
 {
@@ -15,14 +15,14 @@ pub(crate) fn address_bits(address: IpAddr) -> u128
     }
 }
 
-/// Two numbers of 32 bits as one.
+/// Joins two numbers of 32 bits.
 pub(crate) fn both_bits(upper: u32, lower: u32) -> u64
     ensures { result ≡ both_numbers upper lower }
 {
     u64::from(upper) * 0x1_0000_0000 + u64::from(lower)
 }
 
-/// Two ports and a protocol as one number.
+/// Joins two ports and a protocol.
 pub(crate) fn port_bits(one: u16, other: u16, protocol: Protocol) -> u64
     ensures { result ≡ ports_number one other protocol }
 {
@@ -33,7 +33,7 @@ pub(crate) fn port_bits(one: u16, other: u16, protocol: Protocol) -> u64
     }
 }
 
-/// Two numbers of 64 bits as one.
+/// Joins two numbers of 64 bits.
 pub(crate) fn block(upper: u64, lower: u64) -> u128
     ensures { result ≡ block_number upper lower }
 {

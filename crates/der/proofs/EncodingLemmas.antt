@@ -18,9 +18,11 @@ record Long (k from : ℕ) (b : Bytes) (n : ℕ) (r : Bytes) : Type 0 where
   least : from ≤ n
   below : n < 256 ^ k
 
-long : (k from : ℕ) (b : Bytes) (n : ℕ) (r d : Bytes) → Spells (long_length k from) b n r d → Long k from b n r
+long : (k from : ℕ) (b : Bytes) (n : ℕ) (r d : Bytes) → Spells (long_length k from) b n r d
+    → Long k from b n r
 unfolding long_length
-long k from b n r d (a, m, d1, d2, (small, is, none), (t, m2, d3, d4, tested, (same, here, none2), e), f) =
+long k from b n r d
+    (a, m, d1, d2, (small, is, none), (t, m2, d3, d4, tested, (same, here, none2), e), f) =
     let passed = test_whole (leb from a) _ m t m2 d3 tested in
     let value : n ≡ a = same in
     let end : m ≡ r = passed.1 ∙ here in
@@ -42,7 +44,7 @@ text_3 n h k = grind (arith, nat_tests)
 text_4 : (n : ℕ) → 0x10000 ≤ n → length_text n ≡ 0x83 ∷ bytes_of 3 n
 text_4 n h = grind (arith, nat_tests)
 
--- the bytes of a length, by its first
+-- the bytes of a length, given the first
 abbrev IsText : ℕ → Bytes → ℕ → Bytes → Type 0
 IsText first b n r = first ∷ b ≡ length_text n ++ r
 
@@ -54,7 +56,8 @@ by_83 first b n r d (First e s) =
 by_83 first b n r d (Second e s) = absurd s
 
 by_82 : (first : ℕ) (b : Bytes) (n : ℕ) (r d : Bytes)
-    → Picked (eqb first 0x82) (long_length 2 0x100) (choose (eqb first 0x83) (long_length 3 0x10000) (refuse TooLarge)) b n r d
+    → Picked (eqb first 0x82) (long_length 2 0x100)
+    (choose (eqb first 0x83) (long_length 3 0x10000) (refuse TooLarge)) b n r d
     → IsText first b n r
 by_82 first b n r d (First e s) =
     let h = long 2 0x100 b n r d s in
@@ -63,7 +66,8 @@ by_82 first b n r d (Second e s) = by_83 first b n r d (picked (eqb first 0x83) 
 
 by_81 : (first : ℕ) (b : Bytes) (n : ℕ) (r d : Bytes)
     → Picked (eqb first 0x81) (long_length 1 0x80)
-    (choose (eqb first 0x82) (long_length 2 0x100) (choose (eqb first 0x83) (long_length 3 0x10000) (refuse TooLarge))) b n r d
+    (choose (eqb first 0x82) (long_length 2 0x100)
+    (choose (eqb first 0x83) (long_length 3 0x10000) (refuse TooLarge))) b n r d
     → IsText first b n r
 by_81 first b n r d (First e s) =
     let h = long 1 0x80 b n r d s in
@@ -83,7 +87,8 @@ by_80 first b n r d (First e s) = absurd s
 by_80 first b n r d (Second e s) = by_81 first b n r d (picked (eqb first 0x81) _ _ b n r d s)
 
 by_first : (first : ℕ) (b : Bytes) (n : ℕ) (r d : Bytes)
-    → Picked (ltb first 0x80) (done first) (choose (eqb first 0x80) (refuse Switch) (longer first)) b n r d
+    → Picked (ltb first 0x80) (done first)
+    (choose (eqb first 0x80) (refuse Switch) (longer first)) b n r d
     → IsText first b n r
 by_first first b n r d (First e s) =
     let is : n ≡ first = s.0 in
@@ -94,7 +99,8 @@ by_first first b n r d (Second e s) = by_80 first b n r d (picked (eqb first 0x8
 first_byte : (b : Bytes) (x : ℕ) (m : Bytes) → x < 256 ^ 1 → b ≡ bytes_of 1 x ++ m → b ≡ x ∷ m
 first_byte b x m h e = e ∙ ap (λ y. y ∷ m) (omega arith)
 
-length_spelled : (b : Bytes) (n : ℕ) (r d : Bytes) → Spells der_length b n r d → b ≡ length_text n ++ r
+length_spelled : (b : Bytes) (n : ℕ) (r d : Bytes) → Spells der_length b n r d
+    → b ≡ length_text n ++ r
 unfolding der_length length_by
 length_spelled b n r d (first, m, d1, d2, (small, is, none), s, e) =
     first_byte b first m small is ∙ by_first first m n r d2 (picked (ltb first 0x80) _ _ m n r d2 s)
@@ -106,7 +112,8 @@ length_is_its_text b r n are e =
     let allowed : Allows der_length b (Ok (n, r)) = read_allowed der_length b (Ok (n, r)) are e in
     length_spelled b n r allowed.0 allowed.1
 
-element_spelled : (b : Bytes) (e : Element) (r d : Bytes) → Spells element b e r d → b ≡ element_text e ++ r
+element_spelled : (b : Bytes) (e : Element) (r d : Bytes) → Spells element b e r d
+    → b ≡ element_text e ++ r
 unfolding element
 element_spelled b e r d (
   t,
@@ -136,8 +143,10 @@ element_spelled b e r d (
     let passed = test_whole _ Switch m u m2 d3 tested in
     let text : m2 ≡ length_text n ++ m3 = length_spelled m2 n m3 d5 counted in
     let behind : m3 ≡ content ++ r = held ∙ ap (λ c. content ++ c) end in
-    let whole : m ≡ length_text n ++ (content ++ r) = passed.1 ∙ text ∙ ap (λ c. length_text n ++ c) behind in
-    let front : m ≡ (length_text n ++ content) ++ r = whole ∙ sym (append_assoc (length_text n) content r) in
+    let whole : m ≡ length_text n ++ (content ++ r) =
+    passed.1 ∙ text ∙ ap (λ c. length_text n ++ c) behind in
+    let front : m ≡ (length_text n ++ content) ++ r =
+    whole ∙ sym (append_assoc (length_text n) content r) in
     let exact : m ≡ (length_text (length content) ++ content) ++ r =
     front ∙ ap (λ k. (length_text k ++ content) ++ r) (sym size) in
     first_byte b t m small is ∙ ap (λ c. t ∷ c) exact ∙ ap (λ x. element_text x ++ r) (sym value)
@@ -149,6 +158,8 @@ element_is_its_text b r e are h =
     let allowed : Allows element b (Ok (e, r)) = read_allowed element b (Ok (e, r)) are h in
     element_spelled b e r allowed.0 allowed.1
 
-pub element_has_one_text : (b c r : Bytes) (e : Element) → AreBytes b → AreBytes c → reading element b ≡ Ok (e, r)
+pub element_has_one_text : (b c r : Bytes) (e : Element) → AreBytes b → AreBytes c
+    → reading element b ≡ Ok (e, r)
     → reading element c ≡ Ok (e, r) → b ≡ c
-element_has_one_text b c r e are are2 h k = element_is_its_text b r e are h ∙ sym (element_is_its_text c r e are2 k)
+element_has_one_text b c r e are are2 h k = element_is_its_text b r e are h
+    ∙ sym (element_is_its_text c r e are2 k)

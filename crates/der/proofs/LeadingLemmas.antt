@@ -1,4 +1,4 @@
--- The bytes of a subidentifier stand at the front, as they are walked.
+-- The bytes of a subidentifier are a front of the bytes that are iterated.
 use Rattle.std.proofs.Common.{◌≡◌, ℕ, ◌+◌, ◌-◌, [], ◌∷◌, ◌++◌, length, Ok, Err, Bool, true, false, leb, refl, sym, ◌∙◌, ap, arith, append_assoc}
 use Rattle.std.proofs.lemmas.List.{length-append}
 use Rattle.layouts.specs.Bytes.{Bytes, AreBytes}
@@ -23,12 +23,13 @@ unfolding leading_byte behind_one
 leading_read x xs e =
     ap behind_one (one_read x xs) ∙ ap (λ t. reading (chain (test t Verify) (λ _. done x)) xs) e
 
-leading_refused : (x : ℕ) (xs : Bytes) → leb 128 x ≡ false → reading leading_byte (x ∷ xs) ≡ Err (Broken Verify)
+leading_refused : (x : ℕ) (xs : Bytes) → leb 128 x ≡ false
+    → reading leading_byte (x ∷ xs) ≡ Err (Broken Verify)
 unfolding leading_byte behind_one
 leading_refused x xs e =
     ap behind_one (one_read x xs) ∙ ap (λ t. reading (chain (test t Verify) (λ _. done x)) xs) e
 
--- what is walked and what is left are all bytes
+-- what was iterated and what is left are all bytes
 joined : (b : Bytes) → items_in leading_byte b ++ left_in leading_byte b ≡ b
 joined [] = rw (none_in leading_byte [] (omega arith), left_over leading_byte [] (omega arith)) refl
 joined (x ∷ xs) = go (leb 128 x) refl (joined xs)
@@ -44,7 +45,10 @@ joined (x ∷ xs) = go (leb 128 x) refl (joined xs)
         rw (items, left) (ap (λ ys. x ∷ ys) more)
     go false e more =
         let no : reading leading_byte (x ∷ xs) ≡ Err (Broken Verify) = leading_refused x xs e in
-        rw (items_none leading_byte (x ∷ xs) (Broken Verify) no, left_none leading_byte (x ∷ xs) (Broken Verify) no) refl
+        rw (
+          items_none leading_byte (x ∷ xs) (Broken Verify) no,
+          left_none leading_byte (x ∷ xs) (Broken Verify) no,
+        ) refl
 
 -- one byte is read from a front
 byte_front : (c : Bytes) (x : ℕ) (r : Bytes) → reading (number 1) c ≡ Ok (x, r) → c ≡ x ∷ r
@@ -55,13 +59,15 @@ byte_front (y ∷ ys) x r e =
     let pair : ◌≡◌ {A = ℕ × Bytes} (y, ys) (x, r) = cc in
     ap (λ p. p.0 ∷ p.1) pair
 
--- the leading bytes and the last are a front, and so many bytes
-pub with_last : (b : Bytes) (x : ℕ) (r : Bytes) → AreBytes b → reading (number 1) (left_in leading_byte b) ≡ Ok (x, r)
+-- the leading bytes and the last one are a front of that length
+pub with_last : (b : Bytes) (x : ℕ) (r : Bytes) → AreBytes b
+    → reading (number 1) (left_in leading_byte b) ≡ Ok (x, r)
     → reading (block (length b - length r)) b ≡ Ok (items_in leading_byte b ++ x ∷ [], r)
 with_last b x r are e =
     let front : Bytes = items_in leading_byte b ++ x ∷ [] in
     let is : b ≡ front ++ r =
-    sym (joined b) ∙ ap (λ c. items_in leading_byte b ++ c) (byte_front (left_in leading_byte b) x r e)
+    sym (joined b)
+    ∙ ap (λ c. items_in leading_byte b ++ c) (byte_front (left_in leading_byte b) x r e)
     ∙ sym (append_assoc (items_in leading_byte b) (x ∷ []) r)
     in
     let long : length b ≡ length front + length r = ap length is ∙ length-append front r in

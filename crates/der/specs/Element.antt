@@ -22,14 +22,14 @@ use Rattle.layouts.specs.Layout.{
 use Rattle.layouts.specs.declared.result.ErrorKind.TheVariants.{TooLarge, LengthValue, Verify, Switch, Tag}
 use Rattle.der.specs.declared.element.Element.{Element as LentElement}
 
--- A length in so many bytes behind the first, which is at least that large: with fewer bytes it couldn't be said.
+-- A length in k bytes after the first. It is at least `least`, so no fewer bytes encode it.
 unfoldable pub long_length : ℕ → ℕ → Layout ℕ
 long_length k least = do
   n ← number k
   test (nat_le least n) Verify
   done n
 
--- 0x80 is the indefinite form, which DER doesn't have; no length here has more than 3 bytes behind the first.
+-- 0x80 is the indefinite form, which DER forbids. At most 3 bytes follow the first.
 unfoldable pub length_by : ℕ → Layout ℕ
 length_by first =
     choose (nat_lt first 0x80) (done first) (
@@ -42,7 +42,7 @@ length_by first =
 unfoldable pub der_length : Layout ℕ
 der_length = number 1 >>= length_by
 
--- That, and no byte is left behind it.
+-- The layout, which must consume all bytes.
 unfoldable pub whole : {A : Type 0} → Layout A → Layout A
 whole l = do
   x ← l
@@ -50,7 +50,7 @@ whole l = do
   test (n == 0) LengthValue
   done x
 
--- An element of that tag, whose whole content has that layout.
+-- An element with this tag, whose whole content has this layout.
 unfoldable pub tagged : {A : Type 0} → ℕ → Layout A → Layout A
 tagged t l = do
   k ← number 1
@@ -58,13 +58,14 @@ tagged t l = do
   n ← der_length
   window n (complete (whole l))
 
--- The same where one of that tag stands next, else nothing is taken: OPTIONAL.
+-- An element with this tag if it is next, else nothing is consumed: OPTIONAL.
 unfoldable pub optional : {A : Type 0} → ℕ → Layout A → Layout (Option A)
 optional t l = do
   n ← left
-  choose (n == 0) (done None) (look (number 1) >>= λ k. choose (k == t) (mapped Some (tagged t l)) (done None))
+  choose (n == 0) (done None)
+      (look (number 1) >>= λ k. choose (k == t) (mapped Some (tagged t l)) (done None))
 
--- An element of any tag of one byte.
+-- An element with any tag of one byte.
 pub record Element : Type 0 where
   pub tag : ℕ
   pub content : Bytes
@@ -72,7 +73,7 @@ pub record Element : Type 0 where
 abbrev pub view_element : LentElement → Element
 view_element e = record { tag = e.tag; content = e.content.now }
 
--- Tags of more than one byte begin with 31 in the lower 5 bits; they aren't read.
+-- Tags of more than one byte begin with 31 in the lower 5 bits; they are refused.
 unfoldable pub element : Layout Element
 element = do
   t ← number 1
@@ -81,20 +82,20 @@ element = do
   content ← block n
   done (record { tag = t; content = content })
 
--- One may stand there, of any tag.
+-- An element with any tag, if bytes are left.
 unfoldable pub optional_element : Layout (Option Element)
 optional_element = do
   n ← left
   choose (n == 0) (done None) (mapped Some element)
 
--- The bytes of an element, with its tag and its length.
+-- An element as its bytes, with its tag and its length.
 unfoldable pub element_bytes : Layout Bytes
 element_bytes = do
   n ← left
   behind ← look (element >> left)
   block (n - behind)
 
--- All bytes that are left: the items in front of them, of which the last may be followed by bytes that aren't one.
+-- All bytes that are left, as items. After the last one, bytes may be left that are no item.
 unfoldable pub items_of : {A : Type 0} → Layout A → Layout (List A)
 items_of l = do
   xs ← look (list l)

@@ -1,4 +1,5 @@
--- OBJECT IDENTIFIER (X.690, section 8.19): numbers in base 128, of which the first says two arcs.
+-- OBJECT IDENTIFIER (X.690, section 8.19): numbers in base 128, the first of which encodes two
+-- arcs.
 use Rattle.std.specs.Prelude.{
   ℕ,
   ◌+◌,
@@ -31,14 +32,14 @@ use Rattle.der.specs.declared.identifier.ArcNumber.TheVariants.{Fits, TooLarge}
 use Rattle.der.specs.declared.identifier.Next.{Next}
 use Rattle.der.specs.declared.identifier.Next.TheVariants as next
 
--- A byte of a subidentifier that another follows: its highest bit is set.
+-- A byte of a subidentifier that another byte follows: its highest bit is set.
 unfoldable pub leading_byte : Layout ℕ
 leading_byte = do
   n ← number 1
   test (nat_le 128 n) Verify
   done n
 
--- The bytes of a subidentifier; the first isn't 0x80, which would say a leading zero.
+-- The bytes of a subidentifier. The first isn't 0x80, which would be a leading zero.
 unfoldable pub subidentifier : Layout Bytes
 subidentifier = do
   first ← look (number 1)
@@ -47,7 +48,7 @@ subidentifier = do
   last ← number 1
   done (leading ++ last ∷ [])
 
--- The content of an OBJECT IDENTIFIER: one or more subidentifiers, and no byte behind them.
+-- The content of an OBJECT IDENTIFIER: one or more subidentifiers, and nothing after them.
 unfoldable pub object_identifier_content : Layout Bytes
 object_identifier_content = do
   n ← left
@@ -62,19 +63,20 @@ object_identifier = tagged 6 object_identifier_content
 abbrev pub view_object_identifier : LentObjectIdentifier → Bytes
 view_object_identifier o = o.content.now
 
--- The number that a subidentifier spells: 7 bits a byte, the most significant first.
+-- The number of a subidentifier: 7 bits a byte, big-endian.
 abbrev pub base128_from : ℕ → Bytes → ℕ
 base128_from n [] = n
 base128_from n (b ∷ bs) = base128_from (n * 128 + b % 128) bs
 
--- A number below 2^128; larger ones are told to be too large.
+-- A number below 2^128, or None.
 abbrev pub in_range : ℕ → Option ℕ
 in_range n = if nat_lt n (2 ^ 128) then Some n else None
 
 abbrev pub numbers_in : Bytes → List (Option ℕ)
 numbers_in b = map (λ s. in_range (base128_from 0 s)) (items_in subidentifier b)
 
--- The first arc, which is 0, 1 or 2, by the first number: 40 times it, and the second arc, which is below 40 under 0 and 1.
+-- The first arc, 0, 1 or 2, from the first number, which is 40 times it plus the second arc. Under
+-- 0 and 1 the second arc is below 40.
 abbrev pub root_of : ℕ → ℕ
 root_of n = if nat_lt n 40 then 0 else if nat_lt n 80 then 1 else 2
 
@@ -90,7 +92,7 @@ abbrev pub arcs_by : List (Option ℕ) → List (Option ℕ)
 arcs_by [] = []
 arcs_by (n ∷ ns) = first_arc n ∷ second_arc n ∷ ns
 
--- The arcs of an object identifier; of one that is 2^128 or above, None.
+-- The arcs of an object identifier; None for one of 2^128 or above.
 abbrev pub arcs_of : Bytes → List (Option ℕ)
 arcs_of b = arcs_by (numbers_in b)
 
@@ -98,7 +100,7 @@ abbrev pub view_arc : ArcNumber → Option ℕ
 view_arc (Fits n) = Some n
 view_arc TooLarge = None
 
--- What is left of a walk over arcs.
+-- The rest of an iterator over arcs.
 abbrev pub arcs_left : Next → Bytes → List (Option ℕ)
 arcs_left next.First b = arcs_of b
 arcs_left (next.Second a) b = view_arc a ∷ numbers_in b

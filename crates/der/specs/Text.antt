@@ -1,9 +1,10 @@
--- The one encoding of a length, and of an element (X.690, section 10.1).
+-- The one encoding of a length and of an element (X.690, section 10.1).
 use Rattle.std.specs.Prelude.{ℕ, [], ◌∷◌, ◌++◌, length, nat_lt, if◌then◌else◌}
 use Rattle.layouts.specs.Bytes.{Bytes, bytes_of}
 use Rattle.der.specs.Element.{Element}
 
--- A length below 128 is a byte; others are as few bytes as they need, behind one that counts them. None above 2^24 - 1 is read.
+-- A length below 128 is one byte; others have as few bytes as they need, after one that counts
+-- them. None above 2^24 - 1 is accepted.
 abbrev pub length_text : ℕ → Bytes
 length_text n =
     if nat_lt n 0x80 then n ∷ [] else

@@ -1,10 +1,11 @@
--- UTCTime and GeneralizedTime as certificates have them (RFC 5280, section 4.1.2.5), in seconds since 1970-01-01 00:00:00 UTC.
+-- UTCTime and GeneralizedTime as in certificates (RFC 5280, section 4.1.2.5), in seconds since
+-- 1970-01-01 00:00:00 UTC.
 use Rattle.std.specs.Prelude.{ℕ, ◌+◌, ◌-◌, ◌*◌, ◌==◌, ◌&&◌, nat_le, nat_lt, if◌then◌else◌, Bool, ℤ, pos, ◌+ℤ◌, ◌*ℤ◌}
 use Rattle.jiff_core.specs.Calendar.{days_in_month, days_from_civil}
 use Rattle.layouts.specs.Layout.{Layout, done, number, test, mapped, ◌>>=◌, ◌>>◌}
 use Rattle.layouts.specs.declared.result.ErrorKind.TheVariants.{Verify}
 
--- A digit of ASCII.
+-- An ASCII digit.
 unfoldable pub digit : Layout ℕ
 digit = do
   c ← number 1
@@ -17,7 +18,7 @@ two_digits = do
   ones ← digit
   done (tens * 10 + ones)
 
--- A year of two digits is one from 1950 to 2049 (RFC 5280, section 4.1.2.5.1).
+-- A year of two digits is from 1950 to 2049 (RFC 5280, section 4.1.2.5.1).
 unfoldable pub short_year : Layout ℕ
 short_year = mapped (λ n. if nat_lt n 50 then 2000 + n else 1900 + n) two_digits
 
@@ -27,10 +28,11 @@ full_year = do
   years ← two_digits
   done (hundreds * 100 + years)
 
--- The calendar has that day.
+-- The calendar has this day.
 abbrev pub is_day : ℕ → ℕ → ℕ → Bool
 is_day year month day =
-    nat_le 1 month && (nat_le month 12 && (nat_le 1 day && nat_le day (days_in_month (pos year) month)))
+    nat_le 1 month
+    && (nat_le month 12 && (nat_le 1 day && nat_le day (days_in_month (pos year) month)))
 
 -- Month and day, in days since 1970-01-01.
 unfoldable pub day_of : ℕ → Layout ℤ
@@ -40,11 +42,11 @@ day_of year = do
   test (is_day year month day) Verify
   done (days_from_civil (pos year) month day)
 
--- A clock shows that.
+-- A clock shows this time.
 abbrev pub is_clock : ℕ → ℕ → ℕ → Bool
 is_clock hour minute second = nat_lt hour 24 && (nat_lt minute 60 && nat_lt second 60)
 
--- Hour, minute and second, in seconds; none is the 60th, which a leap second would be.
+-- Hour, minute and second, in seconds. A second 60, a leap second, is refused.
 unfoldable pub clock : Layout ℕ
 clock = do
   hour ← two_digits
@@ -53,7 +55,7 @@ clock = do
   test (is_clock hour minute second) Verify
   done (hour * 3600 + minute * 60 + second)
 
--- The same behind a year, and a Z.
+-- What follows a year, including the Z.
 unfoldable pub behind_year : ℕ → Layout ℤ
 behind_year year = do
   day ← day_of year
@@ -66,6 +68,6 @@ behind_year year = do
 unfoldable pub utc_time : Layout ℤ
 utc_time = short_year >>= behind_year
 
--- GeneralizedTime: YYYYMMDDHHMMSSZ, with no fraction of a second (section 4.1.2.5.2)
+-- GeneralizedTime: YYYYMMDDHHMMSSZ, without a fraction of a second (section 4.1.2.5.2)
 unfoldable pub generalized_time : Layout ℤ
 generalized_time = full_year >>= behind_year

@@ -1,4 +1,4 @@
--- Contents of single values: BOOLEAN, INTEGER and BIT STRING.
+-- The contents of BOOLEAN, INTEGER and BIT STRING.
 use Rattle.std.specs.Prelude.{ℕ, ◌+◌, ◌-◌, ◌*◌, ◌/◌, ◌%◌, ◌^◌, ◌==◌, ◌&&◌, ◌||◌, not, nat_le, nat_lt, ◌∷◌, length, slice_index, Option, Some, None, Bool, true, false}
 use Rattle.layouts.specs.Bytes.{Bytes}
 use Rattle.layouts.specs.Layout.{Layout, done, number, left, rest, test, mapped, ◌>>=◌, ◌>>◌}
@@ -17,11 +17,12 @@ abbrev pub or_false : Option Bool → Bool
 or_false (Some b) = b
 or_false None = false
 
--- BOOLEAN DEFAULT FALSE. The default may be written out, which DER forbids (X.690, section 11.5) and certificates have.
+-- BOOLEAN DEFAULT FALSE. An explicit FALSE is accepted; DER forbids it (X.690, section 11.5), but
+-- certificates have it.
 unfoldable pub default_false : Layout Bool
 default_false = mapped or_false (optional 1 boolean)
 
--- Fewer bytes couldn't say it: the first nine bits aren't all the same (X.690, section 8.3.2).
+-- No fewer bytes encode it: the first nine bits aren't all the same (X.690, section 8.3.2).
 abbrev pub is_shortest : Bytes → Bool
 is_shortest (a ∷ b ∷ bs) = not (((a == 0) && nat_lt b 128) || ((a == 255) && nat_le 128 b))
 is_shortest bs = true
@@ -35,7 +36,7 @@ integer = do
   test (is_shortest bytes) Verify
   done bytes
 
--- BIT STRING: how many bits of the last byte are no part of it, and its bytes (X.690, section 8.6).
+-- BIT STRING: the count of unused bits in the last byte, and its bytes (X.690, section 8.6).
 pub record BitString : Type 0 where
   pub unused : ℕ
   pub bytes : Bytes
@@ -43,10 +44,11 @@ pub record BitString : Type 0 where
 abbrev pub view_bit_string : LentBitString → BitString
 view_bit_string s = record { unused = s.unused; bytes = s.bytes.now }
 
--- The unused bits are there, and 0 (X.690, sections 8.6.2.3 and 11.2.1).
+-- The unused bits exist and are 0 (X.690, sections 8.6.2.3 and 11.2.1).
 abbrev pub is_padding : ℕ → Bytes → Bool
 is_padding unused bytes =
-    ((unused == 0) || nat_le 1 (length bytes)) && (slice_index bytes (length bytes - 1) % 2 ^ unused == 0)
+    ((unused == 0) || nat_le 1 (length bytes))
+    && (slice_index bytes (length bytes - 1) % 2 ^ unused == 0)
 
 unfoldable pub bit_string : Layout BitString
 bit_string = do
@@ -56,7 +58,8 @@ bit_string = do
   test (is_padding unused bytes) Verify
   done (record { unused = unused; bytes = bytes })
 
--- Bit k, where bit 0 is the first byte's highest; a bit behind the last is 0.
+-- Bit k, where bit 0 is the highest of the first byte; past the last bit it is 0.
 abbrev pub bit_of : BitString → ℕ → Bool
 bit_of s k =
-    nat_lt (k + s.unused) (length s.bytes * 8) && ((slice_index s.bytes (k / 8) / 2 ^ (7 - k % 8)) % 2 == 1)
+    nat_lt (k + s.unused) (length s.bytes * 8)
+    && ((slice_index s.bytes (k / 8) / 2 ^ (7 - k % 8)) % 2 == 1)

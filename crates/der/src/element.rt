@@ -14,7 +14,7 @@ use crate::length::der_length;
 use layouts::{Err, ErrorKind, IResult, InPlace, Items, block, number1, refused, rest};
 use std::marker::PhantomData;
 
-/// What `T` reads, behind which no byte is left.
+/// Parses `T`, which must consume all bytes.
 #[tactic(auto, using(layouts::proofs::OneAnswerLemmas::read_allowed), unfolding(crate::specs::Element::whole))]
 fn whole<'a, T: InPlace<'a>>(i: &'a [u8]) -> IResult<&'a [u8], T::Read>
     ensures { Gives T.view (whole_layout T.layout) i.now result }
@@ -26,7 +26,7 @@ fn whole<'a, T: InPlace<'a>>(i: &'a [u8]) -> IResult<&'a [u8], T::Read>
     Ok((i, x))
 }
 
-/// The same of a whole content: no further bytes belong to it.
+/// Parses `T` in a whole content: it must consume all bytes, and missing ones won't come.
 fn whole_content<'a, T: InPlace<'a>>(i: &'a [u8]) -> IResult<&'a [u8], T::Read>
     ensures { Gives T.view (complete (whole_layout T.layout)) i.now result }
 {
@@ -36,12 +36,13 @@ fn whole_content<'a, T: InPlace<'a>>(i: &'a [u8]) -> IResult<&'a [u8], T::Read>
     }
 }
 
-/// Reads an element of this tag, whose whole content `T` reads.
+/// Parses an element with this tag, whose whole content `T` parses.
 ///
-/// - `Incomplete` of what is missing of the tag, the length or the content.
-/// - `Error` of kind `Tag` where the tag is another.
+/// - `Incomplete` with the count of bytes missing of the tag, the length or the content.
+/// - `Error` of kind `Tag` if the tag is another.
 /// - What [`der_length`] refuses.
-/// - What `T` refuses in the content; of kind `Complete` where bytes are missing there, and `LengthValue` where some are left.
+/// - What `T` refuses in the content; of kind `Complete` if bytes are missing there, and
+///   `LengthValue` if some are left.
 #[tactic(auto, using(layouts::proofs::OneAnswerLemmas::read_allowed), unfolding(crate::specs::Element::tagged))]
 pub fn tagged<'a, T: InPlace<'a>>(i: &'a [u8], tag: u8) -> IResult<&'a [u8], T::Read>
     ensures { Gives T.view (tagged_layout tag T.layout) i.now result }
@@ -56,7 +57,8 @@ pub fn tagged<'a, T: InPlace<'a>>(i: &'a [u8], tag: u8) -> IResult<&'a [u8], T::
     Ok((i, x))
 }
 
-/// As [`tagged`] where an element of this tag is next; else `None`, and nothing is taken (OPTIONAL).
+/// Parses an element with this tag as [`tagged`] does; `None` without consuming anything if no such
+/// element is next (OPTIONAL).
 #[tactic(auto, using(layouts::proofs::OneAnswerLemmas::read_allowed), unfolding(crate::specs::Element::optional))]
 pub fn optional<'a, T: InPlace<'a>>(i: &'a [u8], tag: u8) -> IResult<&'a [u8], Option<T::Read>>
     ensures { Gives (λ v. option_map T.view v) (optional_layout tag T.layout) i.now result }
@@ -72,20 +74,20 @@ pub fn optional<'a, T: InPlace<'a>>(i: &'a [u8], tag: u8) -> IResult<&'a [u8], O
     Ok((i, None))
 }
 
-/// An element of any tag.
+/// An element with any tag.
 #[derive(Clone, Copy, Debug, PartialEq)]
 pub struct Element<'a> {
-    /// The tag, of one byte: its class in bits 8 and 7, bit 6 where the content is made of elements, its number below 31
-    /// (X.690, section 8.1.2).
+    /// The tag, of one byte: its class in bits 8 and 7, bit 6 if the content consists of elements,
+    /// its number below 31 (X.690, section 8.1.2).
     pub tag: u8,
     /// The content.
     pub content: &'a [u8],
 }
 
-/// Reads an element.
+/// Parses an element with any tag.
 ///
-/// - `Incomplete` of what is missing of it.
-/// - `Error` of kind `Switch` where its tag has more than one byte.
+/// - `Incomplete` with the count of missing bytes.
+/// - `Error` of kind `Switch` if its tag has more than one byte.
 /// - What [`der_length`] refuses.
 impl<'a> InPlace<'a> for Element<'a> {
     type Read = Self;
@@ -108,9 +110,9 @@ impl<'a> InPlace<'a> for Element<'a> {
     }
 }
 
-/// Reads an element, or `None` where no byte is left (ANY OPTIONAL, at an end).
+/// Parses an element with any tag, or `None` if no byte is left (ANY OPTIONAL, at an end).
 ///
-/// It refuses what reading an [`Element`] does.
+/// It refuses what parsing an [`Element`] does.
 #[tactic(auto, using(layouts::proofs::OneAnswerLemmas::read_allowed), unfolding(crate::specs::Element::optional_element))]
 pub fn optional_element(i: &[u8]) -> IResult<&[u8], Option<Element>>
     ensures { Gives (λ v. option_map view_element v) optional_element_layout i.now result }
@@ -122,9 +124,9 @@ pub fn optional_element(i: &[u8]) -> IResult<&[u8], Option<Element>>
     Ok((i, Some(x)))
 }
 
-/// Reads the bytes of an element, with its tag and its length.
+/// Parses an element as its bytes, with its tag and its length.
 ///
-/// It refuses what reading an [`Element`] does.
+/// It refuses what parsing an [`Element`] does.
 #[tactic(auto, using(layouts::proofs::OneAnswerLemmas::read_allowed), unfolding(crate::specs::Element::element_bytes))]
 pub fn element_bytes(i: &[u8]) -> IResult<&[u8], &[u8]>
     ensures { Gives (λ v. v.now) element_bytes_layout i.now result }
@@ -150,9 +152,10 @@ impl<'a> InPlace<'a> for AllBytes {
     }
 }
 
-/// The items that a content holds, one behind the other, to be walked (SEQUENCE OF, SET OF).
+/// The items of a content, parsed while iterating (SEQUENCE OF, SET OF).
 ///
-/// None is judged before the walk comes to it; [`Items::refusal`] says what ended a walk early.
+/// No item is checked before the iterator reaches it; [`Items::refusal`] returns why it ended
+/// early.
 pub struct ItemsOf<'a, T>(PhantomData<Items<'a, T>>);
 
 impl<'a, T: InPlace<'a>> InPlace<'a> for ItemsOf<'a, T> {

@@ -11,7 +11,7 @@ use crate::element::tagged;
 use crate::tag;
 use layouts::{ErrorKind, IResult, InPlace, Items, block, number1, refused, rest};
 
-/// A byte of a subidentifier that another follows.
+/// A byte of a subidentifier that another byte follows.
 struct LeadingByte;
 
 impl<'a> InPlace<'a> for LeadingByte {
@@ -33,7 +33,7 @@ impl<'a> InPlace<'a> for LeadingByte {
     }
 }
 
-/// The bytes of a subidentifier: a number in base 128 that an object identifier is made of.
+/// The bytes of a subidentifier: one number of an object identifier, in base 128.
 struct Subidentifier;
 
 impl<'a> InPlace<'a> for Subidentifier {
@@ -64,10 +64,10 @@ pub struct ObjectIdentifier<'a> {
     pub content: &'a [u8],
 }
 
-/// The content of an OBJECT IDENTIFIER.
+/// Parses the content of an OBJECT IDENTIFIER.
 ///
-/// - `Error` of kind `LengthValue` where it has no bytes.
-/// - `Error` of kind `Verify` where an arc begins with a byte 0x80, or the last one has no end.
+/// - `Error` of kind `LengthValue` if it has no bytes.
+/// - `Error` of kind `Verify` if an arc begins with a byte 0x80, or the last one doesn't end.
 impl<'a> InPlace<'a> for ObjectIdentifier<'a> {
     type Read = Self;
 
@@ -90,9 +90,9 @@ impl<'a> InPlace<'a> for ObjectIdentifier<'a> {
     }
 }
 
-/// Reads an OBJECT IDENTIFIER.
+/// Parses an OBJECT IDENTIFIER.
 ///
-/// It refuses what [`tagged`] does, and what reading an [`ObjectIdentifier`] does in its content.
+/// It refuses what [`tagged`] does, and what parsing an [`ObjectIdentifier`] does in its content.
 #[tactic(auto, using(layouts::proofs::OneAnswerLemmas::read_allowed), unfolding(crate::specs::ObjectIdentifier::object_identifier))]
 pub fn object_identifier(i: &[u8]) -> IResult<&[u8], ObjectIdentifier>
     ensures { Gives view_object_identifier object_identifier_layout i.now result }
@@ -103,9 +103,9 @@ pub fn object_identifier(i: &[u8]) -> IResult<&[u8], ObjectIdentifier>
 /// An arc of an object identifier.
 #[derive(Clone, Copy, Debug, PartialEq, Eq)]
 pub enum ArcNumber {
-    /// Its number.
+    /// The arc's number.
     Fits(u128),
-    /// Its subidentifier is 2^128 or above: an arc of that number, or a second arc 80 below it.
+    /// The subidentifier is 2^128 or above: an arc of that number, or a second arc 80 below it.
     TooLarge,
 }
 
@@ -124,7 +124,7 @@ fn number_of(bytes: &[u8]) -> ArcNumber
     ArcNumber::Fits(n)
 }
 
-/// The first two arcs, by the first number.
+/// The first two arcs, from the first number.
 fn first_arcs(number: ArcNumber) -> (ArcNumber, ArcNumber)
     ensures first { view_arc result.0 ≡ first_arc_of (view_arc number) }
     ensures second { view_arc result.1 ≡ second_arc_of (view_arc number) }
@@ -144,7 +144,8 @@ fn first_arcs(number: ArcNumber) -> (ArcNumber, ArcNumber)
     }
 }
 
-/// Which arc is next: the first, the second, which is known then, or one that has a number of its own.
+/// Which arc is next: the first, the second, which came with the first, or one with its
+/// subidentifier.
 #[derive(Clone, Copy, Debug, PartialEq, Eq)]
 enum Next {
     First,
@@ -152,7 +153,7 @@ enum Next {
     Further,
 }
 
-/// The arcs of an object identifier, from the root on.
+/// An iterator over the arcs of an object identifier, from the root.
 #[derive(Clone, Copy, Debug, PartialEq)]
 pub struct Arcs<'a> {
     next: Next,
@@ -160,7 +161,7 @@ pub struct Arcs<'a> {
 }
 
 impl<'a> ObjectIdentifier<'a> {
-    /// Its arcs: 1, 2, 840 and so on for 1.2.840.
+    /// The arcs: 1, 2, 840 and so on for 1.2.840.
     pub fn arcs(self) -> Arcs<'a>
         ensures { arcs_left result.next result.numbers.bytes.now ≡ arcs_of self.entry.content.now }
     {

@@ -6,7 +6,7 @@ ghost use Rattle.der.specs.Element.{long_length, length_by as length_by_layout, 
 
 use layouts::{ErrorKind, IResult, number1, number2, number3, refused};
 
-/// The length that a first byte begins.
+/// Parses the rest of a length after its first byte.
 #[tactic(auto, using(layouts::proofs::OneAnswerLemmas::read_allowed), unfolding(crate::specs::Element::long_length, crate::specs::Element::length_by))]
 fn length_by(i: &[u8], first: u8) -> IResult<&[u8], usize>
     ensures { Gives (λ v. v) (length_by_layout first) i.now result }
@@ -43,12 +43,13 @@ fn length_by(i: &[u8], first: u8) -> IResult<&[u8], usize>
     }
 }
 
-/// Reads the length in front of a content, in bytes: 1 byte, or 0x81, 0x82 or 0x83 and 1 to 3 bytes behind it.
+/// Parses the length of a content, in bytes: 1 byte, or 0x81, 0x82 or 0x83 and 1 to 3 bytes after
+/// it.
 ///
-/// - `Incomplete` of what is missing of it.
-/// - `Error` of kind `Switch` where it is the indefinite form, which DER doesn't have.
-/// - `Error` of kind `Verify` where fewer bytes could say it.
-/// - `Error` of kind `TooLarge` where more than 3 bytes follow the first.
+/// - `Incomplete` with the count of missing bytes.
+/// - `Error` of kind `Switch` for the indefinite form, which DER forbids.
+/// - `Error` of kind `Verify` if fewer bytes could encode it.
+/// - `Error` of kind `TooLarge` if more than 3 bytes follow the first.
 #[tactic(auto, using(layouts::proofs::OneAnswerLemmas::read_allowed), unfolding(crate::specs::Element::der_length))]
 pub fn der_length(i: &[u8]) -> IResult<&[u8], usize>
     ensures { Gives (λ v. v) der_length_layout i.now result }

@@ -1,10 +1,12 @@
-//! Values in DER, the Distinguished Encoding Rules of ASN.1 (X.690), read in place.
+//! Parses DER, the Distinguished Encoding Rules of ASN.1 (X.690), without copying.
 //!
-//! An element is a tag, a length and a content. [`tagged`] reads one of a given tag, whose whole content another type reads;
-//! [`Element`] reads one of any tag. Each call reads from the front of bytes, takes no memory, and answers what a layout of
-//! `specs/` allows there: the value and the exact rest, the kind of the broken rule, or the exact count of missing bytes.
+//! An element is a tag, a length and a content. [`tagged`] parses one with a given tag, whose whole
+//! content another type parses; [`Element`] parses one with any tag. Each call parses the front of
+//! bytes and doesn't allocate. It returns what a layout of `specs/` allows: the value and the exact
+//! rest, the kind of the broken rule, or the exact count of missing bytes. [`laws`] states that a
+//! length and an element have one encoding.
 //!
-//! What isn't judged: the order of a SET OF, and whether a default is left out.
+//! Two rules aren't checked: the order of a SET OF, and that a default is left out.
 #![tactic(auto, using(layouts::proofs::OneAnswerLemmas::read_allowed))]
 
 mod element;

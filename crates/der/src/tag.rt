@@ -1,4 +1,4 @@
-//! Tags of the universal class (X.680, section 8.4), as the one byte that they are in an element.
+//! Tags of the universal class (X.680, section 8.4), each as the one byte of its element.
 
 /// BOOLEAN.
 pub const BOOLEAN: u8 = 0x01;
@@ -16,7 +16,7 @@ pub const OBJECT_IDENTIFIER: u8 = 0x06;
 pub const UTF8_STRING: u8 = 0x0c;
 /// PrintableString.
 pub const PRINTABLE_STRING: u8 = 0x13;
-/// TeletexString, which is T61String.
+/// TeletexString, also called T61String.
 pub const TELETEX_STRING: u8 = 0x14;
 /// IA5String.
 pub const IA5_STRING: u8 = 0x16;

@@ -1,4 +1,5 @@
-//! UTCTime and GeneralizedTime as certificates have them (RFC 5280, section 4.1.2.5), in seconds since 1970-01-01 00:00:00 UTC.
+//! UTCTime and GeneralizedTime as in certificates (RFC 5280, section 4.1.2.5), in seconds since
+//! 1970-01-01 00:00:00 UTC.
 #![tactic(auto, using(layouts::proofs::OneAnswerLemmas::read_allowed))]
 
 ghost use Rattle.std.specs.Prelude.{◌≡◌, ◌<◌, ◌≤◌, ℤ, pos, ◌+ℤ◌, ◌*ℤ◌, IfOk, true};
@@ -10,7 +11,7 @@ ghost use Rattle.der.specs.Time.{is_day as is_day_of, is_clock as is_clock_of, d
 use jiff_core::civil::{Date, days_in_month};
 use layouts::{ErrorKind, IResult, InPlace, number1, refused};
 
-/// A digit of ASCII.
+/// Parses an ASCII digit.
 #[tactic(auto, using(layouts::proofs::OneAnswerLemmas::read_allowed), unfolding(crate::specs::Time::digit))]
 fn digit(i: &[u8]) -> IResult<&[u8], u8>
     ensures gives { Gives (λ v. v) digit_layout i.now result }
@@ -23,7 +24,7 @@ fn digit(i: &[u8]) -> IResult<&[u8], u8>
     Ok((i, c - 0x30))
 }
 
-/// A number of two digits.
+/// Parses a number of two digits.
 #[tactic(auto, using(layouts::proofs::OneAnswerLemmas::read_allowed), unfolding(crate::specs::Time::two_digits))]
 fn two_digits(i: &[u8]) -> IResult<&[u8], u8>
     ensures gives { Gives (λ v. v) two_digits_layout i.now result }
@@ -34,7 +35,7 @@ fn two_digits(i: &[u8]) -> IResult<&[u8], u8>
     Ok((i, tens * 10 + ones))
 }
 
-/// A year from 1950 to 2049, of two digits.
+/// Parses a year from 1950 to 2049, of two digits.
 #[tactic(auto, using(layouts::proofs::OneAnswerLemmas::read_allowed), unfolding(crate::specs::Time::short_year))]
 fn short_year(i: &[u8]) -> IResult<&[u8], u16>
     ensures gives { Gives (λ v. v) short_year_layout i.now result }
@@ -47,7 +48,7 @@ fn short_year(i: &[u8]) -> IResult<&[u8], u16>
     Ok((i, 1900 + n as u16))
 }
 
-/// A year of four digits.
+/// Parses a year of four digits.
 #[tactic(auto, using(layouts::proofs::OneAnswerLemmas::read_allowed), unfolding(crate::specs::Time::full_year))]
 fn full_year(i: &[u8]) -> IResult<&[u8], u16>
     ensures gives { Gives (λ v. v) full_year_layout i.now result }
@@ -58,7 +59,7 @@ fn full_year(i: &[u8]) -> IResult<&[u8], u16>
     Ok((i, hundreds as u16 * 100 + years as u16))
 }
 
-/// Whether the calendar has that day.
+/// Whether the calendar has this day.
 fn is_day(year: u16, month: u8, day: u8) -> bool
     requires { year ≤ 9999 }
     ensures { result ≡ is_day_of year month day }
@@ -66,7 +67,7 @@ fn is_day(year: u16, month: u8, day: u8) -> bool
     month >= 1 && month <= 12 && day >= 1 && day <= days_in_month(year as i16, month)
 }
 
-/// The number of a day, where 1970-01-01 is 0.
+/// The number of a day; 1970-01-01 is 0.
 fn day_number(year: u16, month: u8, day: u8) -> i32
     requires fits { year ≤ 9999 }
     requires there { is_day_of year month day ≡ true }
@@ -79,7 +80,7 @@ fn day_number(year: u16, month: u8, day: u8) -> i32
     }
 }
 
-/// Month and day.
+/// Parses month and day, as the number of the day.
 #[tactic(auto, using(layouts::proofs::OneAnswerLemmas::read_allowed), unfolding(crate::specs::Time::day_of))]
 fn day_of(i: &[u8], year: u16) -> IResult<&[u8], i32>
     requires { year ≤ 9999 }
@@ -94,14 +95,14 @@ fn day_of(i: &[u8], year: u16) -> IResult<&[u8], i32>
     Ok((i, day_number(year, month, day)))
 }
 
-/// Whether a clock shows that.
+/// Whether a clock shows this time.
 fn is_clock(hour: u8, minute: u8, second: u8) -> bool
     ensures { result ≡ is_clock_of hour minute second }
 {
     hour < 24 && minute < 60 && second < 60
 }
 
-/// Hour, minute and second, in seconds.
+/// Parses hour, minute and second, as seconds of the day.
 #[tactic(auto, using(layouts::proofs::OneAnswerLemmas::read_allowed), unfolding(crate::specs::Time::clock))]
 fn clock(i: &[u8]) -> IResult<&[u8], u32>
     ensures gives { Gives (λ v. v) clock_layout i.now result }
@@ -116,7 +117,7 @@ fn clock(i: &[u8]) -> IResult<&[u8], u32>
     Ok((i, hour as u32 * 3600 + minute as u32 * 60 + second as u32))
 }
 
-/// So many seconds of a day.
+/// The seconds since 1970-01-01 00:00:00 UTC.
 fn seconds_of(day: i32, seconds: u32) -> i64
     requires there { IsEpochDay day }
     requires fits { seconds < 86400 }
@@ -125,7 +126,7 @@ fn seconds_of(day: i32, seconds: u32) -> i64
     day as i64 * 86_400 + seconds as i64
 }
 
-/// What follows a year, with the Z at the end.
+/// Parses what follows a year, including the Z.
 #[tactic(auto, using(layouts::proofs::OneAnswerLemmas::read_allowed), unfolding(crate::specs::Time::behind_year))]
 fn behind_year(i: &[u8], year: u16) -> IResult<&[u8], i64>
     requires { year ≤ 9999 }
@@ -140,12 +141,12 @@ fn behind_year(i: &[u8], year: u16) -> IResult<&[u8], i64>
     Ok((i, seconds_of(day, seconds)))
 }
 
-/// The content of a UTCTime, `YYMMDDHHMMSSZ` with a year from 1950 to 2049, in seconds since 1970-01-01 00:00:00 UTC
-/// (RFC 5280, section 4.1.2.5.1).
+/// The content of a UTCTime, `YYMMDDHHMMSSZ` with a year from 1950 to 2049, in seconds since
+/// 1970-01-01 00:00:00 UTC (RFC 5280, section 4.1.2.5.1).
 ///
-/// - `Incomplete` of what is missing of it.
-/// - `Error` of kind `Verify` where a digit or the Z isn't there, or the calendar or the clock doesn't have it; no minute has
-///   a second 60.
+/// - `Incomplete` with the count of missing bytes.
+/// - `Error` of kind `Verify` if a digit or the Z isn't there, or if the date or the time doesn't
+///   exist; a second 60 is refused.
 pub struct UtcTime;
 
 impl<'a> InPlace<'a> for UtcTime {
@@ -164,9 +165,10 @@ impl<'a> InPlace<'a> for UtcTime {
     }
 }
 
-/// The content of a GeneralizedTime, `YYYYMMDDHHMMSSZ`, in seconds since 1970-01-01 00:00:00 UTC (RFC 5280, section 4.1.2.5.2).
+/// The content of a GeneralizedTime, `YYYYMMDDHHMMSSZ`, in seconds since 1970-01-01 00:00:00 UTC
+/// (RFC 5280, section 4.1.2.5.2).
 ///
-/// It refuses what [`UtcTime`] does, so a fraction of a second too.
+/// It refuses what [`UtcTime`] does, including fractions of a second.
 pub struct GeneralizedTime;
 
 impl<'a> InPlace<'a> for GeneralizedTime {

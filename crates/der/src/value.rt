@@ -1,4 +1,4 @@
-//! Contents of single values: BOOLEAN, INTEGER and BIT STRING.
+//! The contents of BOOLEAN, INTEGER and BIT STRING.
 #![tactic(auto, using(layouts::proofs::OneAnswerLemmas::read_allowed))]
 
 ghost use Rattle.std.specs.Prelude.{◌≡◌, ◌+◌, ◌*◌, ◌^◌, ◌≤◌, Bool, length, nat_lt};
@@ -12,8 +12,8 @@ use layouts::{ErrorKind, IResult, InPlace, number1, refused, rest};
 
 /// The content of a BOOLEAN (X.690, sections 8.2 and 11.1).
 ///
-/// - `Error` of kind `Verify` where it is neither 0 nor 255.
-/// - `Incomplete` of 1 where there is none.
+/// - `Error` of kind `Verify` if it is neither 0 nor 255.
+/// - `Incomplete` with count 1 if it is empty.
 pub struct Boolean;
 
 impl<'a> InPlace<'a> for Boolean {
@@ -35,10 +35,10 @@ impl<'a> InPlace<'a> for Boolean {
     }
 }
 
-/// Reads a BOOLEAN DEFAULT FALSE: `false` where none is next.
+/// Parses a BOOLEAN DEFAULT FALSE: `false` if no BOOLEAN is next.
 ///
-/// The default may be written out, which DER forbids (X.690, section 11.5) and certificates have. It refuses what
-/// [`crate::tagged`] and [`Boolean`] do.
+/// An explicit FALSE is accepted; DER forbids it (X.690, section 11.5), but certificates have it.
+/// It refuses what [`crate::tagged`] and [`Boolean`] do.
 #[tactic(auto, using(layouts::proofs::OneAnswerLemmas::read_allowed), unfolding(crate::specs::Values::default_false))]
 pub fn default_false(i: &[u8]) -> IResult<&[u8], bool>
     ensures { Gives (λ v. v) default_false_layout i.now result }
@@ -50,7 +50,7 @@ pub fn default_false(i: &[u8]) -> IResult<&[u8], bool>
     }
 }
 
-/// Whether fewer bytes couldn't say the same INTEGER.
+/// Whether no fewer bytes encode this INTEGER.
 fn is_shortest(bytes: &[u8]) -> bool
     ensures { result ≡ is_shortest_of bytes.now }
 {
@@ -61,10 +61,10 @@ fn is_shortest(bytes: &[u8]) -> bool
     }
 }
 
-/// The content of an INTEGER: its bytes in two's complement, the most significant first (X.690, section 8.3).
+/// The content of an INTEGER: its bytes in two's complement, big-endian (X.690, section 8.3).
 ///
-/// - `Error` of kind `LengthValue` where it has none.
-/// - `Error` of kind `Verify` where fewer bytes could say it.
+/// - `Error` of kind `LengthValue` if it is empty.
+/// - `Error` of kind `Verify` if fewer bytes could encode it.
 pub struct Integer;
 
 impl<'a> InPlace<'a> for Integer {
@@ -109,9 +109,9 @@ fn power_of_two(k: u8) -> u8
 /// A BIT STRING (X.690, section 8.6).
 #[derive(Clone, Copy, Debug, PartialEq)]
 pub struct BitString<'a> {
-    /// How many bits of the last byte aren't part of it, at most 7.
+    /// How many bits of the last byte are unused, at most 7.
     pub unused: u8,
-    /// The bytes that it is in.
+    /// The bytes of its bits.
     pub bytes: &'a [u8],
 }
 
@@ -124,7 +124,7 @@ impl<'a> BitString<'a> {
         k / 8 + past / 8 < self.bytes.len()
     }
 
-    /// Bit `k`, where bit 0 is the highest of the first byte; `false` for a bit behind the last.
+    /// Bit `k`, where bit 0 is the highest of the first byte; `false` past the last bit.
     pub fn bit(self, k: usize) -> bool
         ensures { result ≡ bit_of (view_bit_string self.entry) k }
     {
@@ -136,7 +136,7 @@ impl<'a> BitString<'a> {
     }
 }
 
-/// Whether the unused bits are there, and 0.
+/// Whether the unused bits exist and are 0.
 fn is_padding(unused: u8, bytes: &[u8]) -> bool
     requires { unused ≤ 7 }
     ensures { result ≡ is_padding_of unused bytes.now }
@@ -147,11 +147,11 @@ fn is_padding(unused: u8, bytes: &[u8]) -> bool
     bytes[bytes.len() - 1] % power_of_two(unused) == 0
 }
 
-/// The content of a BIT STRING.
+/// Parses the content of a BIT STRING.
 ///
-/// - `Incomplete` of 1 where there is no byte.
-/// - `Error` of kind `Verify` where more than 7 bits are unused, there is no byte that they are in, or one of them isn't 0 (sections
-///   8.6.2.3 and 11.2.1).
+/// - `Incomplete` with count 1 if it is empty.
+/// - `Error` of kind `Verify` if more than 7 bits are unused, if there is no byte for them, or if
+///   one of them isn't 0 (sections 8.6.2.3 and 11.2.1).
 impl<'a> InPlace<'a> for BitString<'a> {
     type Read = Self;
 

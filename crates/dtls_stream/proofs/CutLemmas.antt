@@ -1,4 +1,4 @@
--- What stands where memory ran out.
+-- What holds when memory runs out.
 use Rattle.std.proofs.Common.{
   ◌≡◌,
   ℕ,
@@ -57,16 +57,19 @@ messages_told [] = refl
 messages_told (m ∷ ms) = ap (λ ms. m ∷ ms) (messages_told ms)
 
 pub messages_joined : (l : Limits) (h : Heard) (fs gs : List Fragment) →
-    messages (events l h fs) ++ messages (events l (after l h fs) gs) ≡ messages (events l h (fs ++ gs))
+    messages (events l h fs) ++ messages (events l (after l h fs) gs) ≡ messages
+    (events l h (fs ++ gs))
 messages_joined l h fs gs =
-    sym (messages_append (events l h fs) (events l (after l h fs) gs)) ∙ ap messages (sym (events_append l h fs gs))
+    sym (messages_append (events l h fs) (events l (after l h fs) gs))
+    ∙ ap messages (sym (events_append l h fs gs))
 
 front_none : (ms ns : List Message) → ms ++ ns ≡ [] → ms ≡ []
 front_none [] ns e = refl
 front_none (m ∷ ms) ns e = absurd cc
 
--- Nothing of it was heard or told.
-pub cut_none : (l : Limits) (h : Heard) (fs : List Fragment) (all es : List Event) (k : Kept) → Stands l h k
+-- Nothing was added or reported.
+pub cut_none : (l : Limits) (h : Heard) (fs : List Fragment) (all es : List Event) (k : Kept)
+    → Stands l h k
     → IsCut l h fs all es es k
 unfolding events after
 cut_none l h fs all es k st = record {
@@ -84,11 +87,13 @@ cut_none l h fs all es k st = record {
   stands = st;
 }
 
-pub cut_same : (l : Limits) (h : Heard) (fs : List Fragment) (all es es' : List Event) (k : Kept) → es' ≡ es
+pub cut_same : (l : Limits) (h : Heard) (fs : List Fragment) (all es es' : List Event) (k : Kept)
+    → es' ≡ es
     → Stands l h k → IsCut l h fs all es es' k
-cut_same l h fs all es es' k same st = subst (λ x. IsCut l h fs all es x k) (sym same) (cut_none l h fs all es k st)
+cut_same l h fs all es es' k same st =
+    subst (λ x. IsCut l h fs all es x k) (sym same) (cut_none l h fs all es k st)
 
--- There are no fragments and no messages in it.
+-- It has no fragments and no messages.
 pub cut_part : (l : Limits) (h : Heard) (all es es' : List Event) (k : Kept) → messages all ≡ []
     → AreToldInPart all es es' → Stands l h k → IsCut l h [] all es es' k
 unfolding events after
@@ -109,8 +114,9 @@ cut_part l h all es es' k none was st = record {
   stands = st;
 }
 
--- All fragments were heard, and what comes behind their events isn't told.
-pub cut_all : (l : Limits) (h : Heard) (fs : List Fragment) (more es es' es'' : List Event) (k : Kept)
+-- All fragments were added, and what follows their events isn't reported.
+pub cut_all : (l : Limits) (h : Heard) (fs : List Fragment)
+    (more es es' es'' : List Event) (k : Kept)
     → AreHeard l h fs es es' k → es'' ≡ es' →
     IsCut l h fs (events l h fs ++ more) es es'' k
 cut_all l h fs more es es' es'' k was same = record {
@@ -129,7 +135,8 @@ cut_all l h fs more es es' es'' k was same = record {
 }
 
 -- Memory ran out within the fragments.
-pub cut_stopped : (l : Limits) (h : Heard) (fs : List Fragment) (more es es' : List Event) (k : Kept)
+pub cut_stopped : (l : Limits) (h : Heard) (fs : List Fragment)
+    (more es es' : List Event) (k : Kept)
     → IsStopped l h fs es es' k →
     IsCut l h fs (events l h fs ++ more) es es' k
 cut_stopped l h fs more es es' k was =
@@ -146,16 +153,18 @@ cut_stopped l h fs more es es' k was =
       untold = rest ++ more;
       in_order = sym (append_assoc (was.front ++ map Handshake was.kept) rest more)
           ∙ ap (λ x. x ++ rest ++ more) was.all
-          ∙ ap (λ x. x ++ more) (sym (ap (events l h) was.split ∙ events_append l h was.first was.behind));
+          ∙ ap (λ x. x ++ more)
+          (sym (ap (events l h) was.split ∙ events_append l h was.first was.behind));
       next = was.next;
       count = was.count;
       stands = was.stands;
     }
 
--- It was cut behind fragments that were heard.
+-- Memory ran out after fragments that were added.
 pub cut_behind : (l : Limits) (h : Heard) (first fs more : List Fragment)
     (so_far all rest total es es' es'' : List Event) (k : Kept) →
-    es' ≡ es ++ so_far → messages so_far ≡ messages (events l h first) → so_far ++ (all ++ rest) ≡ total →
+    es' ≡ es ++ so_far → messages so_far ≡ messages (events l h first)
+    → so_far ++ (all ++ rest) ≡ total →
     IsCut l (after l h first) fs all es' es'' k → IsCut l h (first ++ (fs ++ more)) total es es'' k
 cut_behind l h first fs more so_far all rest total es es' es'' k told none_lost in_order cut =
     let same : after l (after l h first) cut.first ≡ after l h (first ++ cut.first) =
@@ -164,7 +173,8 @@ cut_behind l h first fs more so_far all rest total es es' es'' k told none_lost 
     record {
       first = first ++ cut.first;
       behind = cut.behind ++ more;
-      split = ap (λ x. first ++ (x ++ more)) cut.split ∙ ap (λ x. first ++ x) (append_assoc cut.first cut.behind more)
+      split = ap (λ x. first ++ (x ++ more)) cut.split
+          ∙ ap (λ x. first ++ x) (append_assoc cut.first cut.behind more)
           ∙ sym (append_assoc first cut.first (cut.behind ++ more));
       front = so_far ++ cut.front;
       told = cut.told ∙ ap (λ x. x ++ cut.front) told ∙ append_assoc es so_far cut.front;
@@ -181,17 +191,22 @@ cut_behind l h first fs more so_far all rest total es es' es'' k told none_lost 
           ∙ ap (λ x. x ++ rest) cut.in_order) ∙ in_order;
       next = cut.next;
       count = cut.count ∙ ap (λ g. g.next) same;
-      stands = subst (λ g. Stands l (record { taken = g.taken; next = cut.next }) k) same cut.stands;
+      stands = subst (λ g. Stands l (record { taken = g.taken; next = cut.next }) k) same
+          cut.stands;
     }
 
--- The first of the events are told.
+-- A prefix of the events was appended.
 pub part_untold : (all es es' : List Event) → es' ≡ es → AreToldInPart all es es'
-part_untold all es es' same = record { front = []; untold = all; split = refl; told = same ∙ sym (append-nil es) }
+part_untold all es es' same =
+    record { front = []; untold = all; split = refl; told = same ∙ sym (append-nil es) }
 
-pub part_front : (front more es es' : List Event) → es' ≡ es ++ front → AreToldInPart (front ++ more) es es'
-part_front front more es es' told = record { front = front; untold = more; split = refl; told = told }
+pub part_front : (front more es es' : List Event) → es' ≡ es ++ front
+    → AreToldInPart (front ++ more) es es'
+part_front front more es es' told =
+    record { front = front; untold = more; split = refl; told = told }
 
-pub part_behind : (all more es es' : List Event) → AreToldInPart all es es' → AreToldInPart (all ++ more) es es'
+pub part_behind : (all more es es' : List Event) → AreToldInPart all es es'
+    → AreToldInPart (all ++ more) es es'
 part_behind all more es es' was = record {
   front = was.front;
   untold = was.untold ++ more;

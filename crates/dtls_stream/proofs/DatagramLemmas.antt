@@ -1,4 +1,4 @@
--- What is told of records and datagrams.
+-- The events of records and datagrams.
 use Rattle.std.proofs.Common.{
   ◌≡◌,
   ℕ,
@@ -65,19 +65,25 @@ pub map_next : {X Y : Type 0} (f : X → Y) (xs : List X) (i : ℕ) (d : X) → 
     → map f (take (i + 1) xs) ≡ map f (take i xs) ++ f (get_or xs i d) ∷ []
 map_next f xs i d h =
     let one : i + 1 ≡ suc i = omega arith in
-    ap (λ k. map f (take k xs)) one ∙ ap (map f) (take-suc xs i d h) ∙ map-append f (take i xs) (get_or xs i d ∷ [])
+    ap (λ k. map f (take k xs)) one ∙ ap (map f) (take-suc xs i d h)
+    ∙ map-append f (take i xs) (get_or xs i d ∷ [])
 
-pub told_next : {X : Type 0} (f : X → Event) (xs : List X) (i : ℕ) (d : X) (es es' es'' : List Event) → i < length xs →
-    es' ≡ es ++ map f (take i xs) → es'' ≡ es' ++ f (get_or xs i d) ∷ [] → es'' ≡ es ++ map f (take (i + 1) xs)
+pub told_next : {X : Type 0} (f : X → Event) (xs : List X) (i : ℕ) (d : X)
+    (es es' es'' : List Event) → i < length xs →
+    es' ≡ es ++ map f (take i xs) → es'' ≡ es' ++ f (get_or xs i d) ∷ []
+    → es'' ≡ es ++ map f (take (i + 1) xs)
 told_next f xs i d es es' es'' h was pushed =
-    pushed ∙ ap (λ e. e ++ f (get_or xs i d) ∷ []) was ∙ append_assoc es (map f (take i xs)) (f (get_or xs i d) ∷ [])
+    pushed ∙ ap (λ e. e ++ f (get_or xs i d) ∷ []) was
+    ∙ append_assoc es (map f (take i xs)) (f (get_or xs i d) ∷ [])
     ∙ ap (λ e. es ++ e) (sym (map_next f xs i d h))
 
-pub map_twice : (ms : List DTLSMessage) → map event_of (map view_message ms) ≡ map (λ m. event_of (view_message m)) ms
+pub map_twice : (ms : List DTLSMessage)
+    → map event_of (map view_message ms) ≡ map (λ m. event_of (view_message m)) ms
 map_twice [] = refl
 map_twice (m ∷ ms) = ap (λ es. event_of (view_message m) ∷ es) (map_twice ms)
 
-pub content_ok : (h : Heard) (es es' es'' : List Event) (r : Answer (List Message)) (ms : List DTLSMessage)
+pub content_ok : (h : Heard) (es es' es'' : List Event) (r : Answer (List Message))
+    (ms : List DTLSMessage)
     (rest : Bytes) → r ≡ Ok (map view_message ms, rest) →
     es' ≡ es ++ map (λ m. event_of (view_message m)) ms → es'' ≡ es' ++ left_over rest
     → es'' ≡ es ++ (content_step r h).1
@@ -86,27 +92,34 @@ content_ok h es es' es'' r ms rest is told left =
     ∙ append_assoc es (map event_of (map view_message ms)) (left_over rest)
     ∙ ap (λ a. es ++ (content_step a h).1) (sym is)
 
-pub content_err : (h : Heard) (es es' : List Event) (r : Answer (List Message)) (e : Refusal) → r ≡ Err e
+pub content_err : (h : Heard) (es es' : List Event) (r : Answer (List Message)) (e : Refusal)
+    → r ≡ Err e
     → es' ≡ es ++ Failed (kind_of e) ∷ [] → es' ≡ es ++ (content_step r h).1
 content_err h es es' r e is told = told ∙ ap (λ a. es ++ (content_step a h).1) (sym is)
 
-pub fragments_ok : (l : Limits) (h : Heard) (es es' es'' : List Event) (k : Kept) (r : Answer (List Fragment))
+pub fragments_ok : (l : Limits) (h : Heard) (es es' es'' : List Event) (k : Kept)
+    (r : Answer (List Fragment))
     (fs : List Fragment) (rest : Bytes) → r ≡ Ok (fs, rest) →
-    AreHeard l h fs es es' k → es'' ≡ es' ++ left_over rest → IsStep l (fragments_step r l h) es es'' k
+    AreHeard l h fs es es' k → es'' ≡ es' ++ left_over rest
+    → IsStep l (fragments_step r l h) es es'' k
 fragments_ok l h es es' es'' k r fs rest is all left =
     subst (λ a. IsStep l (fragments_step a l h) es es'' k) (sym is) (record {
-      events = left ∙ ap (λ e. e ++ left_over rest) all.events ∙ append_assoc es (events l h fs) (left_over rest);
+      events = left ∙ ap (λ e. e ++ left_over rest) all.events
+          ∙ append_assoc es (events l h fs) (left_over rest);
       stands = all.stands;
     })
 
-pub fragments_err : (l : Limits) (h : Heard) (es es' : List Event) (k : Kept) (r : Answer (List Fragment)) (e : Refusal)
+pub fragments_err : (l : Limits) (h : Heard) (es es' : List Event) (k : Kept)
+    (r : Answer (List Fragment)) (e : Refusal)
     → r ≡ Err e →
     es' ≡ es ++ Failed (kind_of e) ∷ [] → Stands l h k → IsStep l (fragments_step r l h) es es' k
 fragments_err l h es es' k r e is told st =
-    subst (λ a. IsStep l (fragments_step a l h) es es' k) (sym is) (record { events = told; stands = st })
+    subst (λ a. IsStep l (fragments_step a l h) es es' k) (sym is)
+    (record { events = told; stands = st })
 
 -- A record.
-pub sealed_step : (l : Limits) (h : Heard) (r : RawRecord) (es es' : List Event) (k : Kept) → 0 < r.header.epoch
+pub sealed_step : (l : Limits) (h : Heard) (r : RawRecord) (es es' : List Event) (k : Kept)
+    → 0 < r.header.epoch
     → es' ≡ es ++ Encrypted (encrypted r) ∷ [] → Stands l h k →
     IsStep l (record_step l h r) es es' k
 sealed_step l h r es es' k above told st =
@@ -115,7 +128,8 @@ sealed_step l h r es es' k above told st =
     (content_step (reading (record_content r.header) (content_bytes r)) h))) es es' k)
     (sym (lt-ltb 0 r.header.epoch above)) (record { events = told; stands = st })
 
-pub clear_step : (l : Limits) (h : Heard) (r : RawRecord) (es es' : List Event) (k : Kept) → r.header.epoch ≤ 0 →
+pub clear_step : (l : Limits) (h : Heard) (r : RawRecord) (es es' : List Event) (k : Kept)
+    → r.header.epoch ≤ 0 →
     IsStep l (cond (r.header.content_type == 22) (fragment_record_step r.fragment l h)
     (content_step (reading (record_content r.header) (content_bytes r)) h)) es es' k →
     IsStep l (record_step l h r) es es' k
@@ -125,7 +139,8 @@ clear_step l h r es es' k low is =
     (content_step (reading (record_content r.header) (content_bytes r)) h))) es es' k)
     (sym (le-ltb 0 r.header.epoch low)) is
 
-pub handshake_step : (l : Limits) (h : Heard) (r : RawRecord) (es es' : List Event) (k : Kept) → r.header.epoch ≤ 0
+pub handshake_step : (l : Limits) (h : Heard) (r : RawRecord) (es es' : List Event) (k : Kept)
+    → r.header.epoch ≤ 0
     → r.header.content_type ≡ 22 →
     IsStep l (fragment_record_step r.fragment l h) es es' k → IsStep l (record_step l h r) es es' k
 handshake_step l h r es es' k low kind is =
@@ -145,9 +160,11 @@ pub content_same : (h : Heard) (r : Answer (List Message)) → (content_step r h
 content_same h (Ok x) = refl
 content_same h (Err e) = refl
 
-pub other_step : (l : Limits) (h : Heard) (r : RawRecord) (es es' : List Event) (k : Kept) → r.header.epoch ≤ 0
+pub other_step : (l : Limits) (h : Heard) (r : RawRecord) (es es' : List Event) (k : Kept)
+    → r.header.epoch ≤ 0
     → (r.header.content_type ≡ 22 → ⊥) →
-    es' ≡ es ++ (content_step (reading (record_content r.header) (content_bytes r)) h).1 → Stands l h k
+    es' ≡ es ++ (content_step (reading (record_content r.header) (content_bytes r)) h).1
+    → Stands l h k
     → IsStep l (record_step l h r) es es' k
 other_step l h r es es' k low kind told st =
     clear_step l h r es es' k low
@@ -157,7 +174,8 @@ other_step l h r es es' k low kind told st =
     (record {
       events = told;
       stands =
-          subst (λ g. Stands l g k) (sym (content_same h (reading (record_content r.header) (content_bytes r)))) st;
+          subst (λ g. Stands l g k)
+          (sym (content_same h (reading (record_content r.header) (content_bytes r)))) st;
     }))
 
 pub on_ok : {P Q E : Type 0} (r : Result Unit E) → OnOk r P → (P → Q) → OnOk r Q
@@ -170,9 +188,11 @@ pub record AreReading (l : Limits) (all ds : List Bytes) (es : List Event) (k : 
   pub stands : Stands l heard k
   pub told : es ++ (datagrams l heard ds).1 ≡ (datagrams l (record { taken = []; next = 0 }) all).1
 
-pub datagrams_begin : (l : Limits) (ds : List Bytes) (k : Kept) → Stands l (record { taken = []; next = 0 }) k
+pub datagrams_begin : (l : Limits) (ds : List Bytes) (k : Kept)
+    → Stands l (record { taken = []; next = 0 }) k
     → AreReading l ds ds [] k
-datagrams_begin l ds k st = record { heard = record { taken = []; next = 0 }; stands = st; told = refl }
+datagrams_begin l ds k st =
+    record { heard = record { taken = []; next = 0 }; stands = st; told = refl }
 
 more_datagrams : (l : Limits) (h : Heard) (d : Bytes) (ds : List Bytes)
     → datagrams l h (d ∷ ds) ≡ then_step (datagram l h d) (λ h. datagrams l h ds)
@@ -183,10 +203,12 @@ no_datagrams : (l : Limits) (h : Heard) → datagrams l h [] ≡ (h, [])
 unfolding datagrams
 no_datagrams l h = refl
 
-pub datagrams_next : (l : Limits) (all : List Bytes) (ds : List (Bor (List ℕ))) (i : ℕ) (d : Bor (List ℕ))
+pub datagrams_next : (l : Limits) (all : List Bytes) (ds : List (Bor (List ℕ))) (i : ℕ)
+    (d : Bor (List ℕ))
     (es es' : List Event) (k k' : Kept) → i < length ds →
     AreReading l all (views (drop i ds)) es k
-    → ((l : Limits) (h : Heard) → Stands l h k → IsStep l (datagram l h (get_or ds i d).now) es es' k') →
+    → ((l : Limits) (h : Heard) → Stands l h k
+    → IsStep l (datagram l h (get_or ds i d).now) es es' k') →
     AreReading l all (views (drop (i + 1) ds)) es' k'
 datagrams_next l all ds i d es es' k k' low was hears =
     let one = hears l was.heard was.stands in
@@ -194,19 +216,23 @@ datagrams_next l all ds i d es es' k k' low was hears =
     let rest : List Bytes = views (drop (i + 1) ds) in
     let steps : datagrams l was.heard (views (drop i ds))
     ≡ then_step (datagram l was.heard b) (λ h. datagrams l h rest) =
-    ap (λ x. datagrams l was.heard (views x)) (drop_more ds i d low) ∙ more_datagrams l was.heard b rest in
+    ap (λ x. datagrams l was.heard (views x)) (drop_more ds i d low)
+    ∙ more_datagrams l was.heard b rest in
     record {
       heard = (datagram l was.heard b).0;
       stands = one.stands;
       told = ap (λ e. e ++ (datagrams l (datagram l was.heard b).0 rest).1) one.events
-          ∙ append_assoc es (datagram l was.heard b).1 (datagrams l (datagram l was.heard b).0 rest).1
+          ∙ append_assoc es (datagram l was.heard b).1
+          (datagrams l (datagram l was.heard b).0 rest).1
           ∙ ap (λ s. es ++ s.1) (sym steps) ∙ was.told;
     }
 
-pub datagrams_end : (l : Limits) (all ds : List Bytes) (es : List Event) (k : Kept) → ds ≡ [] → AreReading l all ds es k
+pub datagrams_end : (l : Limits) (all ds : List Bytes) (es : List Event) (k : Kept) → ds ≡ []
+    → AreReading l all ds es k
     → es ≡ (datagrams l (record { taken = []; next = 0 }) all).1
 datagrams_end l all ds es k none was =
-    sym (append-nil es) ∙ ap (λ s. es ++ s.1) (sym (ap (datagrams l was.heard) none ∙ no_datagrams l was.heard))
+    sym (append-nil es)
+    ∙ ap (λ s. es ++ s.1) (sym (ap (datagrams l was.heard) none ∙ no_datagrams l was.heard))
     ∙ was.told
 
 pub drop_past : (ds : List (Bor (List ℕ))) (i : ℕ) → length ds ≤ i → views (drop i ds) ≡ []

@@ -1,4 +1,4 @@
--- A message of which fragments are there.
+-- A message that is being reassembled.
 use Rattle.std.proofs.Common.{
   ◌≡◌,
   ℕ,
@@ -39,14 +39,17 @@ use Rattle.std.proofs.lemmas.List.Sums.{sum_by-cons, sum_by-append}
 use Rattle.layouts.specs.Bytes.{Bytes}
 use Rattle.dtls_stream.specs.Fragments.{Held, IsComplete, IsBody, absent, cell}
 
--- None is absent just where all are there.
-pub all_there : (ts : List Bool) → sum_by absent ts ≡ 0 → (i : ℕ) → i < length ts → get_or ts i false ≡ true
+-- No byte is missing exactly if all are known.
+pub all_there : (ts : List Bool) → sum_by absent ts ≡ 0 → (i : ℕ) → i < length ts
+    → get_or ts i false ≡ true
 all_there [] e i h = absurd (omega (arith, h))
 all_there (true ∷ ts) e zero h = refl
-all_there (true ∷ ts) e (suc i) h = all_there ts (omega (arith, sum_by-cons absent true ts, e)) i (omega (arith, h))
+all_there (true ∷ ts) e (suc i) h =
+    all_there ts (omega (arith, sum_by-cons absent true ts, e)) i (omega (arith, h))
 all_there (false ∷ ts) e i h = absurd (omega (arith, sum_by-cons absent false ts, e))
 
-pub none_absent : (ts : List Bool) → ((i : ℕ) → i < length ts → get_or ts i false ≡ true) → sum_by absent ts ≡ 0
+pub none_absent : (ts : List Bool) → ((i : ℕ) → i < length ts → get_or ts i false ≡ true)
+    → sum_by absent ts ≡ 0
 none_absent [] all = refl
 none_absent (true ∷ ts) all = let again = none_absent ts (λ i h. all (suc i) (omega (arith, h))) in
     omega (arith, sum_by-cons absent true ts, again)
@@ -57,7 +60,8 @@ absent_le [] = omega arith
 absent_le (true ∷ ts) = omega (arith, sum_by-cons absent true ts, absent_le ts)
 absent_le (false ∷ ts) = omega (arith, sum_by-cons absent false ts, absent_le ts)
 
-cell_some : (ts : List Bool) (bs : Bytes) (i : ℕ) → get_or ts i false ≡ true → cell ts bs i ≡ Some (slice_index bs i)
+cell_some : (ts : List Bool) (bs : Bytes) (i : ℕ) → get_or ts i false ≡ true
+    → cell ts bs i ≡ Some (slice_index bs i)
 cell_some ts bs i e = ap (λ t. cond t (Some (slice_index bs i)) None) e
 
 is_there : (ts : List Bool) (bs : Bytes) (i : ℕ) → IsSome (cell ts bs i) → get_or ts i false ≡ true
@@ -67,20 +71,21 @@ is_there ts bs i = go (get_or ts i false)
     go true s = refl
     go false s = absurd cc
 
--- no place beyond the lists is there
+-- no place beyond the lists is known
 there_below : (ts : List Bool) (i : ℕ) → get_or ts i false ≡ true → i < length ts
 there_below [] i e = absurd cc
 there_below (t ∷ ts) zero e = omega arith
 there_below (t ∷ ts) (suc i) e = let again = there_below ts i e in omega (arith, again)
 
--- All that is said of the fields of a message that is held.
+-- What holds of a buffered message's fields.
 pub record IsSound (h : Held) (filled : ℕ) : Type 0 where
   pub same : length h.there ≡ length h.held
   pub low : length h.held ≤ h.size
   pub count : filled + sum_by absent h.there ≡ length h.there
 
 pub complete_body : (h : Held) (filled : ℕ)
-    → (length h.there ≡ length h.held) × (length h.held ≤ h.size) × (filled + sum_by absent h.there ≡ length h.there)
+    → (length h.there ≡ length h.held) × (length h.held ≤ h.size)
+    × (filled + sum_by absent h.there ≡ length h.there)
     → h.size ≤ filled → IsBody h h.held
 complete_body h filled sound full =
     let none : sum_by absent h.there ≡ 0 = omega (arith, sound.0, sound.1, sound.2, full) in
@@ -91,13 +96,16 @@ complete_body h filled sound full =
     }
 
 pub body_complete : (h : Held) (filled : ℕ)
-    → (length h.there ≡ length h.held) × (length h.held ≤ h.size) × (filled + sum_by absent h.there ≡ length h.there)
+    → (length h.there ≡ length h.held) × (length h.held ≤ h.size)
+    × (filled + sum_by absent h.there ≡ length h.there)
     → h.size ≤ filled → IsComplete h
-body_complete h filled sound full i l = subst IsSome (sym ((complete_body h filled sound full).bytes i l)) refl
+body_complete h filled sound full i l =
+    subst IsSome (sym ((complete_body h filled sound full).bytes i l)) refl
 
--- where all places are there, as many are filled
+-- if all places are known, the count is the size
 pub complete_full : (h : Held) (filled : ℕ)
-    → (length h.there ≡ length h.held) × (length h.held ≤ h.size) × (filled + sum_by absent h.there ≡ length h.there)
+    → (length h.there ≡ length h.held) × (length h.held ≤ h.size)
+    × (filled + sum_by absent h.there ≡ length h.there)
     → IsComplete h → h.size ≤ filled
 complete_full h filled sound all = go h.size refl
   where
@@ -105,12 +113,14 @@ complete_full h filled sound all = go h.size refl
     go zero e = omega (arith, e)
     go (suc n) e =
         let last : n < h.size = omega (arith, e) in
-        let reach : n < length h.there = there_below h.there n (is_there h.there h.held n (all n last)) in
+        let reach : n < length h.there =
+        there_below h.there n (is_there h.there h.held n (all n last)) in
         let none : sum_by absent h.there ≡ 0 =
-        none_absent h.there (λ i l. is_there h.there h.held i (all i (omega (arith, l, sound.0, sound.1)))) in
+        none_absent h.there
+        (λ i l. is_there h.there h.held i (all i (omega (arith, l, sound.0, sound.1)))) in
         omega (arith, e, reach, none, sound.2)
 
--- Places that are added, with no byte.
+-- Places added without a byte.
 pub cell_grown : (ts : List Bool) (bs : Bytes) (m n : ℕ) → length ts ≡ length bs → (i : ℕ)
     → cell (ts ++ replicate m false) (bs ++ replicate n 0) i ≡ cell ts bs i
 cell_grown ts bs m n same i = go (nat_lt i (length ts)) refl
@@ -123,17 +133,20 @@ cell_grown ts bs m n same i = go (nat_lt i (length ts)) refl
         below (suc m) zero = refl
         below (suc m) (suc k) = below m k
 
-    go : (t : Bool) → nat_lt i (length ts) ≡ t → cell (ts ++ replicate m false) (bs ++ replicate n 0) i ≡ cell ts bs i
+    go : (t : Bool) → nat_lt i (length ts) ≡ t
+        → cell (ts ++ replicate m false) (bs ++ replicate n 0) i ≡ cell ts bs i
     go true e =
         let l : i < length ts = ltb-true i (length ts) e in
         let k : i < length bs = omega (arith, l, same) in
         ap (λ t. cond t (Some (slice_index (bs ++ replicate n 0) i)) None)
         (get_or_append_left ts (replicate m false) false i l)
-        ∙ ap (λ x. cond (get_or ts i false) (Some x) None) (get_or_append_left bs (replicate n 0) 0 i k)
+        ∙ ap (λ x. cond (get_or ts i false) (Some x) None)
+        (get_or_append_left bs (replicate n 0) 0 i k)
     go false e =
         let l : length ts ≤ i = ltb-false i (length ts) e in
         ap (λ t. cond t (Some (slice_index (bs ++ replicate n 0) i)) None)
-        (get_or-append_right ts (replicate m false) (length ts) i false refl l ∙ behind (i - length ts))
+        (get_or-append_right ts (replicate m false) (length ts) i false refl l
+        ∙ behind (i - length ts))
         ∙ ap (λ t. cond t (Some (slice_index bs i)) None) (sym (past ts i l))
       where
         past : (ts : List Bool) (i : ℕ) → length ts ≤ i → get_or ts i false ≡ false
@@ -153,9 +166,13 @@ count_grown ts n filled was =
       length-replicate n false,
     )
 
-pub cell_resized : (ts us : List Bool) (bs cs : Bytes) (end m n : ℕ) → length ts ≡ length bs → length bs ≤ end →
-    us ≡ take end ts ++ replicate m false → cs ≡ take end bs ++ replicate n 0 → (i : ℕ) → cell us cs i ≡ cell ts bs i
+pub cell_resized : (ts us : List Bool) (bs cs : Bytes) (end m n : ℕ) → length ts ≡ length bs
+    → length bs ≤ end →
+    us ≡ take end ts ++ replicate m false → cs ≡ take end bs ++ replicate n 0 → (i : ℕ)
+    → cell us cs i ≡ cell ts bs i
 cell_resized ts us bs cs end m n same low us_is cs_is i =
-    ap (λ u. cell u cs i) (us_is ∙ ap (λ t. t ++ replicate m false) (take_all end ts (omega (arith, same, low))))
-    ∙ ap (λ c. cell (ts ++ replicate m false) c i) (cs_is ∙ ap (λ t. t ++ replicate n 0) (take_all end bs low))
+    ap (λ u. cell u cs i)
+    (us_is ∙ ap (λ t. t ++ replicate m false) (take_all end ts (omega (arith, same, low))))
+    ∙ ap (λ c. cell (ts ++ replicate m false) c i)
+    (cs_is ∙ ap (λ t. t ++ replicate n 0) (take_all end bs low))
     ∙ cell_grown ts bs m n same i

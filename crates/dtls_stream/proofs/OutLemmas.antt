@@ -1,4 +1,4 @@
--- What is handed out of a direction, after any fragments.
+-- The messages delivered after any fragments.
 use Rattle.std.proofs.Common.{
   ◌≡◌,
   ℕ,
@@ -77,7 +77,7 @@ use Rattle.dtls_stream.specs.declared.fragments.FragmentError.TheVariants.{
 use Rattle.dtls_stream.proofs.HeardLemmas.{of_message_more, of_message_other, verdict_near}
 use Rattle.dtls_stream.proofs.SentLemmas.{AreAll, IsRun, all_of_message, covered_message, run_of}
 
--- The messages among events that are joined, or that are messages alone.
+-- The messages among joined events, and among events that are all messages.
 messages-append : (es fs : List Event) → messages (es ++ fs) ≡ messages es ++ messages fs
 messages-append [] fs = refl
 messages-append (Handshake m ∷ es) fs = ap (λ ms. m ∷ ms) (messages-append es fs)
@@ -91,7 +91,7 @@ messages-map : (ms : List Message) → messages (map Handshake ms) ≡ ms
 messages-map [] = refl
 messages-map (m ∷ ms) = ap (λ xs. m ∷ xs) (messages-map ms)
 
--- Further fragments take no cover away.
+-- More fragments don't uncover a message.
 cover_more : (gs hs : List Fragment) (n : ℕ) → Cover gs n → Cover (gs ++ hs) n
 cover_more gs hs n c = record
     { some = omega (arith, c.some, length-append gs hs); each = λ i l. more gs i (c.each i l) }
@@ -100,7 +100,8 @@ cover_more gs hs n c = record
     both (Some x) b s = refl
     both None b s = absurd cc
 
-    second : (a b c : Option ℕ) → (IsSome b → IsSome c) → IsSome (or_else a b) → IsSome (or_else a c)
+    second : (a b c : Option ℕ) → (IsSome b → IsSome c) → IsSome (or_else a b)
+        → IsSome (or_else a c)
     second (Some x) b c f s = refl
     second None b c f s = f s
 
@@ -114,12 +115,13 @@ covered_more ms ts f k c =
     subst (λ gs. Cover gs (length (sent ms k).body)) (sym (of_message_more k ts f))
     (cover_more (of_message k ts) (of_message k (f ∷ [])) (length (sent ms k).body) c)
 
-are_more : (ms : List Sent) (ts : List Fragment) (f : Fragment) → AreOf ms ts → f.message_seq < length ms
+are_more : (ms : List Sent) (ts : List Fragment) (f : Fragment) → AreOf ms ts
+    → f.message_seq < length ms
     → IsOf (sent ms f.message_seq) f → AreOf ms (ts ++ f ∷ [])
 are_more ms [] f of l is = (l, is, tt)
 are_more ms (t ∷ ts) f of l is = (of.0, of.1, are_more ms ts f of.2 l is)
 
--- A fragment that is taken is near enough.
+-- A fragment that is added is near enough.
 taken_near : (l : Limits) (h : Heard) (f : Fragment) (t : Unit) → verdict l h f ≡ Ok t
     → f.message_seq < h.next + l.ahead
 taken_near l h f t = go (nat_lt f.message_seq h.next) (nat_le (h.next + l.ahead) f.message_seq) refl
@@ -127,13 +129,14 @@ taken_near l h f t = go (nat_lt f.message_seq h.next) (nat_le (h.next + l.ahead)
     go : (a b : Bool) → nat_le (h.next + l.ahead) f.message_seq ≡ b →
         cond {A = Result Unit FragmentError} a (Err Old)
         (cond b (Err TooFarAhead)
-        (cond (nat_lt l.message f.length) (Err TooLarge) (agreed (of_message f.message_seq h.taken) f))) ≡ Ok t
+        (cond (nat_lt l.message f.length) (Err TooLarge)
+        (agreed (of_message f.message_seq h.taken) f))) ≡ Ok t
         → f.message_seq < h.next + l.ahead
     go true b e is = absurd cc
     go false true e is = absurd cc
     go false false e is = leb-false (h.next + l.ahead) f.message_seq e
 
--- What stands after each fragment: all that is whole is handed out.
+-- What holds after each fragment: all next messages that are whole were delivered.
 pub record IsOut (ms : List Sent) (l : Limits) (h : Heard) (out : List Message) : Type 0 where
   pub taken : AreOf ms h.taken
   pub low : h.next ≤ length ms
@@ -152,9 +155,11 @@ take-drop (suc a) b [] = nil b ∙ sym (nil (suc a + b))
 take-drop (suc a) b (x ∷ xs) = let e : suc (a + b) ≡ suc a + b = omega arith in
     ap (λ ys. x ∷ ys) (take-drop a b xs) ∙ ap (λ n. take n (x ∷ xs)) e
 
-out_taken : (ms : List Sent) (l : Limits) (h : Heard) (out : List Message) (f : Fragment) → IsOut ms l h out
+out_taken : (ms : List Sent) (l : Limits) (h : Heard) (out : List Message) (f : Fragment)
+    → IsOut ms l h out
     → f.message_seq < length ms → IsOf (sent ms f.message_seq) f →
-    f.message_seq < h.next + l.ahead → IsOut ms l (heard_by (Ok tt) l h f) (out ++ messages (told_by (Ok tt) l h f))
+    f.message_seq < h.next + l.ahead
+    → IsOut ms l (heard_by (Ok tt) l h f) (out ++ messages (told_by (Ok tt) l h f))
 out_taken ms l h out f was number is near =
     let ts : List Fragment = with_taken h f in
     let w : List Message = whole_from l.ahead h.next ts in
@@ -167,27 +172,33 @@ out_taken ms l h out f was number is near =
       taken = of;
       low = run.low;
       front = ap (λ m. out ++ m) (messages-map w) ∙ ap (λ o. o ++ w) was.front
-          ∙ ap (λ v. take h.next (numbered 0 ms) ++ v) run.front ∙ take-drop h.next (length w) (numbered 0 ms);
+          ∙ ap (λ v. take h.next (numbered 0 ms) ++ v) run.front
+          ∙ take-drop h.next (length w) (numbered 0 ms);
       covered = λ k g. covers ms l h out f was w run k g (nat_lt k h.next) refl;
       none_next = ended ms l h f w run beyond (nat_lt (length w) l.ahead) refl;
       near = λ k g. beyond k (omega (arith, g));
     }
   where
-    covers : (ms : List Sent) (l : Limits) (h : Heard) (out : List Message) (f : Fragment) → IsOut ms l h out
+    covers : (ms : List Sent) (l : Limits) (h : Heard) (out : List Message) (f : Fragment)
+        → IsOut ms l h out
         → (w : List Message) → IsRun ms (with_taken h f) l.ahead h.next w →
-        (k : ℕ) → k < h.next + length w → (b : Bool) → nat_lt k h.next ≡ b → IsCovered ms (with_taken h f) k
-    covers ms l h out f was w run k g true e = covered_more ms h.taken f k (was.covered k (ltb-true k h.next e))
+        (k : ℕ) → k < h.next + length w → (b : Bool) → nat_lt k h.next ≡ b
+        → IsCovered ms (with_taken h f) k
+    covers ms l h out f was w run k g true e =
+        covered_more ms h.taken f k (was.covered k (ltb-true k h.next e))
     covers ms l h out f was w run k g false e = run.covered k (ltb-false k h.next e) g
 
     ended : (ms : List Sent) (l : Limits) (h : Heard) (f : Fragment) (w : List Message)
         → IsRun ms (with_taken h f) l.ahead h.next w
         → ((k : ℕ) → h.next + l.ahead ≤ k → of_message k (with_taken h f) ≡ []) →
-        (b : Bool) → nat_lt (length w) l.ahead ≡ b → message_of (of_message (h.next + length w) (with_taken h f)) ≡ None
+        (b : Bool) → nat_lt (length w) l.ahead ≡ b
+        → message_of (of_message (h.next + length w) (with_taken h f)) ≡ None
     ended ms l h f w run beyond true e = run.end (ltb-true (length w) l.ahead e)
     ended ms l h f w run beyond false e = let full = ltb-false (length w) l.ahead e in
         ap message_of (beyond (h.next + length w) (omega (arith, full)))
 
-out_step : (ms : List Sent) (l : Limits) (h : Heard) (out : List Message) (f : Fragment) → IsOut ms l h out
+out_step : (ms : List Sent) (l : Limits) (h : Heard) (out : List Message) (f : Fragment)
+    → IsOut ms l h out
     → f.message_seq < length ms → IsOf (sent ms f.message_seq) f →
     IsOut ms l (heard l h f) (out ++ messages (told l h f))
 out_step ms l h out f was number is = go (verdict l h f) refl
@@ -197,7 +208,8 @@ out_step ms l h out f was number is = go (verdict l h f) refl
     go (Ok t) e = out_taken ms l h out f was number is (taken_near l h f t e)
     go (Err x) e = subst (IsOut ms l h) (sym (append-nil out)) was
 
-pub out_all : (ms : List Sent) (l : Limits) (h : Heard) (out : List Message) (fs : List Fragment) → IsOut ms l h out
+pub out_all : (ms : List Sent) (l : Limits) (h : Heard) (out : List Message) (fs : List Fragment)
+    → IsOut ms l h out
     → AreOf ms fs → IsOut ms l (after l h fs) (out ++ messages (events l h fs))
 unfolding after events
 out_all ms l h out [] was of = subst (IsOut ms l h) (sym (append-nil out)) was
@@ -205,7 +217,8 @@ out_all ms l h out (f ∷ fs) was of =
     subst (IsOut ms l (after l (heard l h f) fs))
     (append_assoc out (messages (told l h f)) (messages (events l (heard l h f) fs))
     ∙ sym (ap (λ m. out ++ m) (messages-append (told l h f) (events l (heard l h f) fs))))
-    (out_all ms l (heard l h f) (out ++ messages (told l h f)) fs (out_step ms l h out f was of.0 of.1) of.2)
+    (out_all ms l (heard l h f) (out ++ messages (told l h f)) fs
+    (out_step ms l h out f was of.0 of.1) of.2)
 
 pub out_begins : (ms : List Sent) (l : Limits) → IsOut ms l (record { taken = []; next = 0 }) []
 out_begins ms l = record {
@@ -232,7 +245,8 @@ taken_hand_out ms l fs of =
           (after l (record { taken = []; next = 0 }) fs).next all.taken cover in absurd cc;
     }
 
--- Where no message is too far ahead or too large, all fragments count: those that aren't taken are repeated.
+-- If no message is too far ahead or too large, all fragments count: those refused are
+-- retransmissions.
 pub record IsAll (ms : List Sent) (h : Heard) (fs : List Fragment) : Type 0 where
   pub same : (k : ℕ) → h.next ≤ k → of_message k h.taken ≡ of_message k fs
   pub done : (k : ℕ) → k < h.next → IsCovered ms fs k
@@ -241,24 +255,28 @@ inside_ok : (m : Sent) (f : Fragment) → IsOf m f → inside f ≡ Ok tt
 inside_ok m f is = ap (λ b. cond {A = Result Unit FragmentError} b (Ok tt) (Err Outside))
     (le-leb (f.fragment_offset + length f.body) f.length (omega (arith, is.inside, is.size)))
 
-agreed_ok : (m : Sent) (gs : List Fragment) (f : Fragment) → AreAll m gs → IsOf m f → agreed gs f ≡ Ok tt
+agreed_ok : (m : Sent) (gs : List Fragment) (f : Fragment) → AreAll m gs → IsOf m f
+    → agreed gs f ≡ Ok tt
 agreed_ok m [] f all is = inside_ok m f is
 agreed_ok m (g ∷ gs) f all is =
     ap (λ b. cond {A = Result Unit FragmentError} b (inside f) (Err OtherLength))
     (eq-eqb g.length f.length (all.0.size ∙ sym is.size))
     ∙ inside_ok m f is
 
-all_old : (ms : List Sent) (l : Limits) (h : Heard) (fs : List Fragment) (f : Fragment) → IsAll ms h fs
+all_old : (ms : List Sent) (l : Limits) (h : Heard) (fs : List Fragment) (f : Fragment)
+    → IsAll ms h fs
     → f.message_seq < h.next → IsAll ms h (fs ++ f ∷ [])
 all_old ms l h fs f was old = record {
   same = λ k g. was.same k g
       ∙ sym (of_message_more k fs f
-      ∙ ap (λ gs. of_message k fs ++ gs) (of_message_other k f (λ e. absurd (omega (arith, e, g, old))))
+      ∙ ap (λ gs. of_message k fs ++ gs)
+      (of_message_other k f (λ e. absurd (omega (arith, e, g, old))))
       ∙ append-nil (of_message k fs));
   done = λ k g. covered_more ms fs f k (was.done k g);
 }
 
-all_taken : (ms : List Sent) (l : Limits) (h : Heard) (fs : List Fragment) (f : Fragment) → IsAll ms h fs →
+all_taken : (ms : List Sent) (l : Limits) (h : Heard) (fs : List Fragment) (f : Fragment)
+    → IsAll ms h fs →
     ((k : ℕ) → k < (heard_by (Ok tt) l h f).next → IsCovered ms (with_taken h f) k)
     → IsAll ms (heard_by (Ok tt) l h f) (fs ++ f ∷ [])
 all_taken ms l h fs f was covers = record {
@@ -270,32 +288,39 @@ all_taken ms l h fs f was covers = record {
     both k g = of_message_more k h.taken f ∙ ap (λ gs. gs ++ of_message k (f ∷ [])) (was.same k g)
         ∙ sym (of_message_more k fs f)
 
-    at : (k : ℕ) → k < (heard_by (Ok tt) l h f).next → (b : Bool) → nat_lt k h.next ≡ b → IsCovered ms (fs ++ f ∷ []) k
+    at : (k : ℕ) → k < (heard_by (Ok tt) l h f).next → (b : Bool) → nat_lt k h.next ≡ b
+        → IsCovered ms (fs ++ f ∷ []) k
     at k g true e = covered_more ms fs f k (was.done k (ltb-true k h.next e))
     at k g false e = subst (λ gs. Cover gs (length (sent ms k).body))
-        (of_message_more k h.taken f ∙ ap (λ gs. gs ++ of_message k (f ∷ [])) (was.same k (ltb-false k h.next e))
+        (of_message_more k h.taken f
+        ∙ ap (λ gs. gs ++ of_message k (f ∷ [])) (was.same k (ltb-false k h.next e))
         ∙ sym (of_message_more k fs f)) (covers k g)
 
-old_verdict : (l : Limits) (h : Heard) (f : Fragment) → f.message_seq < h.next → verdict l h f ≡ Err Old
+old_verdict : (l : Limits) (h : Heard) (f : Fragment) → f.message_seq < h.next
+    → verdict l h f ≡ Err Old
 old_verdict l h f old = ap
     (λ b. cond {A = Result Unit FragmentError} b (Err Old)
     (cond (nat_le (h.next + l.ahead) f.message_seq) (Err TooFarAhead)
-    (cond (nat_lt l.message f.length) (Err TooLarge) (agreed (of_message f.message_seq h.taken) f))))
+    (cond (nat_lt l.message f.length) (Err TooLarge)
+    (agreed (of_message f.message_seq h.taken) f))))
     (lt-ltb f.message_seq h.next old)
 
--- What a fragment leads to.
-pub record IsStep (ms : List Sent) (l : Limits) (h : Heard) (out : List Message) (fs : List Fragment)
+-- What holds after a fragment.
+pub record IsStep (ms : List Sent) (l : Limits) (h : Heard) (out : List Message)
+    (fs : List Fragment)
     (f : Fragment) : Type 0 where
   pub outs : IsOut ms l (heard l h f) (out ++ messages (told l h f))
   pub all : IsAll ms (heard l h f) (fs ++ f ∷ [])
 
-all_step : (ms : List Sent) (l : Limits) (h : Heard) (out : List Message) (fs : List Fragment) (f : Fragment)
+all_step : (ms : List Sent) (l : Limits) (h : Heard) (out : List Message) (fs : List Fragment)
+    (f : Fragment)
     → length ms ≤ l.ahead → AreSmall l ms → IsOut ms l h out → IsAll ms h fs →
     f.message_seq < length ms → IsOf (sent ms f.message_seq) f → IsStep ms l h out fs f
 all_step ms l h out fs f few small was all number is =
     go (nat_lt f.message_seq h.next) refl (out_step ms l h out f was number is)
   where
-    go : (b : Bool) → nat_lt f.message_seq h.next ≡ b → IsOut ms l (heard l h f) (out ++ messages (told l h f))
+    go : (b : Bool) → nat_lt f.message_seq h.next ≡ b
+        → IsOut ms l (heard l h f) (out ++ messages (told l h f))
         → IsStep ms l h out fs f
     go true e now = record {
       outs = now;
@@ -306,22 +331,26 @@ all_step ms l h out fs f few small was all number is =
     go false e now =
         let new : h.next ≤ f.message_seq = ltb-false f.message_seq h.next e in
         let ok : verdict l h f ≡ Ok tt =
-        verdict_near l h f new (omega (arith, number, few)) (omega (arith, is.size, small f.message_seq))
+        verdict_near l h f new (omega (arith, number, few))
+        (omega (arith, is.size, small f.message_seq))
         ∙ agreed_ok (sent ms f.message_seq) (of_message f.message_seq h.taken) f
         (all_of_message ms f.message_seq h.taken was.taken) is in
         record {
           outs = now;
           all = subst (λ v. IsAll ms (heard_by v l h f) (fs ++ f ∷ [])) (sym ok)
               (all_taken ms l h fs f all
-              (subst (λ v. IsOut ms l (heard_by v l h f) (out ++ messages (told_by v l h f))) ok now).covered);
+              (subst (λ v. IsOut ms l (heard_by v l h f) (out ++ messages (told_by v l h f))) ok
+              now).covered);
         }
 
--- All that is told of fragments that come one after the other.
-pub record IsEnd (ms : List Sent) (l : Limits) (h : Heard) (out : List Message) (fs gs : List Fragment) : Type 0 where
+-- The events of these fragments, in order.
+pub record IsEnd (ms : List Sent) (l : Limits) (h : Heard) (out : List Message)
+    (fs gs : List Fragment) : Type 0 where
   pub outs : IsOut ms l (after l h gs) (out ++ messages (events l h gs))
   pub all : IsAll ms (after l h gs) (fs ++ gs)
 
-all_end : (ms : List Sent) (l : Limits) (h : Heard) (out : List Message) (fs gs : List Fragment) → length ms ≤ l.ahead
+all_end : (ms : List Sent) (l : Limits) (h : Heard) (out : List Message) (fs gs : List Fragment)
+    → length ms ≤ l.ahead
     → AreSmall l ms → IsOut ms l h out → IsAll ms h fs → AreOf ms gs → IsEnd ms l h out fs gs
 unfolding after events
 all_end ms l h out fs [] few small was all of =
@@ -331,16 +360,19 @@ all_end ms l h out fs [] few small was all of =
     }
 all_end ms l h out fs (f ∷ gs) few small was all of =
     let one = all_step ms l h out fs f few small was all of.0 of.1 in
-    let more = all_end ms l (heard l h f) (out ++ messages (told l h f)) (fs ++ f ∷ []) gs few small one.outs one.all
+    let more = all_end ms l (heard l h f) (out ++ messages (told l h f)) (fs ++ f ∷ []) gs few small
+    one.outs one.all
     of.2 in
     record {
       outs = subst (IsOut ms l (after l (heard l h f) gs))
           (append_assoc out (messages (told l h f)) (messages (events l (heard l h f) gs))
-          ∙ sym (ap (λ m. out ++ m) (messages-append (told l h f) (events l (heard l h f) gs)))) more.outs;
+          ∙ sym (ap (λ m. out ++ m)
+          (messages-append (told l h f) (events l (heard l h f) gs)))) more.outs;
       all = subst (IsAll ms (after l (heard l h f) gs)) (append_assoc fs (f ∷ []) gs) more.all;
     }
 
-pub all_hand_out : (ms : List Sent) (l : Limits) (fs : List Fragment) → length ms ≤ l.ahead → AreSmall l ms
+pub all_hand_out : (ms : List Sent) (l : Limits) (fs : List Fragment) → length ms ≤ l.ahead
+    → AreSmall l ms
     → AreOf ms fs → IsHandedOut ms fs (messages (events l (record { taken = []; next = 0 }) fs))
 all_hand_out ms l fs few small of =
     let end = all_end ms l (record { taken = []; next = 0 }) [] [] fs few small (out_begins ms l)
@@ -353,6 +385,8 @@ all_hand_out ms l fs few small of =
       covered = end.all.done;
       next = λ low cover.
           let mine : IsCovered ms h.taken h.next =
-          subst (λ gs. Cover gs (length (sent ms h.next).body)) (sym (end.all.same h.next (omega arith))) cover in
-          let no = sym end.outs.none_next ∙ covered_message ms h.taken h.next end.outs.taken mine in absurd cc;
+          subst (λ gs. Cover gs (length (sent ms h.next).body))
+          (sym (end.all.same h.next (omega arith))) cover in
+          let no = sym end.outs.none_next ∙ covered_message ms h.taken h.next end.outs.taken mine in
+          absurd cc;
     }

@@ -1,4 +1,4 @@
--- What is told of a datagram, record by record.
+-- The events of a datagram, record by record.
 use Rattle.std.proofs.Common.{
   ◌≡◌,
   ℕ,
@@ -87,7 +87,7 @@ use Rattle.dtls_stream.proofs.CutLemmas.{
 }
 use Rattle.dtls_stream.proofs.DatagramLemmas.{content_same, eqb-ne, map_twice}
 
--- A record of another type holds no message.
+-- A record of another type has no message.
 left_none : (b : Bytes) → messages (left_over b) ≡ []
 left_none [] = refl
 left_none (b ∷ bs) = refl
@@ -116,14 +116,16 @@ fragments_messages : (l : Limits) (h : Heard) (r : Answer (List Fragment))
     → messages (fragments_step r l h).1 ≡ messages (events l h (those_read r))
 unfolding events
 fragments_messages l h (Ok x) = messages_append (events l h x.0) (left_over x.1)
-    ∙ ap (λ ms. messages (events l h x.0) ++ ms) (left_none x.1) ∙ append-nil (messages (events l h x.0))
+    ∙ ap (λ ms. messages (events l h x.0) ++ ms) (left_none x.1)
+    ∙ append-nil (messages (events l h x.0))
 fragments_messages l h (Err e) = refl
 
--- A record, by whether it is encrypted, and holds fragments.
+-- A record, by whether it is encrypted and has fragments.
 abbrev step_by : Bool → Bool → Limits → Heard → RawRecord → Step
 step_by a b l h r =
     cond a (h, Encrypted (encrypted r) ∷ []) (
-    cond b (fragment_record_step r.fragment l h) (content_step (reading (record_content r.header) (content_bytes r)) h))
+    cond b (fragment_record_step r.fragment l h)
+    (content_step (reading (record_content r.header) (content_bytes r)) h))
 
 abbrev fragments_by : Bool → Bool → RawRecord → List Fragment
 fragments_by a b r = cond a [] (cond b (those_read (reading (list1 fragment) r.fragment)) [])
@@ -142,7 +144,8 @@ messages_by true b l h r = refl
 messages_by false true l h r = fragments_messages l h (reading (list1 fragment) r.fragment)
 messages_by false false l h r = content_none h (reading (record_content r.header) (content_bytes r))
 
-record_after : (l : Limits) (h : Heard) (r : RawRecord) → (record_step l h r).0 ≡ after l h (fragments_in_record r)
+record_after : (l : Limits) (h : Heard) (r : RawRecord)
+    → (record_step l h r).0 ≡ after l h (fragments_in_record r)
 record_after l h r = after_by (nat_lt 0 r.header.epoch) (r.header.content_type == 22) l h r
 
 record_messages : (l : Limits) (h : Heard) (r : RawRecord)
@@ -150,55 +153,67 @@ record_messages : (l : Limits) (h : Heard) (r : RawRecord)
 record_messages l h r = messages_by (nat_lt 0 r.header.epoch) (r.header.content_type == 22) l h r
 
 -- Memory ran out in a record.
-pub fragments_stopped : (l : Limits) (h : Heard) (es es' : List Event) (k : Kept) (r : Answer (List Fragment))
+pub fragments_stopped : (l : Limits) (h : Heard) (es es' : List Event) (k : Kept)
+    (r : Answer (List Fragment))
     (fs : List Fragment) (rest : Bytes) → r ≡ Ok (fs, rest) →
     IsStopped l h fs es es' k → IsCut l h (those_read r) (fragments_step r l h).1 es es' k
 fragments_stopped l h es es' k r fs rest is was =
     subst (λ a. IsCut l h (those_read a) (fragments_step a l h).1 es es' k) (sym is)
     (cut_stopped l h fs (left_over rest) es es' k was)
 
-pub fragments_untold : (l : Limits) (h : Heard) (es es' es'' : List Event) (k : Kept) (r : Answer (List Fragment))
+pub fragments_untold : (l : Limits) (h : Heard) (es es' es'' : List Event) (k : Kept)
+    (r : Answer (List Fragment))
     (fs : List Fragment) (rest : Bytes) → r ≡ Ok (fs, rest) →
-    AreHeard l h fs es es' k → es'' ≡ es' → IsCut l h (those_read r) (fragments_step r l h).1 es es'' k
+    AreHeard l h fs es es' k → es'' ≡ es'
+    → IsCut l h (those_read r) (fragments_step r l h).1 es es'' k
 fragments_untold l h es es' es'' k r fs rest is was same =
     subst (λ a. IsCut l h (those_read a) (fragments_step a l h).1 es es'' k) (sym is)
     (cut_all l h fs (left_over rest) es es' es'' k was same)
 
--- Of the messages in a record of another type the first are told.
-pub content_stopped : (h : Heard) (es es' : List Event) (r : Answer (List Message)) (ms : List DTLSMessage)
+-- A prefix of a record's messages was reported, in a record of another type.
+pub content_stopped : (h : Heard) (es es' : List Event) (r : Answer (List Message))
+    (ms : List DTLSMessage)
     (rest : Bytes) → r ≡ Ok (map view_message ms, rest) →
-    AreToldInPart (map (λ m. event_of (view_message m)) ms) es es' → AreToldInPart (content_step r h).1 es es'
+    AreToldInPart (map (λ m. event_of (view_message m)) ms) es es'
+    → AreToldInPart (content_step r h).1 es es'
 content_stopped h es es' r ms rest is was =
     subst (λ a. AreToldInPart (content_step a h).1 es es') (sym is)
     (subst (λ all. AreToldInPart (all ++ left_over rest) es es') (sym (map_twice ms))
     (part_behind (map (λ m. event_of (view_message m)) ms) (left_over rest) es es' was))
 
-pub content_untold : (h : Heard) (es es' es'' : List Event) (r : Answer (List Message)) (ms : List DTLSMessage)
+pub content_untold : (h : Heard) (es es' es'' : List Event) (r : Answer (List Message))
+    (ms : List DTLSMessage)
     (rest : Bytes) → r ≡ Ok (map view_message ms, rest) →
-    es' ≡ es ++ map (λ m. event_of (view_message m)) ms → es'' ≡ es' → AreToldInPart (content_step r h).1 es es''
+    es' ≡ es ++ map (λ m. event_of (view_message m)) ms → es'' ≡ es'
+    → AreToldInPart (content_step r h).1 es es''
 content_untold h es es' es'' r ms rest is told same =
     subst (λ a. AreToldInPart (content_step a h).1 es es'') (sym is)
     (part_front (map event_of (map view_message ms)) (left_over rest) es es''
     (same ∙ told ∙ ap (λ m. es ++ m) (sym (map_twice ms))))
 
-cut_by : (a b c d : Bool) (l : Limits) (h : Heard) (r : RawRecord) (es es' : List Event) (k : Kept) → a ≡ c → b ≡ d →
+cut_by : (a b c d : Bool) (l : Limits) (h : Heard) (r : RawRecord) (es es' : List Event) (k : Kept)
+    → a ≡ c → b ≡ d →
     IsCut l h (fragments_by c d r) (step_by c d l h r).1 es es' k
     → IsCut l h (fragments_by a b r) (step_by a b l h r).1 es es' k
 cut_by a b c d l h r es es' k first second is =
     subst (λ b. IsCut l h (fragments_by a b r) (step_by a b l h r).1 es es' k) (sym second)
     (subst (λ a. IsCut l h (fragments_by a d r) (step_by a d l h r).1 es es' k) (sym first) is)
 
-pub handshake_cut : (l : Limits) (h : Heard) (r : RawRecord) (es es' : List Event) (k : Kept) → r.header.epoch ≤ 0
+pub handshake_cut : (l : Limits) (h : Heard) (r : RawRecord) (es es' : List Event) (k : Kept)
+    → r.header.epoch ≤ 0
     → r.header.content_type ≡ 22 →
-    IsCut l h (those_read (reading (list1 fragment) r.fragment)) (fragment_record_step r.fragment l h).1 es es' k →
+    IsCut l h (those_read (reading (list1 fragment) r.fragment))
+    (fragment_record_step r.fragment l h).1 es es' k →
     IsCut l h (fragments_in_record r) (record_step l h r).1 es es' k
 handshake_cut l h r es es' k low kind is =
     cut_by (nat_lt 0 r.header.epoch) (r.header.content_type == 22) false true l h r es es' k
     (le-ltb 0 r.header.epoch low) (eq-eqb r.header.content_type 22 kind) is
 
-pub other_cut : (l : Limits) (h : Heard) (r : RawRecord) (es es' : List Event) (k : Kept) → r.header.epoch ≤ 0
+pub other_cut : (l : Limits) (h : Heard) (r : RawRecord) (es es' : List Event) (k : Kept)
+    → r.header.epoch ≤ 0
     → (r.header.content_type ≡ 22 → ⊥) →
-    AreToldInPart (content_step (reading (record_content r.header) (content_bytes r)) h).1 es es' → Stands l h k →
+    AreToldInPart (content_step (reading (record_content r.header) (content_bytes r)) h).1 es es'
+    → Stands l h k →
     IsCut l h (fragments_in_record r) (record_step l h r).1 es es' k
 other_cut l h r es es' k low kind was st =
     cut_by (nat_lt 0 r.header.epoch) (r.header.content_type == 22) false false l h r es es' k
@@ -206,7 +221,7 @@ other_cut l h r es es' k low kind was st =
     (cut_part l h (content_step (reading (record_content r.header) (content_bytes r)) h).1 es es' k
     (content_none h (reading (record_content r.header) (content_bytes r))) was st)
 
--- A datagram of which so many records may still come: its first fragments were heard.
+-- A datagram with at most n records to come: a prefix of its fragments was added.
 pub record IsReading (l : Limits) (h : Heard) (fs : List Fragment) (s : Step) (n : ℕ) (left : Bytes)
     (es es' : List Event) (k : Kept) : Type 0 where
   pub heard : Heard
@@ -220,7 +235,8 @@ pub record IsReading (l : Limits) (h : Heard) (fs : List Fragment) (s : Step) (n
   pub hears : heard ≡ after l h first
   pub none_lost : messages front ≡ messages (events l h first)
 
-pub reading_begins : (l : Limits) (h : Heard) (b : Bytes) (n : ℕ) (es : List Event) (k : Kept) → n ≡ length b
+pub reading_begins : (l : Limits) (h : Heard) (b : Bytes) (n : ℕ) (es : List Event) (k : Kept)
+    → n ≡ length b
     → Stands l h k →
     IsReading l h (fragments_of b) (datagram l h b) n b es es k
 unfolding after events
@@ -237,7 +253,8 @@ reading_begins l h b n es k is st = record {
   none_lost = refl;
 }
 
-step_ok : (n : ℕ) (l : Limits) (h : Heard) (b rest : Bytes) (r : RawRecord) → reading datagram_record b ≡ Ok (r, rest) →
+step_ok : (n : ℕ) (l : Limits) (h : Heard) (b rest : Bytes) (r : RawRecord)
+    → reading datagram_record b ≡ Ok (r, rest) →
     records_step (suc n) l h b ≡ then_step (record_step l h r) (λ h. records_step n l h rest)
 unfolding records_step
 step_ok n l h b rest r is = ap (λ a. next_record a l h b (records_step n l)) is
@@ -247,7 +264,8 @@ within_ok : (n : ℕ) (b rest : Bytes) (r : RawRecord) → reading datagram_reco
 unfolding fragments_within
 within_ok n b rest r is = ap (λ a. fragments_from a (fragments_within n)) is
 
-step_err : (n : ℕ) (l : Limits) (h : Heard) (b : Bytes) (e : Refusal) → reading datagram_record b ≡ Err e
+step_err : (n : ℕ) (l : Limits) (h : Heard) (b : Bytes) (e : Refusal)
+    → reading datagram_record b ≡ Err e
     → records_step (suc n) l h b ≡ (h, unread b e)
 unfolding records_step
 step_err n l h b e is = ap (λ a. next_record a l h b (records_step n l)) is
@@ -256,7 +274,8 @@ step_none : (l : Limits) (h : Heard) (b : Bytes) → records_step 0 l h b ≡ (h
 unfolding records_step
 step_none l h b = refl
 
-pub reading_next : (l : Limits) (h : Heard) (fs : List Fragment) (s : Step) (n m : ℕ) (left rest : Bytes)
+pub reading_next : (l : Limits) (h : Heard) (fs : List Fragment) (s : Step) (n m : ℕ)
+    (left rest : Bytes)
     (r : RawRecord) (es es' es'' : List Event) (k k' : Kept) →
     n ≡ suc m → reading datagram_record left ≡ Ok (r, rest) → IsReading l h fs s n left es es' k →
     ((l : Limits) (h : Heard) → Stands l h k → IsStep l (record_step l h r) es' es'' k')
@@ -272,37 +291,45 @@ reading_next l h fs s n m left rest r es es' es'' k k' is ok was hears =
       stands = one.stands;
       front = was.front ++ step.1;
       told = one.events ∙ ap (λ e. e ++ step.1) was.told ∙ append_assoc es was.front step.1;
-      in_order = append_assoc was.front step.1 (records_step m l step.0 rest).1 ∙ ap (λ s. was.front ++ s.1) (sym steps)
+      in_order = append_assoc was.front step.1 (records_step m l step.0 rest).1
+          ∙ ap (λ s. was.front ++ s.1) (sym steps)
           ∙ was.in_order;
       end = ap (λ s. s.0) (sym steps) ∙ was.end;
       first = was.first ++ more;
-      split = was.split ∙ ap (λ x. was.first ++ x) (ap (λ n. fragments_within n left) is ∙ within_ok m left rest r ok)
+      split = was.split ∙ ap (λ x. was.first ++ x)
+          (ap (λ n. fragments_within n left) is ∙ within_ok m left rest r ok)
           ∙ sym (append_assoc was.first more (fragments_within m rest));
-      hears = record_after l was.heard r ∙ ap (λ g. after l g more) was.hears ∙ sym (after_append l h was.first more);
+      hears = record_after l was.heard r ∙ ap (λ g. after l g more) was.hears
+          ∙ sym (after_append l h was.first more);
       none_lost = messages_append was.front step.1 ∙ ap (λ ms. ms ++ messages step.1) was.none_lost
           ∙ ap (λ ms. messages (events l h was.first) ++ ms)
           (record_messages l was.heard r ∙ ap (λ g. messages (events l g more)) was.hears)
           ∙ messages_joined l h was.first more;
     }
 
-pub reading_fails : (l : Limits) (h : Heard) (fs : List Fragment) (s : Step) (n m : ℕ) (left : Bytes) (e : Refusal)
+pub reading_fails : (l : Limits) (h : Heard) (fs : List Fragment) (s : Step) (n m : ℕ)
+    (left : Bytes) (e : Refusal)
     (es es' es'' : List Event) (k : Kept) →
-    n ≡ suc m → reading datagram_record left ≡ Err e → IsReading l h fs s n left es es' k → es'' ≡ es' ++ unread left e
+    n ≡ suc m → reading datagram_record left ≡ Err e → IsReading l h fs s n left es es' k
+    → es'' ≡ es' ++ unread left e
     → IsStep l s es es'' k
 reading_fails l h fs s n m left e es es' es'' k is err was told =
     let steps : records_step n l was.heard left ≡ (was.heard, unread left e) =
     ap (λ n. records_step n l was.heard left) is ∙ step_err m l was.heard left e err in
     record {
-      events = told ∙ ap (λ x. x ++ unread left e) was.told ∙ append_assoc es was.front (unread left e)
+      events = told ∙ ap (λ x. x ++ unread left e) was.told
+          ∙ append_assoc es was.front (unread left e)
           ∙ ap (λ x. es ++ x) (ap (λ s. was.front ++ s.1) (sym steps) ∙ was.in_order);
       stands = subst (λ h. Stands l h k) (ap (λ s. s.0) (sym steps) ∙ was.end) was.stands;
     }
 
-pub reading_ends : (l : Limits) (h : Heard) (fs : List Fragment) (s : Step) (n : ℕ) (left : Bytes) (es es' : List Event)
+pub reading_ends : (l : Limits) (h : Heard) (fs : List Fragment) (s : Step) (n : ℕ) (left : Bytes)
+    (es es' : List Event)
     (k : Kept) → n ≡ 0 →
     IsReading l h fs s n left es es' k → IsStep l s es es' k
 reading_ends l h fs s n left es es' k is was =
-    let steps : records_step n l was.heard left ≡ (was.heard, []) = ap (λ n. records_step n l was.heard left) is
+    let steps : records_step n l was.heard left ≡ (was.heard, []) =
+    ap (λ n. records_step n l was.heard left) is
     ∙ step_none l was.heard left in
     record {
       events = was.told ∙ ap (λ x. es ++ x)
@@ -310,11 +337,13 @@ reading_ends l h fs s n left es es' k is was =
       stands = subst (λ h. Stands l h k) (ap (λ s. s.0) (sym steps) ∙ was.end) was.stands;
     }
 
--- Memory ran out in the next record, or where what is left is told.
-pub reading_cut : (l : Limits) (h : Heard) (fs : List Fragment) (s : Step) (n m : ℕ) (left rest : Bytes) (r : RawRecord)
+-- Memory ran out in the next record, or when the rest was reported.
+pub reading_cut : (l : Limits) (h : Heard) (fs : List Fragment) (s : Step) (n m : ℕ)
+    (left rest : Bytes) (r : RawRecord)
     (es es' es'' : List Event) (k k' : Kept) →
     n ≡ suc m → reading datagram_record left ≡ Ok (r, rest) → IsReading l h fs s n left es es' k →
-    ((l : Limits) (h : Heard) → Stands l h k → IsCut l h (fragments_in_record r) (record_step l h r).1 es' es'' k')
+    ((l : Limits) (h : Heard) → Stands l h k
+    → IsCut l h (fragments_in_record r) (record_step l h r).1 es' es'' k')
     → IsCut l h fs s.1 es es'' k'
 reading_cut l h fs s n m left rest r es es' es'' k k' is ok was hears =
     let step : Step = record_step l was.heard r in
@@ -325,9 +354,11 @@ reading_cut l h fs s n m left rest r es es' es'' k k' is ok was hears =
     let cut : IsCut l (after l h was.first) more step.1 es' es'' k' =
     subst (λ g. IsCut l g more step.1 es' es'' k') was.hears (hears l was.heard was.stands) in
     let split : fs ≡ was.first ++ (more ++ fragments_within m rest) =
-    was.split ∙ ap (λ x. was.first ++ x) (ap (λ n. fragments_within n left) is ∙ within_ok m left rest r ok) in
+    was.split ∙ ap (λ x. was.first ++ x)
+    (ap (λ n. fragments_within n left) is ∙ within_ok m left rest r ok) in
     subst (λ fs. IsCut l h fs s.1 es es'' k') (sym split)
-    (cut_behind l h was.first more (fragments_within m rest) was.front step.1 behind s.1 es es' es'' k' was.told
+    (cut_behind l h was.first more (fragments_within m rest) was.front step.1 behind s.1 es es' es''
+    k' was.told
     was.none_lost
     (ap (λ s. was.front ++ s.1) (sym steps) ∙ was.in_order) cut)
 
@@ -335,8 +366,10 @@ pub reading_untold : (l : Limits) (h : Heard) (fs : List Fragment) (s : Step) (n
     (es es' es'' : List Event) (k : Kept) →
     IsReading l h fs s n left es es' k → es'' ≡ es' → IsCut l h fs s.1 es es'' k
 reading_untold l h fs s n left es es' es'' k was same =
-    let stands : Stands l (after l h was.first) k = subst (λ g. Stands l g k) was.hears was.stands in
+    let stands : Stands l (after l h was.first) k =
+    subst (λ g. Stands l g k) was.hears was.stands in
     subst (λ fs. IsCut l h fs s.1 es es'' k) (sym was.split)
-    (cut_behind l h was.first [] (fragments_within n left) was.front [] (records_step n l was.heard left).1 s.1 es es'
+    (cut_behind l h was.first [] (fragments_within n left) was.front []
+    (records_step n l was.heard left).1 s.1 es es'
     es'' k was.told was.none_lost was.in_order
     (cut_same l (after l h was.first) [] [] es' es'' k same stands))

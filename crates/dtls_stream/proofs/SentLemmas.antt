@@ -1,4 +1,4 @@
--- What is handed out of messages that a peer sends.
+-- The messages delivered of those that a peer sends.
 use Rattle.std.proofs.Common.{
   ◌≡◌,
   ℕ,
@@ -60,20 +60,26 @@ all_of_message ms seq (f ∷ fs) of = go (f.message_seq == seq) refl (all_of_mes
     go true e all = (subst (λ k. IsOf (sent ms k) f) (eqb-true f.message_seq seq e) of.1, all)
     go false e all = all
 
--- What fragments of the message give is the message's.
-byte_of : (m : Sent) (f : Fragment) (i y : ℕ) → IsOf m f → byte_at f i ≡ Some y → y ≡ slice_index m.body i
-byte_of m f i y of is = go (nat_le f.fragment_offset i) (nat_lt i (f.fragment_offset + length f.body)) refl refl
+-- Bytes of the message's fragments are the message's bytes.
+byte_of : (m : Sent) (f : Fragment) (i y : ℕ) → IsOf m f → byte_at f i ≡ Some y
+    → y ≡ slice_index m.body i
+byte_of m f i y of is =
+    go (nat_le f.fragment_offset i) (nat_lt i (f.fragment_offset + length f.body)) refl refl
   where
-    go : (s t : Bool) → nat_le f.fragment_offset i ≡ s → nat_lt i (f.fragment_offset + length f.body) ≡ t
+    go : (s t : Bool) → nat_le f.fragment_offset i ≡ s
+        → nat_lt i (f.fragment_offset + length f.body) ≡ t
         → y ≡ slice_index m.body i
     go false t e g = let none =
-        sym (given_below f.fragment_offset (length f.body) i f.body (leb-false f.fragment_offset i e)) ∙ is in absurd cc
+        sym (given_below f.fragment_offset (length f.body) i f.body
+        (leb-false f.fragment_offset i e)) ∙ is in absurd cc
     go true false e g = let none =
-        sym (given_above f.fragment_offset (length f.body) i f.body (ltb-false i (f.fragment_offset + length f.body) g))
+        sym (given_above f.fragment_offset (length f.body) i f.body
+        (ltb-false i (f.fragment_offset + length f.body) g))
         ∙ is in absurd cc
     go true true e g =
         let from : f.fragment_offset ≤ i = leb-true f.fragment_offset i e in
-        let to : i < f.fragment_offset + length f.body = ltb-true i (f.fragment_offset + length f.body) g in
+        let to : i < f.fragment_offset + length f.body =
+        ltb-true i (f.fragment_offset + length f.body) g in
         let same = sym is ∙ given_in f.fragment_offset (length f.body) i f.body from to in
         let at : y ≡ slice_index f.body (i - f.fragment_offset) = cc in
         at
@@ -83,7 +89,8 @@ byte_of m f i y of is = go (nat_le f.fragment_offset i) (nat_lt i (f.fragment_of
         ∙ get_or-drop f.fragment_offset m.body (i - f.fragment_offset) 0
         ∙ ap (λ j. slice_index m.body j) (omega (arith, from))
 
-first_of : (m : Sent) (fs : List Fragment) (i x : ℕ) → AreAll m fs → first_at fs i ≡ Some x → x ≡ slice_index m.body i
+first_of : (m : Sent) (fs : List Fragment) (i x : ℕ) → AreAll m fs → first_at fs i ≡ Some x
+    → x ≡ slice_index m.body i
 first_of m [] i x of is = absurd cc
 first_of m (f ∷ fs) i x of is = go (byte_at f i) refl is (first_of m fs i x of.1)
   where
@@ -100,12 +107,14 @@ some_first m fs i of = go (first_at fs i) refl
     go None e s = absurd cc
     go (Some x) e s = ap Some (first_of m fs i x of e)
 
--- The message of fragments of one message that cover it.
+-- The message of fragments that cover it.
 abbrev pub message_at : List Sent → ℕ → Message
-message_at ms k = record { msg_type = (sent ms k).msg_type; message_seq = k; body = (sent ms k).body }
+message_at ms k =
+    record { msg_type = (sent ms k).msg_type; message_seq = k; body = (sent ms k).body }
 
 covered_from : (ms : List Sent) (k : ℕ) (gs : List Fragment)
-    → ((g : Fragment) (rest : List Fragment) → gs ≡ g ∷ rest → g.message_seq ≡ k) → AreAll (sent ms k) gs →
+    → ((g : Fragment) (rest : List Fragment) → gs ≡ g ∷ rest → g.message_seq ≡ k)
+    → AreAll (sent ms k) gs →
     Cover gs (length (sent ms k).body) → message_of gs ≡ Some (message_at ms k)
 covered_from ms k [] first all cover = absurd (omega (arith, cover.some))
 covered_from ms k (g ∷ gs) first all cover =
@@ -113,24 +122,30 @@ covered_from ms k (g ∷ gs) first all cover =
     bytes_some (g ∷ gs) 0 g.length (sent ms k).body (sym all.0.size)
     (λ i l. ap (first_at (g ∷ gs)) (omega arith)
     ∙ some_first (sent ms k) (g ∷ gs) i all (cover.each i (omega (arith, l, all.0.size)))) in
-    ap (option_map (λ b. record { msg_type = g.msg_type; message_seq = g.message_seq; body = b })) there
-    ∙ ap (λ t. Some (record { msg_type = t; message_seq = g.message_seq; body = (sent ms k).body })) all.0.msg_type
-    ∙ ap (λ s. Some (record { msg_type = (sent ms k).msg_type; message_seq = s; body = (sent ms k).body }))
+    ap (option_map (λ b. record { msg_type = g.msg_type; message_seq = g.message_seq; body = b }))
+    there
+    ∙ ap (λ t. Some (record { msg_type = t; message_seq = g.message_seq; body = (sent ms k).body }))
+    all.0.msg_type
+    ∙ ap (λ s. Some
+    (record { msg_type = (sent ms k).msg_type; message_seq = s; body = (sent ms k).body }))
     (first g gs refl)
 
-pub covered_message : (ms : List Sent) (fs : List Fragment) (k : ℕ) → AreOf ms fs → IsCovered ms fs k
+pub covered_message : (ms : List Sent) (fs : List Fragment) (k : ℕ) → AreOf ms fs
+    → IsCovered ms fs k
     → message_of (of_message k fs) ≡ Some (message_at ms k)
 covered_message ms fs k of cover =
-    covered_from ms k (of_message k fs) (λ g rest e. of_message_first k fs g rest e) (all_of_message ms k fs of) cover
+    covered_from ms k (of_message k fs) (λ g rest e. of_message_first k fs g rest e)
+    (all_of_message ms k fs of) cover
 
--- Where a message is there, its fragments cover it.
+-- If the message is known, its fragments cover it.
 cover_from : (m : Sent) (gs : List Fragment) (x : Message) → AreAll m gs → message_of gs ≡ Some x
     → Cover gs (length m.body)
 cover_from m [] x all is = absurd cc
 cover_from m (g ∷ gs) x all is = go (bytes_from (g ∷ gs) 0 g.length) refl is
   where
     go : (o : Option Bytes) → bytes_from (g ∷ gs) 0 g.length ≡ o
-        → option_map (λ b. record { msg_type = g.msg_type; message_seq = g.message_seq; body = b }) o ≡ Some x
+        → option_map (λ b. record { msg_type = g.msg_type; message_seq = g.message_seq; body = b })
+        o ≡ Some x
         → Cover (g ∷ gs) (length m.body)
     go None e is = absurd cc
     go (Some b) e is = record {
@@ -141,15 +156,17 @@ cover_from m (g ∷ gs) x all is = go (bytes_from (g ∷ gs) 0 g.length) refl is
 
 pub message_covered : (ms : List Sent) (fs : List Fragment) (k : ℕ) (x : Message) → AreOf ms fs
     → message_of (of_message k fs) ≡ Some x → IsCovered ms fs k
-message_covered ms fs k x of is = cover_from (sent ms k) (of_message k fs) x (all_of_message ms k fs of) is
+message_covered ms fs k x of is =
+    cover_from (sent ms k) (of_message k fs) x (all_of_message ms k fs of) is
 
--- A message that is there is one of those sent.
+-- A known message is one of those sent.
 pub number_low : (ms : List Sent) (fs : List Fragment) (k : ℕ) (x : Message) → AreOf ms fs
     → message_of (of_message k fs) ≡ Some x → k < length ms
 number_low ms [] k x of is = absurd cc
 number_low ms (f ∷ fs) k x of is = go (f.message_seq == k) refl (number_low ms fs k x of.2) is
   where
-    go : (b : Bool) → (f.message_seq == k) ≡ b → (message_of (of_message k fs) ≡ Some x → k < length ms)
+    go : (b : Bool) → (f.message_seq == k) ≡ b
+        → (message_of (of_message k fs) ≡ Some x → k < length ms)
         → message_of (cond b (f ∷ of_message k fs) (of_message k fs)) ≡ Some x → k < length ms
     go true e again is = let same = eqb-true f.message_seq k e in omega (arith, same, of.0)
     go false e again is = again is
@@ -167,7 +184,8 @@ numbered_at k zero (m ∷ ms) d l =
     ap (λ s. record { msg_type = m.msg_type; message_seq = s; body = m.body }) (omega arith)
 numbered_at k (suc i) (m ∷ ms) d l =
     numbered_at (suc k) i ms d (omega (arith, l))
-    ∙ ap (λ s. record { msg_type = (sent ms i).msg_type; message_seq = s; body = (sent ms i).body }) (omega arith)
+    ∙ ap (λ s. record { msg_type = (sent ms i).msg_type; message_seq = s; body = (sent ms i).body })
+    (omega arith)
 
 next_of : (ms : List Sent) (k : ℕ) → k < length ms
     → drop k (numbered 0 ms) ≡ message_at ms k ∷ drop (suc k) (numbered 0 ms)
@@ -175,7 +193,8 @@ next_of ms k l =
     drop-cons (numbered 0 ms) k (message_at ms k) (omega (arith, l, length-numbered 0 ms))
     ∙ ap (λ m. m ∷ drop (suc k) (numbered 0 ms))
     (numbered_at 0 k ms (message_at ms k) l
-    ∙ ap (λ s. record { msg_type = (sent ms k).msg_type; message_seq = s; body = (sent ms k).body }) (omega arith))
+    ∙ ap (λ s. record { msg_type = (sent ms k).msg_type; message_seq = s; body = (sent ms k).body })
+    (omega arith))
 
 -- A run of whole messages.
 pub record IsRun (ms : List Sent) (ts : List Fragment) (n k : ℕ) (w : List Message) : Type 0 where
@@ -194,7 +213,8 @@ run_of ms ts zero k of l = record {
   few = omega arith;
   end = λ h. absurd (omega (arith, h));
 }
-run_of ms ts (suc n) k of l = go (message_of (of_message k ts)) refl (λ h. run_of ms ts n (suc k) of h)
+run_of ms ts (suc n) k of l =
+    go (message_of (of_message k ts)) refl (λ h. run_of ms ts n (suc k) of h)
   where
     go : (o : Option Message) → message_of (of_message k ts) ≡ o
         → (suc k ≤ length ms → IsRun ms ts n (suc k) (whole_from n (suc k) ts)) →
@@ -214,15 +234,20 @@ run_of ms ts (suc n) k of l = go (message_of (of_message k ts)) refl (λ h. run_
         let is : x ≡ message_at ms k = cc in
         record {
           low = omega (arith, more.low);
-          front = ap (λ m. m ∷ whole_from n (suc k) ts) is ∙ ap (λ w. message_at ms k ∷ w) more.front
+          front = ap (λ m. m ∷ whole_from n (suc k) ts) is
+              ∙ ap (λ w. message_at ms k ∷ w) more.front
               ∙ sym (ap (take (suc (length (whole_from n (suc k) ts)))) (next_of ms k here));
           covered = λ i a b. at i a b (nat_eq i k) refl;
           few = omega (arith, more.few);
-          end = λ h. ap (λ j. message_of (of_message j ts)) (omega arith) ∙ more.end (omega (arith, h));
+          end = λ h. ap (λ j. message_of (of_message j ts)) (omega arith)
+              ∙ more.end (omega (arith, h));
         }
       where
-        at : (i : ℕ) → k ≤ i → i < k + suc (length (whole_from n (suc k) ts)) → (t : Bool) → nat_eq i k ≡ t
+        at : (i : ℕ) → k ≤ i → i < k + suc (length (whole_from n (suc k) ts)) → (t : Bool)
+            → nat_eq i k ≡ t
             → IsCovered ms ts i
-        at i a b true e' = subst (IsCovered ms ts) (sym (eqb-true i k e')) (message_covered ms ts k x of e)
+        at i a b true e' =
+            subst (IsCovered ms ts) (sym (eqb-true i k e')) (message_covered ms ts k x of e)
         at i a b false e' = let other = eqb-false i k e' in
-            (again (number_low ms ts k x of e)).covered i (omega (arith, a, other)) (omega (arith, b))
+            (again (number_low ms ts k x of e)).covered i (omega (arith, a, other))
+            (omega (arith, b))

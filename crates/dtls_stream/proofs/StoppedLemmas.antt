@@ -1,4 +1,4 @@
--- What stands where memory ran out.
+-- What holds when memory runs out.
 use Rattle.std.proofs.Common.{
   ◌≡◌,
   ℕ,
@@ -69,24 +69,29 @@ pub on_err : {P Q E : Type 0} (r : Result Unit E) → OnErr r P → (P → Q) �
 on_err (Ok t) p f = tt
 on_err (Err e) p f = f p
 
--- The next message isn't whole, so that no more are handed out.
-pub ends_none : (l : Limits) (h : Heard) (es es' : List Event) (k : Kept) (way : IsOnTheWay l h es es' k) →
-    is_some (message_of (of_message (h.next + way.moved) h.taken)) ≡ false → AreHandedOut l h es es' k
+-- The next message isn't whole, so no more are delivered.
+pub ends_none : (l : Limits) (h : Heard) (es es' : List Event) (k : Kept)
+    (way : IsOnTheWay l h es es' k) →
+    is_some (message_of (of_message (h.next + way.moved) h.taken)) ≡ false
+    → AreHandedOut l h es es' k
 ends_none l h es es' k way none =
     let no : whole_from (l.ahead - way.moved) (h.next + way.moved) h.taken ≡ [] =
     whole_end (l.ahead - way.moved) (h.next + way.moved) h.taken
     (is_none (message_of (of_message (h.next + way.moved) h.taken)) none) in
-    let all : way.moved ≡ length (whole_from l.ahead h.next h.taken) = omega (arith, way.count, ap length no) in
+    let all : way.moved ≡ length (whole_from l.ahead h.next h.taken) =
+    omega (arith, way.count, ap length no) in
     record {
-      events = sym (append-nil es') ∙ ap (λ w. es' ++ map Handshake w) (sym no) ∙ way_events l h es es' k way;
-      stands = subst (λ n. Stands l (record { taken = h.taken; next = h.next + n }) k) all way.stands;
+      events = sym (append-nil es') ∙ ap (λ w. es' ++ map Handshake w) (sym no)
+          ∙ way_events l h es es' k way;
+      stands = subst (λ n. Stands l (record { taken = h.taken; next = h.next + n }) k) all
+          way.stands;
     }
   where
     is_none : (o : Option Message) → is_some o ≡ false → o ≡ None
     is_none None e = refl
     is_none (Some m) e = absurd cc
 
--- Those that are not yet handed out are kept.
+-- The messages that aren't delivered yet are buffered.
 pub kept_way : (l : Limits) (h : Heard) (es es' : List Event) (k : Kept) → IsOnTheWay l h es es' k
     → AreKept l h es es' k
 kept_way l h es es' k way = record {
@@ -99,8 +104,9 @@ kept_way l h es es' k way = record {
   stands = way.stands;
 }
 
--- The fragment was taken, and not all that it completes is told.
-pub stopped_out : (l : Limits) (h : Heard) (f : Fragment) (es es' : List Event) (k' : Kept) → verdict l h f ≡ Ok tt →
+-- The fragment was added, and not all that it completes was reported.
+pub stopped_out : (l : Limits) (h : Heard) (f : Fragment) (es es' : List Event) (k' : Kept)
+    → verdict l h f ≡ Ok tt →
     AreKept l (record h { taken = with_taken h f }) es es' k' → IsStopped l h (f ∷ []) es es' k'
 unfolding events after
 stopped_out l h f es es' k' ok out = record {
@@ -113,11 +119,13 @@ stopped_out l h f es es' k' ok out = record {
   told = out.told;
   all = out.all ∙ ap (λ v. told_by v l h f) (sym ok) ∙ sym (append-nil (told l h f));
   count = out.count ∙ ap (λ v. (heard_by v l h f).next) (sym ok);
-  stands = subst (λ v. Stands l (record { taken = (heard_by v l h f).taken; next = out.next }) k') (sym ok) out.stands;
+  stands = subst (λ v. Stands l (record { taken = (heard_by v l h f).taken; next = out.next }) k')
+      (sym ok) out.stands;
 }
 
--- The fragment was not heard.
-pub stopped_none : (l : Limits) (h : Heard) (f : Fragment) (es : List Event) (k : Kept) → Stands l h k
+-- The fragment wasn't added.
+pub stopped_none : (l : Limits) (h : Heard) (f : Fragment) (es : List Event) (k : Kept)
+    → Stands l h k
     → IsStopped l h (f ∷ []) es es k
 unfolding events after
 stopped_none l h f es k st = record {
@@ -139,18 +147,22 @@ unfolding events after
 events_append l h [] gs = refl
 events_append l h (f ∷ fs) gs =
     ap (λ es. told l h f ++ es) (events_append l (heard l h f) fs gs)
-    ∙ sym (append_assoc (told l h f) (events l (heard l h f) fs) (events l (after l (heard l h f) fs) gs))
+    ∙ sym (append_assoc (told l h f) (events l (heard l h f) fs)
+    (events l (after l (heard l h f) fs) gs))
 
-pub after_append : (l : Limits) (h : Heard) (fs gs : List Fragment) → after l h (fs ++ gs) ≡ after l (after l h fs) gs
+pub after_append : (l : Limits) (h : Heard) (fs gs : List Fragment)
+    → after l h (fs ++ gs) ≡ after l (after l h fs) gs
 unfolding after
 after_append l h [] gs = refl
 after_append l h (f ∷ fs) gs = after_append l (heard l h f) fs gs
 
--- The fragments before one that wasn't told whole.
-pub stopped_next : (l : Limits) (h : Heard) (fs : List Given) (i : ℕ) (d : Given) (es es' es'' : List Event)
+-- The fragments before one that wasn't fully reported.
+pub stopped_next : (l : Limits) (h : Heard) (fs : List Given) (i : ℕ) (d : Given)
+    (es es' es'' : List Event)
     (k k' : Kept) → i < length fs →
     AreHeard l h (view_fragments (take i fs)) es es' k →
-    ((l : Limits) (h : Heard) → Stands l h k → IsStopped l h (view_fragment (get_or fs i d) ∷ []) es' es'' k')
+    ((l : Limits) (h : Heard) → Stands l h k
+    → IsStopped l h (view_fragment (get_or fs i d) ∷ []) es' es'' k')
     → IsStopped l h (view_fragments fs) es es'' k'
 stopped_next l h fs i d es es' es'' k k' low was hears =
     let gs : List Fragment = view_fragments (take i fs) in
@@ -158,7 +170,8 @@ stopped_next l h fs i d es es' es'' k k' low was hears =
     let rest : List Fragment = view_fragments (drop (i + 1) fs) in
     let one = hears l (after l h gs) was.stands in
     let all : view_fragments fs ≡ gs ++ f ∷ rest =
-    ap view_fragments (sym (take-append-drop i fs)) ∙ map-append view_fragment (take i fs) (drop i fs)
+    ap view_fragments (sym (take-append-drop i fs))
+    ∙ map-append view_fragment (take i fs) (drop i fs)
     ∙ ap (λ xs. gs ++ view_fragments xs) (drop_more fs i d low) in
     let same = sym (after_append l h gs one.first) in
     record {
@@ -170,19 +183,23 @@ stopped_next l h fs i d es es' es'' k k' low was hears =
       kept = one.kept;
       next = one.next;
       front = events l h gs ++ one.front;
-      told = one.told ∙ ap (λ e. e ++ one.front) was.events ∙ append_assoc es (events l h gs) one.front;
-      all = append_assoc (events l h gs) one.front (map Handshake one.kept) ∙ ap (λ e. events l h gs ++ e) one.all
+      told = one.told ∙ ap (λ e. e ++ one.front) was.events
+          ∙ append_assoc es (events l h gs) one.front;
+      all = append_assoc (events l h gs) one.front (map Handshake one.kept)
+          ∙ ap (λ e. events l h gs ++ e) one.all
           ∙ sym (events_append l h gs one.first);
       count = one.count ∙ ap (λ h. h.next) same;
-      stands = subst (λ h. Stands l (record { taken = h.taken; next = one.next }) k') same one.stands;
+      stands = subst (λ h. Stands l (record { taken = h.taken; next = one.next }) k') same
+          one.stands;
     }
 
--- What stands in both cases.
+-- What holds in both cases.
 pub any_err : {P E : Type 0} (r : Result Unit E) → P → OnErr r P
 any_err (Ok t) p = tt
 any_err (Err e) p = p
 
-pub stopped_same : (l : Limits) (h : Heard) (f : Fragment) (es es' : List Lent) (k k' : Kept) → Stands l h k → es' ≡ es
+pub stopped_same : (l : Limits) (h : Heard) (f : Fragment) (es es' : List Lent) (k k' : Kept)
+    → Stands l h k → es' ≡ es
     → k' ≡ k →
     IsStopped l h (f ∷ []) (view_events es) (view_events es') k'
 stopped_same l h f es es' k k' st told same =

@@ -1,4 +1,4 @@
--- What is told of fragments.
+-- The events of fragments.
 use Rattle.std.proofs.Common.{
   ◌≡◌,
   ℕ,
@@ -74,10 +74,12 @@ use Rattle.dtls_stream.specs.declared.fragments.Fragment.{Fragment as Given}
 use Rattle.dtls_stream.specs.declared.fragments.FragmentError.{FragmentError}
 use Rattle.dtls_stream.specs.declared.fragments.FragmentError.TheVariants.{OutOfMemory}
 
--- Where no more can be held, nothing was heard.
-pub none_beyond : (l : Limits) (h : Heard) (k : Kept) → Stands l h k → of_message (h.next + l.ahead) h.taken ≡ []
+-- Beyond the limit nothing was added.
+pub none_beyond : (l : Limits) (h : Heard) (k : Kept) → Stands l h k
+    → of_message (h.next + l.ahead) h.taken ≡ []
 none_beyond l h k st = go (of_message (h.next + l.ahead) h.taken)
-    (subst (IsPart (of_message (h.next + l.ahead) h.taken)) (past k.slots l.ahead st.few) (st.each l.ahead))
+    (subst (IsPart (of_message (h.next + l.ahead) h.taken)) (past k.slots l.ahead st.few)
+    (st.each l.ahead))
   where
     past : (xs : List (Option Held)) (n : ℕ) → length xs ≤ n → get_or xs n None ≡ None
     past [] n e = refl
@@ -88,8 +90,9 @@ none_beyond l h k st = go (of_message (h.next + l.ahead) h.taken)
     go [] is = refl
     go (g ∷ gs) is = absurd is
 
--- What is handed out so far, and what still is.
-pub record IsOnTheWay (l : Limits) (h : Heard) (es : List Event) (es' : List Event) (k : Kept) : Type 0 where
+-- The messages delivered so far, and those that follow.
+pub record IsOnTheWay (l : Limits) (h : Heard) (es : List Event) (es' : List Event)
+    (k : Kept) : Type 0 where
   pub moved : ℕ
   pub few : moved ≤ l.ahead
   pub stands : Stands l (record h { next = h.next + moved }) k
@@ -101,19 +104,23 @@ pub record IsOnTheWay (l : Limits) (h : Heard) (es : List Event) (es' : List Eve
       ≡ length (whole_from l.ahead h.next h.taken)
   pub last : of_message (h.next + l.ahead) h.taken ≡ []
 
-pub way_events : (l : Limits) (h : Heard) (es es' : List Event) (k : Kept) → (way : IsOnTheWay l h es es' k) →
+pub way_events : (l : Limits) (h : Heard) (es es' : List Event) (k : Kept)
+    → (way : IsOnTheWay l h es es' k) →
     es' ++ map Handshake (whole_from (l.ahead - way.moved) (h.next + way.moved) h.taken)
     ≡ es ++ map Handshake (whole_from l.ahead h.next h.taken)
 way_events l h es es' k way =
-    let rest : List Event = map Handshake (whole_from (l.ahead - way.moved) (h.next + way.moved) h.taken) in
+    let rest : List Event =
+    map Handshake (whole_from (l.ahead - way.moved) (h.next + way.moved) h.taken) in
     ap (λ e. e ++ rest) way.told ∙ append_assoc es way.front rest ∙ ap (λ e. es ++ e) way.all
 
-pub begins : (l : Limits) (h : Heard) (es : List Event) (k : Kept) → Stands l h k → IsOnTheWay l h es es k
+pub begins : (l : Limits) (h : Heard) (es : List Event) (k : Kept) → Stands l h k
+    → IsOnTheWay l h es es k
 begins l h es k st =
     let fuel : l.ahead - 0 ≡ l.ahead = omega arith in
     let next : h.next + 0 ≡ h.next = omega arith in
     let same : whole_from (l.ahead - 0) (h.next + 0) h.taken ≡ whole_from l.ahead h.next h.taken =
-    ap (λ n. whole_from n (h.next + 0) h.taken) fuel ∙ ap (λ n. whole_from l.ahead n h.taken) next in
+    ap (λ n. whole_from n (h.next + 0) h.taken) fuel
+    ∙ ap (λ n. whole_from l.ahead n h.taken) next in
     record {
       moved = 0;
       few = omega arith;
@@ -125,7 +132,8 @@ begins l h es k st =
       last = none_beyond l h k st;
     }
 
-whole_step : (n next : ℕ) (ts : List Fragment) (m : Message) → 0 < n → message_of (of_message next ts) ≡ Some m
+whole_step : (n next : ℕ) (ts : List Fragment) (m : Message) → 0 < n
+    → message_of (of_message next ts) ≡ Some m
     → whole_from n next ts ≡ m ∷ whole_from (n - 1) (next + 1) ts
 whole_step zero next ts m h e = absurd (omega (arith, h))
 whole_step (suc n) next ts m h e =
@@ -133,11 +141,12 @@ whole_step (suc n) next ts m h e =
     ∙ ap (λ j. m ∷ whole_from j (suc next) ts) (omega arith)
     ∙ ap (λ j. m ∷ whole_from (suc n - 1) j ts) (omega arith)
 
-pub whole_end : (n next : ℕ) (ts : List Fragment) → message_of (of_message next ts) ≡ None → whole_from n next ts ≡ []
+pub whole_end : (n next : ℕ) (ts : List Fragment) → message_of (of_message next ts) ≡ None
+    → whole_from n next ts ≡ []
 whole_end zero next ts e = refl
 whole_end (suc n) next ts e = ap (λ o. followed o (whole_from n (suc next) ts)) e
 
--- One message more is handed out.
+-- One more message is delivered.
 pub one_more : (l : Limits) (h : Heard) (es es' es'' : List Event) (k new : Kept) (m : Owned)
     → (way : IsOnTheWay l h es es' k) →
     Some (view_message m) ≡ message_of (of_message (h.next + way.moved) h.taken) →
@@ -157,7 +166,8 @@ one_more l h es es' es'' k new m way is st pushed = go (sized (l.ahead - way.mov
     go some =
         let steps : whole_from (l.ahead - way.moved) (h.next + way.moved) h.taken
         ≡ view_message m ∷ whole_from (l.ahead - way.moved - 1) (h.next + way.moved + 1) h.taken =
-        whole_step (l.ahead - way.moved) (h.next + way.moved) h.taken (view_message m) some (sym is) in
+        whole_step (l.ahead - way.moved) (h.next + way.moved) h.taken (view_message m) some
+        (sym is) in
         let less : l.ahead - (way.moved + 1) ≡ l.ahead - way.moved - 1 = omega (arith, some) in
         let next : h.next + (way.moved + 1) ≡ h.next + way.moved + 1 = omega arith in
         let rest : whole_from (l.ahead - (way.moved + 1)) (h.next + (way.moved + 1)) h.taken
@@ -172,7 +182,8 @@ one_more l h es es' es'' k new m way is st pushed = go (sized (l.ahead - way.mov
           told = pushed ∙ ap (λ e. e ++ Handshake (view_message m) ∷ []) way.told
               ∙ append_assoc es way.front (Handshake (view_message m) ∷ []);
           all = append_assoc way.front (Handshake (view_message m) ∷ [])
-              (map Handshake (whole_from (l.ahead - (way.moved + 1)) (h.next + (way.moved + 1)) h.taken))
+              (map Handshake
+              (whole_from (l.ahead - (way.moved + 1)) (h.next + (way.moved + 1)) h.taken))
               ∙ ap (λ w. way.front ++ Handshake (view_message m) ∷ map Handshake w) rest
               ∙ ap (λ w. way.front ++ map Handshake w) (sym steps)
               ∙ way.all;
@@ -180,33 +191,46 @@ one_more l h es es' es'' k new m way is st pushed = go (sized (l.ahead - way.mov
           last = way.last;
         }
 
--- None more.
+-- No more messages.
 pub ends : (l : Limits) (h : Heard) (es es' : List Event) (k new : Kept) (o : Option Owned)
     → (way : IsOnTheWay l h es es' k) → o ≡ None →
     option_map view_message o ≡ message_of (of_message (h.next + way.moved) h.taken) →
-    Stands l (record { taken = h.taken; next = if is_some o then h.next + way.moved + 1 else h.next + way.moved }) new
+    Stands l (record {
+      taken = h.taken;
+      next = if is_some o then
+          h.next + way.moved + 1 else h.next + way.moved;
+    }) new
     → AreHandedOut l h es es' new
 ends l h es es' k new o way none is st =
     let no : whole_from (l.ahead - way.moved) (h.next + way.moved) h.taken ≡ [] =
-    whole_end (l.ahead - way.moved) (h.next + way.moved) h.taken (sym is ∙ ap (option_map view_message) none) in
-    let all : way.moved ≡ length (whole_from l.ahead h.next h.taken) = omega (arith, way.count, ap length no) in
+    whole_end (l.ahead - way.moved) (h.next + way.moved) h.taken
+    (sym is ∙ ap (option_map view_message) none) in
+    let all : way.moved ≡ length (whole_from l.ahead h.next h.taken) =
+    omega (arith, way.count, ap length no) in
     record {
-      events = sym (append-nil es') ∙ ap (λ w. es' ++ map Handshake w) (sym no) ∙ way_events l h es es' k way;
+      events = sym (append-nil es') ∙ ap (λ w. es' ++ map Handshake w) (sym no)
+          ∙ way_events l h es es' k way;
       stands = subst (λ n. Stands l (record { taken = h.taken; next = h.next + n }) new) all
           (subst (λ (o : Option Owned). Stands l
-          (record { taken = h.taken; next = if is_some o then h.next + way.moved + 1 else h.next + way.moved }) new)
+          (record {
+            taken = h.taken;
+            next = if is_some o then
+                h.next + way.moved + 1 else h.next + way.moved;
+          }) new)
           none st);
     }
 
--- A fragment that is taken, or isn't.
-pub heard_ok : (l : Limits) (h : Heard) (f : Fragment) (es es' : List Event) (k' : Kept) → verdict l h f ≡ Ok tt →
+-- A fragment that is added, or refused.
+pub heard_ok : (l : Limits) (h : Heard) (f : Fragment) (es es' : List Event) (k' : Kept)
+    → verdict l h f ≡ Ok tt →
     AreHandedOut l (record h { taken = with_taken h f }) es es' k' → IsHeard l h f es es' k'
 heard_ok l h f es es' k' ok out = record {
   events = out.events ∙ ap (λ v. es ++ told_by v l h f) (sym ok);
   stands = subst (λ v. Stands l (heard_by v l h f) k') (sym ok) out.stands;
 }
 
-pub heard_err : (l : Limits) (h : Heard) (f : Fragment) (e : FragmentError) (es es' : List Event) (k' : Kept)
+pub heard_err : (l : Limits) (h : Heard) (f : Fragment) (e : FragmentError) (es es' : List Event)
+    (k' : Kept)
     → verdict l h f ≡ Err e →
     es' ≡ es ++ Refused f.message_seq e ∷ [] → Stands l h k' → IsHeard l h f es es' k'
 heard_err l h f e es es' k' err pushed st = record {
@@ -218,18 +242,20 @@ pub not_memory_ok : (t : Unit) (v : Result Unit FragmentError) → IsOrMemory (O
 not_memory_ok t v (inl e) = absurd cc
 not_memory_ok t v (inr e) = sym e
 
-pub not_memory_err : (e : FragmentError) (v : Result Unit FragmentError) → (e ≡ OutOfMemory → ⊥) → IsOrMemory (Err e) v
+pub not_memory_err : (e : FragmentError) (v : Result Unit FragmentError) → (e ≡ OutOfMemory → ⊥)
+    → IsOrMemory (Err e) v
     → v ≡ Err e
 not_memory_err e v not (inl s) = let same : e ≡ OutOfMemory = cc in absurd (not same)
 not_memory_err e v not (inr s) = sym s
 
--- One fragment more.
+-- One more fragment.
 pub events_more : (l : Limits) (h : Heard) (fs : List Fragment) (f : Fragment)
     → events l h (fs ++ f ∷ []) ≡ events l h fs ++ told l (after l h fs) f
 unfolding events after
 events_more l h [] f = append-nil (told l h f)
 events_more l h (g ∷ fs) f = ap (λ es. told l h g ++ es) (events_more l (heard l h g) fs f)
-    ∙ sym (append_assoc (told l h g) (events l (heard l h g) fs) (told l (after l (heard l h g) fs) f))
+    ∙ sym (append_assoc (told l h g) (events l (heard l h g) fs)
+    (told l (after l (heard l h g) fs) f))
 
 pub after_more : (l : Limits) (h : Heard) (fs : List Fragment) (f : Fragment)
     → after l h (fs ++ f ∷ []) ≡ heard l (after l h fs) f
@@ -238,20 +264,24 @@ after_more l h [] f = refl
 after_more l h (g ∷ fs) f = after_more l (heard l h g) fs f
 
 pub views_next : (fs : List Given) (i : ℕ) (d : Given) → i < length fs
-    → view_fragments (take (i + 1) fs) ≡ view_fragments (take i fs) ++ view_fragment (get_or fs i d) ∷ []
+    → view_fragments (take (i + 1) fs) ≡ view_fragments (take i fs) ++ view_fragment
+    (get_or fs i d) ∷ []
 views_next fs i d h =
     let one : i + 1 ≡ suc i = omega arith in
     ap (λ k. view_fragments (take k fs)) one ∙ ap view_fragments (take-suc fs i d h)
     ∙ map-append view_fragment (take i fs) (get_or fs i d ∷ [])
 
-pub heard_none : (l : Limits) (h : Heard) (es : List Event) (k : Kept) → Stands l h k → AreHeard l h [] es es k
+pub heard_none : (l : Limits) (h : Heard) (es : List Event) (k : Kept) → Stands l h k
+    → AreHeard l h [] es es k
 unfolding events after
 heard_none l h es k st = record { events = sym (append-nil es); stands = st }
 
-pub heard_next : (l : Limits) (h : Heard) (fs : List Given) (i : ℕ) (d : Given) (es es' es'' : List Event) (k k' : Kept)
+pub heard_next : (l : Limits) (h : Heard) (fs : List Given) (i : ℕ) (d : Given)
+    (es es' es'' : List Event) (k k' : Kept)
     → i < length fs →
     AreHeard l h (view_fragments (take i fs)) es es' k →
-    ((l : Limits) (h : Heard) → Stands l h k → IsHeard l h (view_fragment (get_or fs i d)) es' es'' k')
+    ((l : Limits) (h : Heard) → Stands l h k
+    → IsHeard l h (view_fragment (get_or fs i d)) es' es'' k')
     → AreHeard l h (view_fragments (take (i + 1) fs)) es es'' k'
 heard_next l h fs i d es es' es'' k k' low was hears =
     let gs : List Fragment = view_fragments (take i fs) in
@@ -272,6 +302,8 @@ pub on_ok : {P Q E : Type 0} (r : Result Unit E) → OnOk r P → (P → Q) → 
 on_ok (Ok t) p f = f p
 on_ok (Err e) p f = tt
 
-pub heard_all : (l : Limits) (h : Heard) (fs : List Given) (i : ℕ) (es es' : List Event) (k : Kept) → length fs ≤ i
+pub heard_all : (l : Limits) (h : Heard) (fs : List Given) (i : ℕ) (es es' : List Event) (k : Kept)
+    → length fs ≤ i
     → AreHeard l h (view_fragments (take i fs)) es es' k → AreHeard l h (view_fragments fs) es es' k
-heard_all l h fs i es es' k past was = subst (λ gs. AreHeard l h (view_fragments gs) es es' k) (take_all i fs past) was
+heard_all l h fs i es es' k past was =
+    subst (λ gs. AreHeard l h (view_fragments gs) es es' k) (take_all i fs past) was

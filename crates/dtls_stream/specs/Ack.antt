@@ -18,7 +18,8 @@ record_number = do
   sequence_number ← number 8
   done (record { epoch = epoch; sequence_number = sequence_number })
 
--- RecordNumber record_numbers<0..2^16-1>: a length in bytes, of whole numbers of records, which have 16 bytes each.
+-- RecordNumber record_numbers<0..2^16-1>: a length in bytes, a multiple of 16, and that many bytes
+-- of record numbers.
 unfoldable pub ack : Layout (List RecordNumber)
 ack = do
   n ← number 2

@@ -46,19 +46,21 @@ s_bit first = first / 8 % 2 == 1
 abbrev pub l_bit : ℕ → Bool
 l_bit first = first / 4 % 2 == 1
 
--- Where C is set, a connection id of the length that was negotiated, which isn't 0: one of no bytes isn't present.
+-- If C is set, a connection ID of the negotiated length, which isn't 0: an empty ID isn't present.
 unfoldable pub connection_id : Bool → ℕ → Layout (Option Bytes)
-connection_id c id_length = choose c (test (nat_le 1 id_length) Verify >> mapped Some (block id_length)) (done None)
+connection_id c id_length =
+    choose c (test (nat_le 1 id_length) Verify >> mapped Some (block id_length)) (done None)
 
--- 16 bits where S is set, else 8.
+-- 16 bits if S is set, else 8.
 unfoldable pub sequence_number : Bool → Layout SequenceNumber
 sequence_number s = choose s (mapped Bits16 (number 2)) (mapped Bits8 (number 1))
 
--- 16 bits where L is set, else none.
+-- 16 bits if L is set, else none.
 unfoldable pub length_field : Bool → Layout (Option ℕ)
 length_field l = choose l (mapped Some (number 2)) (done None)
 
--- The header, where connection ids have that length: the first byte, connection id, sequence number, length.
+-- The header, with connection IDs of this length: the first byte, connection ID, sequence number,
+-- length.
 unfoldable pub unified_hdr : ℕ → Layout UnifiedHeader
 unified_hdr id_length = do
   first ← number 1
@@ -66,17 +68,23 @@ unified_hdr id_length = do
   id ← connection_id (c_bit first) id_length
   sequence ← sequence_number (s_bit first)
   length ← length_field (l_bit first)
-  done (record { connection_id = id; sequence_number = sequence; length = length; epoch_bits = first % 4 })
+  done (record {
+    connection_id = id;
+    sequence_number = sequence;
+    length = length;
+    epoch_bits =
+        first % 4;
+  })
 
--- An encrypted record of that many bytes: at most 2^14 + 256 (RFC 8446, section 5.2), and at least the 16 that the
--- sequence number is encrypted with (section 4.2.3).
+-- An encrypted record of n bytes: at most 2^14 + 256 (RFC 8446, section 5.2), and at least the 16
+-- that the sequence number is encrypted with (section 4.2.3).
 unfoldable pub encrypted_record_of : ℕ → Layout Bytes
 encrypted_record_of n = do
   test (nat_le n (2 ^ 14 + 256)) TooLarge
   test (nat_le 16 n) LengthValue
   block n
 
--- As long as the header says, else all that is left of the datagram.
+-- As long as the header says, or else the rest of the datagram.
 unfoldable pub encrypted_record : Option ℕ → Layout Bytes
 encrypted_record (Some n) = encrypted_record_of n
 encrypted_record None = left >>= encrypted_record_of
@@ -86,9 +94,10 @@ pub record Ciphertext : Type 0 where
   pub encrypted_record : Bytes
 
 abbrev pub view_ciphertext : LentCiphertext → Ciphertext
-view_ciphertext c = record { header = view_unified_header c.header; encrypted_record = c.encrypted_record.now }
+view_ciphertext c =
+    record { header = view_unified_header c.header; encrypted_record = c.encrypted_record.now }
 
--- DTLSCiphertext (figure 2), where connection ids have that length.
+-- DTLSCiphertext (figure 2), with connection IDs of this length.
 unfoldable pub ciphertext : ℕ → Layout Ciphertext
 ciphertext id_length = do
   header ← unified_hdr id_length

@@ -11,16 +11,17 @@ use Rattle.dtls_stream.specs.declared.datagram_record.ConnectionIdRecord.{Connec
 use Rattle.dtls_stream.specs.declared.datagram_record.DatagramRecord.{DatagramRecord as LentDatagramRecord}
 use Rattle.dtls_stream.specs.declared.datagram_record.DatagramRecord.TheVariants as lent
 
--- The header of a record of DTLS 1.2 with a connection id.
+-- The header of a DTLS 1.2 record with a connection ID.
 pub record ConnectionIdHeader : Type 0 where
   pub fields : RecordHeader
   pub connection_id : Bytes
 
 abbrev pub view_connection_id_header : LentHeader → ConnectionIdHeader
-view_connection_id_header h = record { fields = view_header h.fields; connection_id = h.connection_id.now }
+view_connection_id_header h =
+    record { fields = view_header h.fields; connection_id = h.connection_id.now }
 
--- Type, version, epoch, sequence number, connection id, length (RFC 9146, section 4, figure 3). A connection id of no bytes isn't sent in
--- this form (RFC 9146, section 3).
+-- Type, version, epoch, sequence number, connection ID, length (RFC 9146, section 4, figure 3). An
+-- empty connection ID isn't sent in this form (RFC 9146, section 3).
 unfoldable pub connection_id_header : ℕ → Layout ConnectionIdHeader
 connection_id_header id_length = do
   test (nat_le 1 id_length) Verify
@@ -45,9 +46,11 @@ pub record ConnectionIdRecord : Type 0 where
   pub fragment : Bytes
 
 abbrev pub view_connection_id_record : LentRecord → ConnectionIdRecord
-view_connection_id_record r = record { header = view_connection_id_header r.header; fragment = r.fragment.now }
+view_connection_id_record r =
+    record { header = view_connection_id_header r.header; fragment = r.fragment.now }
 
--- A record of DTLS 1.2 with a connection id: it is encrypted, and has at most 2^14 + 2048 bytes then (RFC 5246, section 6.2.3).
+-- A DTLS 1.2 record with a connection ID. It is encrypted, so it has at most 2^14 + 2048 bytes (RFC
+-- 5246, section 6.2.3).
 unfoldable pub connection_id_record : ℕ → Layout ConnectionIdRecord
 connection_id_record id_length = do
   header ← connection_id_header id_length
@@ -56,9 +59,9 @@ connection_id_record id_length = do
   done (record { header = header; fragment = fragment })
 
 pub data DatagramRecord : Type 0 where
-  -- in the form that DTLSPlaintext has, and each record had up to DTLS 1.2
+  -- in the form of DTLSPlaintext, which every record has up to DTLS 1.2
   Plaintext : RawRecord → DatagramRecord
-  -- of DTLS 1.2, with a connection id
+  -- of DTLS 1.2, with a connection ID
   ConnectionId : ConnectionIdRecord → DatagramRecord
   -- of DTLS 1.3, encrypted
   Encrypted : Ciphertext → DatagramRecord
@@ -68,12 +71,13 @@ view_datagram_record (lent.Plaintext r) = Plaintext (view_raw_record r)
 view_datagram_record (lent.ConnectionId r) = ConnectionId (view_connection_id_record r)
 view_datagram_record (lent.Ciphertext c) = Encrypted (view_ciphertext c)
 
--- change_cipher_spec, alert, handshake, application_data, heartbeat; ack (RFC 9147, sections 4.1 and 7).
+-- change_cipher_spec, alert, handshake, application_data, heartbeat; ack (RFC 9147, sections 4.1
+-- and 7).
 abbrev pub is_plaintext : ℕ → Bool
 is_plaintext kind = nat_le 20 kind && nat_le kind 24 || kind == 26
 
--- By the first byte (RFC 9147, section 4.1, figure 5): 25 is tls12_cid, and the bits 001 in front are those of DTLSCiphertext. It is looked at and not
--- taken.
+-- By the first byte (RFC 9147, section 4.1, figure 5): 25 is tls12_cid, and DTLSCiphertext begins
+-- with the bits 001. The byte is peeked at and not consumed.
 unfoldable pub datagram_record13 : ℕ → Layout DatagramRecord
 datagram_record13 id_length = do
   first ← look (number 1)

@@ -1,4 +1,4 @@
--- What is told of the datagrams of one direction (RFC 6347, sections 4.1 and 4.2).
+-- The events of one direction's datagrams (RFC 6347, sections 4.1 and 4.2).
 use Rattle.std.specs.Prelude.{◌≡◌, ℕ, zero, suc, ◌+◌, cond, nat_le, nat_lt, Option, Some, None, Ok, Err, ◌==◌, ◌&&◌, if◌then◌else◌, List, [], ◌∷◌, ◌++◌, length, take, map}
 use Rattle.std.specs.Borrow.{Bor}
 use Rattle.layouts.specs.Bytes.{Bytes}
@@ -24,34 +24,34 @@ fragment_by m (handshakes.Fragment b) = Some (record {
 })
 fragment_by m b = None
 
--- The fragment that a handshake message is, where its body is one.
+-- The fragment in a handshake message, if its body is one.
 abbrev pub fragment_in : handshakes.Handshake → Option Fragment
 fragment_in m = fragment_by m m.body
 
--- The most bytes that a record may have behind its header: where it is encrypted, which epochs above 0 are, 2^14 + 2048
--- (RFC 5246, section 6.2.3), else what a reader of records takes.
+-- The limit for a record's length: 2^14 + 2048 (RFC 5246, section 6.2.3) in the epochs above 0,
+-- which are encrypted, else the limit of a plaintext record.
 abbrev pub limit : RecordHeader → ℕ
 limit h = cond (nat_lt 0 h.epoch) max_encrypted_length max_fragment_length
 
--- What stands behind that header.
+-- The content after this header.
 unfoldable pub content : RecordHeader → Layout Bytes
 content h = do
   test (nat_le h.length (limit h)) TooLarge
   block h.length
 
--- A record whose content isn't read.
+-- A record with its content unparsed.
 unfoldable pub datagram_record : Layout RawRecord
 datagram_record = do
   h ← record_header
   bytes ← content h
   done (record { header = h; fragment = bytes })
 
--- What a refusal is told as: a datagram is whole, so what is missing doesn't come.
+-- The fault of a refusal. A datagram is whole, so missing bytes won't come.
 abbrev pub kind_of : Refusal → ErrorKind
 kind_of (Broken k) = k
 kind_of (Lacks n) = Complete
 
--- Bytes that are left behind what was read are a fault.
+-- Bytes left after what was parsed are a fault.
 abbrev pub left_over : Bytes → List Event
 left_over [] = []
 left_over (b ∷ bs) = Failed Complete ∷ []
@@ -61,7 +61,7 @@ event_of dtls_record.ChangeCipherSpec = ChangeCipherSpec
 event_of (dtls_record.Alert a) = Alert a
 event_of m = Failed Switch
 
--- What was heard, and what is told.
+-- The state of a direction, and new events.
 abbrev pub Step : Type 0
 Step = Heard × List Event
 
@@ -81,17 +81,18 @@ abbrev pub content_step : Answer (List dtls_record.Message) → Heard → Step
 content_step (Ok x) h = (h, map event_of x.0 ++ left_over x.1)
 content_step (Err e) h = (h, Failed (kind_of e) ∷ [])
 
--- What the messages of a record are read from. In version 0x0100, which OpenSSL had before RFC 4347, the number of a message stands behind a
--- ChangeCipherSpec, in 2 bytes.
+-- The bytes that a record's messages are parsed from. In version 0x0100, which OpenSSL used before
+-- RFC 4347, a message number of 2 bytes follows a ChangeCipherSpec.
 unfoldable pub content_bytes : RawRecord → Bytes
 content_bytes r =
-    if r.header.version == 0x0100 && (r.header.content_type == 20 && length r.fragment == 3) then take 1 r.fragment else r.fragment
+    if r.header.version == 0x0100 && (r.header.content_type == 20 && length r.fragment == 3) then
+    take 1 r.fragment else r.fragment
 
--- A record of another type than handshake.
+-- A record that isn't of type handshake.
 abbrev pub content_record_step : RawRecord → Heard → Step
 content_record_step r h = content_step (reading (record_content r.header) (content_bytes r)) h
 
--- A record of an epoch above 0, whose fragment isn't read.
+-- A record of an epoch above 0, with its fragment unparsed.
 abbrev pub encrypted : RawRecord → EncryptedRecord
 encrypted r = record {
   content_type = r.header.content_type;
@@ -101,13 +102,14 @@ encrypted r = record {
   fragment = r.fragment;
 }
 
--- One record: it is encrypted where its epoch is above 0, and isn't read then.
+-- One record. An epoch above 0 is encrypted and isn't parsed.
 abbrev pub record_step : Limits → Heard → RawRecord → Step
 record_step l h r =
     cond (nat_lt 0 r.header.epoch) (h, Encrypted (encrypted r) ∷ []) (
-    cond (r.header.content_type == 22) (fragment_record_step r.fragment l h) (content_record_step r h))
+    cond (r.header.content_type == 22) (fragment_record_step r.fragment l h)
+    (content_record_step r h))
 
--- Where no record can be read, what is left is a fault.
+-- If no record can be parsed, the rest is a fault.
 abbrev pub unread : Bytes → Refusal → List Event
 unread [] e = []
 unread (b ∷ bs) e = Failed (kind_of e) ∷ []
@@ -116,26 +118,27 @@ abbrev pub next_record : Answer RawRecord → Limits → Heard → Bytes → (He
 next_record (Err e) l h b more = (h, unread b e)
 next_record (Ok x) l h b more = then_step (record_step l h x.0) (λ h. more h x.1)
 
--- At most n records of a datagram, one after the other.
+-- At most n records of a datagram, in order.
 unfoldable pub records_step : ℕ → Limits → Heard → Bytes → Step
 records_step zero l h b = (h, [])
 records_step (suc n) l h b = next_record (reading datagram_record b) l h b (records_step n l)
 
--- A datagram. A record takes bytes, so there are no more of them than bytes.
+-- A datagram. A record has at least one byte, so there are no more records than bytes.
 abbrev pub datagram : Limits → Heard → Bytes → Step
 datagram l h b = records_step (length b) l h b
 
--- What is heard and told of datagrams that come one after the other.
+-- The state and the events after these datagrams, in order.
 unfoldable pub datagrams : Limits → Heard → List Bytes → Step
 datagrams l h [] = (h, [])
 datagrams l h (d ∷ ds) = then_step (datagram l h d) (λ h. datagrams l h ds)
 
--- The bytes of each.
+-- The bytes of each datagram.
 abbrev pub views : List (Bor (List ℕ)) → List Bytes
 views ds = map (λ d. d.now) ds
 
--- What was told and heard is this step.
-pub record IsStep (l : Limits) (s : Step) (es : List Event) (es' : List Event) (k' : Kept) : Type 0 where
+-- The step was made: its events were appended, and the buffer has its state.
+pub record IsStep (l : Limits) (s : Step) (es : List Event) (es' : List Event)
+    (k' : Kept) : Type 0 where
   pub events : es' ≡ es ++ s.1
   pub stands : Stands l s.0 k'
 
@@ -147,7 +150,7 @@ those_read (Err e) = []
 abbrev pub fragments_in_content : Bytes → List Fragment
 fragments_in_content b = those_read (reading (list1 fragment) b)
 
--- The fragments in a record: it holds some where its epoch is 0 and its type is 22.
+-- The fragments in a record, which has some if its epoch is 0 and its type is 22.
 abbrev pub fragments_in_record : RawRecord → List Fragment
 fragments_in_record r =
     cond (nat_lt 0 r.header.epoch) [] (
@@ -166,17 +169,18 @@ fragments_within (suc n) b = fragments_from (reading datagram_record b) (fragmen
 abbrev pub fragments_of : Bytes → List Fragment
 fragments_of b = fragments_within (length b) b
 
--- Memory ran out while these events were told: the first of them are.
+-- Memory ran out while these events were appended: a prefix of them was.
 pub record AreToldInPart (all : List Event) (es : List Event) (es' : List Event) : Type 0 where
   pub front : List Event
   pub untold : List Event
   pub split : all ≡ front ++ untold
   pub told : es' ≡ es ++ front
 
--- Memory ran out within records in which these fragments are, and of which these events are to be told. What was told stands, and the
--- first of the fragments were heard. Of their messages each is told or is kept, in order: those that are kept are whole, and stand next
--- in what is held.
-pub record IsCut (l : Limits) (h : Heard) (fs : List Fragment) (all : List Event) (es : List Event) (es' : List Event) (k' : Kept) : Type 0 where
+-- Memory ran out within records with these fragments and these events. Earlier events stay, and a
+-- prefix of the fragments was added. Each of their messages is either reported or buffered, in
+-- order; the buffered ones are whole and come next.
+pub record IsCut (l : Limits) (h : Heard) (fs : List Fragment) (all : List Event) (es : List Event)
+    (es' : List Event) (k' : Kept) : Type 0 where
   pub first : List Fragment
   pub behind : List Fragment
   pub split : fs ≡ first ++ behind
@@ -190,7 +194,7 @@ pub record IsCut (l : Limits) (h : Heard) (fs : List Fragment) (all : List Event
   pub count : next + length kept ≡ (after l h first).next
   pub stands : Stands l (record { taken = (after l h first).taken; next = next }) k'
 
--- The same, of one record, and of a datagram.
+-- Memory ran out within a record, and within a datagram.
 abbrev pub IsRecordCut : Limits → Heard → RawRecord → List Event → List Event → Kept → Type 0
 IsRecordCut l h r es es' k' = IsCut l h (fragments_in_record r) (record_step l h r).1 es es' k'
 

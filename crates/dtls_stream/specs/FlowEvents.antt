@@ -1,4 +1,4 @@
--- What a side of DTLS says, as an event of a flow.
+-- A DTLS side's events as input for a flow.
 use Rattle.std.specs.Prelude.{Option, Some, None}
 use Rattle.dtls_stream.specs.Messages as datagrams
 use Rattle.tls_flow.specs.Bytes.{HandshakeMessage, datagram_message, kind_of_datagrams}
@@ -8,8 +8,9 @@ use Rattle.tls_flow.specs.declared.symbol.Kind.{Kind}
 use Rattle.tls_flow.specs.declared.symbol.Kind.TheVariants as kind
 use Rattle.tls_flow.specs.declared.symbol.Direction.{Direction as Side}
 
--- What is said, as an event, where k is the kind of a handshake message. What a peer drops says nothing: a record that can't be read, or the
--- rest of one (RFC 6347, section 4.1.2.7), and a fragment that isn't taken, as one that is sent again (section 4.2.4).
+-- The flow event, where k is the kind of a handshake message. What a peer drops is no event: a
+-- record, or the rest of one, that can't be parsed (RFC 6347, section 4.1.2.7), and a refused
+-- fragment, such as one of a retransmitted message (section 4.2.4).
 abbrev pub event_in_datagram_with : Side → datagrams.Event → Kind → Option Event
 event_in_datagram_with s (datagrams.Handshake m) k = Some (plain k s)
 event_in_datagram_with s datagrams.ChangeCipherSpec k = Some (plain kind.ChangeCipherSpec s)
@@ -18,7 +19,7 @@ event_in_datagram_with s (datagrams.Encrypted r) k = Some (plain kind.Encrypted 
 event_in_datagram_with s (datagrams.Refused n e) k = None
 event_in_datagram_with s (datagrams.Failed n) k = None
 
--- The handshake message that is said, if one is.
+-- The handshake message, if it is one.
 abbrev pub message_in_datagram : datagrams.Event → Option HandshakeMessage
 message_in_datagram (datagrams.Handshake m) = Some (datagram_message m.msg_type m.body)
 message_in_datagram e = None

@@ -1,4 +1,5 @@
--- Fragments of a handshake message of DTLS (RFC 6347, sections 4.2.2 and 4.2.3), in any order, with repeats and overlaps.
+-- Fragments of a DTLS handshake message (RFC 6347, sections 4.2.2 and 4.2.3), in any order, with
+-- repeats and overlaps.
 use Rattle.std.specs.Prelude.{◌≡◌, ℕ, ◌+◌, ◌-◌, ◌<◌, ◌≤◌, Bool, true, false, cond, nat_le, nat_lt, Option, Some, None, IsSome, Result, Ok, Err, ◌==◌, List, [], ◌∷◌, length, take, drop, map, slice_index, sum_by}
 use Rattle.std.proofs.Common.{get_or}
 use Rattle.layouts.specs.Bytes.{Bytes}
@@ -7,10 +8,11 @@ use Rattle.dtls_stream.specs.declared.fragments.Fragment.{Fragment as Lent}
 use Rattle.dtls_stream.specs.declared.fragments.FragmentError.{FragmentError}
 use Rattle.dtls_stream.specs.declared.fragments.FragmentError.TheVariants.{Outside, OtherLength, OtherMessage}
 
--- The fields of a Handshake (section 4.2.2) of which the body may be a part; its fragment_length is that of these bytes.
+-- The fields of a Handshake (section 4.2.2) with all of its body or a part of it; its
+-- fragment_length is the length of the part.
 pub record Fragment : Type 0 where
   pub msg_type : ℕ
-  -- of the whole message's body
+  -- length of the whole message's body
   pub length : ℕ
   pub message_seq : ℕ
   pub fragment_offset : ℕ
@@ -28,8 +30,8 @@ view_fragment f = record {
 abbrev pub view_fragments : List Lent → List Fragment
 view_fragments fs = map view_fragment fs
 
--- HandshakeType msg_type; uint24 length; uint16 message_seq; uint24 fragment_offset; uint24 fragment_length; and so many bytes
--- of the body (section 4.2.2).
+-- HandshakeType msg_type; uint24 length; uint16 message_seq; uint24 fragment_offset; uint24
+-- fragment_length; and that many bytes of the body (section 4.2.2).
 unfoldable pub fragment : Layout Fragment
 fragment = do
   kind ← number 1
@@ -46,25 +48,27 @@ fragment = do
     body = bytes;
   })
 
--- The byte at place i of a body, by the first n of these bytes, which stand there from a place on.
+-- The byte at place i of a body, given by the first n of these bytes, which begin at offset.
 abbrev pub given : ℕ → Bytes → ℕ → ℕ → Option ℕ
-given offset b n i = cond (nat_le offset i) (cond (nat_lt i (offset + n)) (Some (slice_index b (i - offset))) None) None
+given offset b n i =
+    cond (nat_le offset i) (cond (nat_lt i (offset + n)) (Some (slice_index b (i - offset))) None)
+    None
 
--- The same, by a fragment.
+-- The byte at place i of a body, given by a fragment.
 abbrev pub byte_at : Fragment → ℕ → Option ℕ
 byte_at f i = given f.fragment_offset f.body (length f.body) i
 
--- The first of two that is there.
+-- The first of two that is known.
 abbrev pub or_else : Option ℕ → Option ℕ → Option ℕ
 or_else (Some x) y = Some x
 or_else None y = y
 
--- The byte at place i, by the first fragment that has one there.
+-- The byte at place i, from the first fragment that covers it.
 abbrev pub first_at : List Fragment → ℕ → Option ℕ
 first_at [] i = None
 first_at (f ∷ fs) i = or_else (byte_at f i) (first_at fs i)
 
--- There are fragments, and every place below n lies in one.
+-- There are fragments, and they cover every place below n.
 pub record Cover (fs : List Fragment) (n : ℕ) : Type 0 where
   pub some : 0 < length fs
   pub each : (i : ℕ) → i < n → IsSome (first_at fs i)
@@ -73,17 +77,18 @@ pub record Cover (fs : List Fragment) (n : ℕ) : Type 0 where
 abbrev pub inside : Fragment → Result Unit FragmentError
 inside f = cond (nat_le (f.fragment_offset + length f.body) f.length) (Ok tt) (Err Outside)
 
--- Whether it goes with a length that was said before, and lies within its message. Another type is no refusal: the first stands.
+-- Whether a fragment has this length of its message, and lies within it. Its type isn't compared:
+-- the first one is kept.
 abbrev pub agrees : ℕ → Fragment → Result Unit FragmentError
 agrees len f = cond (len == f.length) (inside f) (Err OtherLength)
 
--- A message that was cut into fragments.
+-- A message that is cut into fragments.
 pub record Whole : Type 0 where
   pub msg_type : ℕ
   pub message_seq : ℕ
   pub body : Bytes
 
--- A fragment of it.
+-- A fragment of this message.
 pub record IsOf (m : Whole) (f : Fragment) : Type 0 where
   pub msg_type : f.msg_type ≡ m.msg_type
   pub size : f.length ≡ length m.body
@@ -91,59 +96,63 @@ pub record IsOf (m : Whole) (f : Fragment) : Type 0 where
   pub inside : f.fragment_offset + length f.body ≤ length m.body
   pub bytes : f.body ≡ take (length f.body) (drop f.fragment_offset m.body)
 
--- What is held at place i.
+-- The byte at place i of a buffer.
 abbrev pub cell : List Bool → Bytes → ℕ → Option ℕ
 cell have b i = cond (get_or have i false) (Some (slice_index b i)) None
 
--- A message of which fragments came: what they say of it, and the bytes that are there.
+-- A message that is being reassembled: the fields that its fragments give, and the bytes that are
+-- known.
 pub record Held : Type 0 where
   pub msg_type : ℕ
   pub message_seq : ℕ
   pub size : ℕ
-  -- which bytes are there, and the bytes, up to the highest place that came; those that aren't there say nothing
+  -- which bytes are known, and the bytes, up to the highest place that arrived; a byte that isn't
+  -- known has no meaning
   pub there : List Bool
   pub held : Bytes
 
 abbrev pub byte : Held → ℕ → Option ℕ
 byte h i = cell h.there h.held i
 
--- A fragment says the same of its message.
+-- A fragment has the same fields of its message.
 pub record IsOfSame (h : Held) (f : Fragment) : Type 0 where
   pub msg_type : h.msg_type ≡ f.msg_type
   pub size : h.size ≡ f.length
   pub message_seq : h.message_seq ≡ f.message_seq
 
--- No byte is there.
+-- No byte is known.
 pub record IsBegun (h : Held) (f : Fragment) : Type 0 where
   pub same : IsOfSame h f
   pub none : (i : ℕ) → byte h i ≡ None
 
--- Whether a fragment is taken: it is of that message, says the same length of it, and lies within it.
+-- Whether a fragment is added: it is of this message, gives the same length, and lies within it.
 abbrev pub judged : Held → Fragment → Result Unit FragmentError
 judged h f = cond (h.message_seq == f.message_seq) (agrees h.size f) (Err OtherMessage)
 
--- A fragment's bytes are put where none are yet: the first stand.
+-- A fragment's bytes are added where none are known yet.
 pub record IsAdded (old : Held) (f : Fragment) (new : Held) : Type 0 where
   pub msg_type : new.msg_type ≡ old.msg_type
   pub size : new.size ≡ old.size
   pub message_seq : new.message_seq ≡ old.message_seq
   pub bytes : (i : ℕ) → byte new i ≡ or_else (byte old i) (byte_at f i)
 
--- All bytes are there.
+-- All bytes are known.
 abbrev pub IsComplete : Held → Type 0
 IsComplete h = (i : ℕ) → i < h.size → IsSome (byte h i)
 
--- These are the bytes that are there.
+-- b is the whole body.
 pub record IsBody (h : Held) (b : Bytes) : Type 0 where
   pub size : length b ≡ h.size
   pub bytes : (i : ℕ) → i < h.size → byte h i ≡ Some (slice_index b i)
 
--- How many places have no byte yet.
+-- 1 for a place without a byte.
 abbrev pub absent : Bool → ℕ
 absent true = 0
 absent false = 1
 
--- Each place that is held has a byte beside it, none lies behind the message's size, and so many of the bytes are there.
+-- The two lists are equally long, at most as long as the message, and as many bytes are known as
+-- counted.
 abbrev pub IsCounted : ℕ → ℕ → List Bool → Bytes → Type 0
 IsCounted size filled there held =
-    (length there ≡ length held) × (length held ≤ size) × (filled + sum_by absent there ≡ length there)
+    (length there ≡ length held) × (length held ≤ size)
+    × (filled + sum_by absent there ≡ length there)

@@ -1,4 +1,5 @@
--- The messages of one direction, from fragments of several that are mixed (RFC 6347, sections 4.2.2 to 4.2.4).
+-- The messages of one direction, from the mixed fragments of several (RFC 6347, sections 4.2.2 to
+-- 4.2.4).
 use Rattle.std.specs.Prelude.{◌≡◌, ℕ, zero, suc, ◌+◌, ◌<◌, ◌≤◌, ◌⊎◌, ⊤, cond, nat_le, nat_lt, Option, Some, None, Result, Ok, Err, ◌==◌, List, [], ◌∷◌, ◌++◌, length, map}
 use Rattle.std.specs.Option.{option_map}
 use Rattle.std.proofs.Common.{get_or}
@@ -14,26 +15,27 @@ use Rattle.dtls_stream.specs.declared.messages.Limits.{Limits as Given}
 use Rattle.dtls_stream.specs.declared.fragments.FragmentError.{FragmentError}
 use Rattle.dtls_stream.specs.declared.fragments.FragmentError.TheVariants.{Old, TooFarAhead, TooLarge, OutOfMemory}
 
--- A handshake message, with its whole body.
+-- A handshake message with its whole body.
 pub record Message : Type 0 where
   pub msg_type : ℕ
   pub message_seq : ℕ
   pub body : Bytes
 
 abbrev pub view_message : Owned → Message
-view_message m = record { msg_type = m.msg_type.0; message_seq = m.message_seq; body = m.body.items }
+view_message m =
+    record { msg_type = m.msg_type.0; message_seq = m.message_seq; body = m.body.items }
 
--- What a caller allows.
+-- The limits that a caller sets.
 pub record Limits : Type 0 where
   -- bytes of a message's body
   pub message : ℕ
-  -- messages that are held, of which the first is the next one
+  -- messages buffered at a time, including the next one
   pub ahead : ℕ
 
 abbrev pub view_limits : Given → Limits
 view_limits l = record { message = l.message; ahead = l.ahead }
 
--- A record that is encrypted, apart from where it lies in memory.
+-- An encrypted record, wherever it lies in memory.
 pub record EncryptedRecord : Type 0 where
   pub content_type : ℕ
   pub version : ℕ
@@ -50,16 +52,16 @@ view_encrypted r = record {
   fragment = r.fragment.now;
 }
 
--- What is told of a direction.
+-- An event of a direction.
 pub data Event : Type 0 where
   Handshake : Message → Event
   ChangeCipherSpec : Event
   Alert : alerts.Alert → Event
-  -- a record of an epoch above 0, which isn't read
+  -- a record of an epoch above 0, which isn't parsed
   Encrypted : EncryptedRecord → Event
-  -- a fragment of the message of that number, which isn't taken
+  -- a refused fragment of the message with this number
   Refused : ℕ → FragmentError → Event
-  -- a record, or the rest of one or of a datagram, which isn't read
+  -- a record, or the rest of one or of a datagram, that can't be parsed
   Failed : ErrorKind → Event
 
 abbrev pub view_event : Lent → Event
@@ -83,15 +85,17 @@ with_byte (Some x) (Some b) = Some (x ∷ b)
 with_byte (Some x) None = None
 with_byte None b = None
 
--- The n bytes from place i on, where each is there.
+-- The n bytes from place i on, if each is known.
 abbrev pub bytes_from : List Fragment → ℕ → ℕ → Option Bytes
 bytes_from fs i zero = Some []
 bytes_from fs i (suc n) = with_byte (first_at fs i) (bytes_from fs (suc i) n)
 
--- The message of these fragments, of which the first says what it is: there once they cover it.
+-- The message of these fragments, once they cover it. The first one gives its fields.
 abbrev pub message_of : List Fragment → Option Message
 message_of [] = None
-message_of (f ∷ fs) = option_map (λ b. record { msg_type = f.msg_type; message_seq = f.message_seq; body = b }) (bytes_from (f ∷ fs) 0 f.length)
+message_of (f ∷ fs) =
+    option_map (λ b. record { msg_type = f.msg_type; message_seq = f.message_seq; body = b })
+    (bytes_from (f ∷ fs) 0 f.length)
 
 abbrev pub followed : Option Message → List Message → List Message
 followed (Some m) ms = m ∷ ms
@@ -102,8 +106,8 @@ abbrev pub whole_from : ℕ → ℕ → List Fragment → List Message
 whole_from zero next ts = []
 whole_from (suc n) next ts = followed (message_of (of_message next ts)) (whole_from n (suc next) ts)
 
--- What was heard of a direction: the fragments that were taken, in the order in which they came, and how many messages
--- were handed out.
+-- The state of a direction: the fragments that were added, in order, and how many messages were
+-- delivered.
 pub record Heard : Type 0 where
   pub taken : List Fragment
   pub next : ℕ
@@ -111,16 +115,16 @@ pub record Heard : Type 0 where
 abbrev pub nothing : Heard
 nothing = record { taken = []; next = 0 }
 
--- Nothing was heard, and those in front of this number are missing.
+-- Nothing was read, and the messages before this number are missing.
 abbrev pub nothing_from : ℕ → Heard
 nothing_from first = record { taken = []; next = first }
 
--- Whether a fragment goes with those of its message that were taken.
+-- Whether a fragment agrees with those of its message that were added.
 abbrev pub agreed : List Fragment → Fragment → Result Unit FragmentError
 agreed [] f = inside f
 agreed (g ∷ gs) f = agrees g.length f
 
--- Whether a fragment is taken.
+-- Whether a fragment is added.
 abbrev pub verdict : Limits → Heard → Fragment → Result Unit FragmentError
 verdict l h f =
     cond (nat_lt f.message_seq h.next) (Err Old) (
@@ -133,9 +137,14 @@ with_taken h f = h.taken ++ f ∷ []
 
 abbrev pub heard_by : Result Unit FragmentError → Limits → Heard → Fragment → Heard
 heard_by (Err e) l h f = h
-heard_by (Ok t) l h f = record { taken = with_taken h f; next = h.next + length (whole_from l.ahead h.next (with_taken h f)) }
+heard_by (Ok t) l h f =
+    record {
+      taken = with_taken h f;
+      next =
+          h.next + length (whole_from l.ahead h.next (with_taken h f));
+    }
 
--- What was heard, once this fragment came: where it is taken, all messages are handed out that stand next and are covered.
+-- The state after this fragment. If it is added, all next messages that are covered are delivered.
 abbrev pub heard : Limits → Heard → Fragment → Heard
 heard l h f = heard_by (verdict l h f) l h f
 
@@ -143,11 +152,11 @@ abbrev pub told_by : Result Unit FragmentError → Limits → Heard → Fragment
 told_by (Err e) l h f = Refused f.message_seq e ∷ []
 told_by (Ok t) l h f = map Handshake (whole_from l.ahead h.next (with_taken h f))
 
--- What is told of a fragment: the messages that are handed out, or why it isn't taken.
+-- The events of a fragment: the messages that are delivered, or why it is refused.
 abbrev pub told : Limits → Heard → Fragment → List Event
 told l h f = told_by (verdict l h f) l h f
 
--- What is held of a direction: the messages from the next one on of which fragments came.
+-- The reassembly buffer of a direction: fragments of the next message and of those ahead of it.
 pub record Kept : Type 0 where
   pub limits : Given
   pub next : ℕ
@@ -156,7 +165,8 @@ pub record Kept : Type 0 where
 abbrev pub slot : Kept → ℕ → Option Held
 slot k i = get_or k.slots i None
 
--- What is held of one message is what these fragments give: the first says what it is, and at each place the first stands.
+-- The buffer of one message agrees with these fragments: the first one gives its fields, and the
+-- first byte at each place is kept.
 pub record IsHeld (f : Fragment) (fs : List Fragment) (h : Held) : Type 0 where
   pub same : IsOfSame h f
   pub bytes : (i : ℕ) → byte h i ≡ first_at (f ∷ fs) i
@@ -167,29 +177,31 @@ IsPart [] (Some h) = ⊥
 IsPart (f ∷ fs) None = ⊥
 IsPart (f ∷ fs) (Some h) = IsHeld f fs h
 
--- What is held is what was heard.
+-- The buffer agrees with the state.
 pub record Stands (l : Limits) (h : Heard) (k : Kept) : Type 0 where
   pub limits : view_limits k.limits ≡ l
   pub next : k.next ≡ h.next
   pub few : length k.slots ≤ l.ahead
   pub each : (i : ℕ) → IsPart (of_message (h.next + i) h.taken) (slot k i)
 
--- The messages that stand next are handed out.
-pub record AreHandedOut (l : Limits) (h : Heard) (es : List Event) (es' : List Event) (k' : Kept) : Type 0 where
+-- The next messages are delivered.
+pub record AreHandedOut (l : Limits) (h : Heard) (es : List Event) (es' : List Event)
+    (k' : Kept) : Type 0 where
   pub events : es' ≡ es ++ map Handshake (whole_from l.ahead h.next h.taken)
   pub stands : Stands l (record h { next = h.next + length (whole_from l.ahead h.next h.taken) }) k'
 
--- A fragment was heard.
-pub record IsHeard (l : Limits) (h : Heard) (f : Fragment) (es : List Event) (es' : List Event) (k' : Kept) : Type 0 where
+-- A fragment was read.
+pub record IsHeard (l : Limits) (h : Heard) (f : Fragment) (es : List Event) (es' : List Event)
+    (k' : Kept) : Type 0 where
   pub events : es' ≡ es ++ told l h f
   pub stands : Stands l (heard l h f) k'
 
--- What is told of fragments that come one after the other.
+-- The events of fragments, in order.
 unfoldable pub events : Limits → Heard → List Fragment → List Event
 events l h [] = []
 events l h (f ∷ fs) = told l h f ++ events l (heard l h f) fs
 
--- What was heard after them.
+-- The state after these fragments.
 unfoldable pub after : Limits → Heard → List Fragment → Heard
 after l h [] = h
 after l h (f ∷ fs) = after l (heard l h f) fs
@@ -200,8 +212,10 @@ messages [] = []
 messages (Handshake m ∷ es) = m ∷ messages es
 messages (e ∷ es) = messages es
 
--- Memory ran out while messages were handed out: what was told stands, and the rest of them are kept, and stand next in what is held.
-pub record AreKept (l : Limits) (h : Heard) (es : List Event) (es' : List Event) (k' : Kept) : Type 0 where
+-- Memory ran out while messages were delivered: earlier events stay, and the rest of the messages
+-- are buffered and come next.
+pub record AreKept (l : Limits) (h : Heard) (es : List Event) (es' : List Event)
+    (k' : Kept) : Type 0 where
   pub kept : List Message
   pub next : ℕ
   pub front : List Event
@@ -210,9 +224,11 @@ pub record AreKept (l : Limits) (h : Heard) (es : List Event) (es' : List Event)
   pub count : next + length kept ≡ h.next + length (whole_from l.ahead h.next h.taken)
   pub stands : Stands l (record h { next = next }) k'
 
--- Memory ran out within these fragments: what was told stands, and the first of them were heard. Their events are told but for the
--- messages that are kept, which are whole and stand next in what is held.
-pub record IsStopped (l : Limits) (h : Heard) (fs : List Fragment) (es : List Event) (es' : List Event) (k' : Kept) : Type 0 where
+-- Memory ran out within these fragments: earlier events stay, and a prefix of the fragments was
+-- added. Their events are reported except for messages that are still buffered, which are whole and
+-- come next.
+pub record IsStopped (l : Limits) (h : Heard) (fs : List Fragment) (es : List Event)
+    (es' : List Event) (k' : Kept) : Type 0 where
   pub first : List Fragment
   pub behind : List Fragment
   pub split : fs ≡ first ++ behind
@@ -224,30 +240,31 @@ pub record IsStopped (l : Limits) (h : Heard) (fs : List Fragment) (es : List Ev
   pub count : next + length kept ≡ (after l h first).next
   pub stands : Stands l (record { taken = (after l h first).taken; next = next }) k'
 
--- Whether a fragment is taken into a place.
+-- Whether a fragment is added to a slot.
 abbrev pub slot_judged : Option Held → Fragment → Result Unit FragmentError
 slot_judged None f = inside f
 slot_judged (Some h) f = judged h f
 
--- It is taken there.
+-- It is added to the slot.
 abbrev pub IsSlotAdded : Option Held → Fragment → Option Held → Type 0
 IsSlotAdded None f None = ⊥
 IsSlotAdded None f (Some n) = IsHeld f [] n
 IsSlotAdded (Some h) f None = ⊥
 IsSlotAdded (Some h) f (Some n) = IsAdded h f n
 
--- The answer is this one, or memory ran out.
+-- The answer is x, or memory ran out.
 abbrev pub IsOrMemory : Result Unit FragmentError → Result Unit FragmentError → Type 0
 IsOrMemory r x = (r ≡ Err OutOfMemory) ⊎ (r ≡ x)
 
--- A place has changed, and none else.
+-- One slot has changed, and no other.
 pub record IsChangedAt (old : Kept) (at : ℕ) (new : Kept) : Type 0 where
   pub limits : new.limits ≡ old.limits
   pub next : new.next ≡ old.next
   pub few : (n : ℕ) → length old.slots ≤ n → at < n → length new.slots ≤ n
   pub others : (i : ℕ) → (i ≡ at → ⊥) → slot new i ≡ slot old i
 
--- Fragments were heard, one after the other.
-pub record AreHeard (l : Limits) (h : Heard) (fs : List Fragment) (es : List Event) (es' : List Event) (k' : Kept) : Type 0 where
+-- These fragments were read, in order.
+pub record AreHeard (l : Limits) (h : Heard) (fs : List Fragment) (es : List Event)
+    (es' : List Event) (k' : Kept) : Type 0 where
   pub events : es' ≡ es ++ events l h fs
   pub stands : Stands l (after l h fs) k'

@@ -1,19 +1,19 @@
-//! Acknowledgments of records (RFC 9147, section 7).
+//! Acknowledgments of DTLS 1.3 (RFC 9147, section 7).
 ghost use Rattle.layouts.specs.Answers.{Gives};
 ghost use Rattle.layouts.specs.Items.{items_in};
 ghost use Rattle.dtls_stream.specs.Ack.{RecordNumber as Numbered, ack, record_number, view_record_number};
 
 use layouts::{ErrorKind, IResult, InPlace, Items, block, number2, number8, refused};
 
-/// How many bytes a record's number has in an ACK.
+/// The length of a record number in an ACK, in bytes.
 const RECORD_NUMBER_LEN: u16 = 16;
 
-/// Which record is meant (RFC 9147, section 4).
+/// The number of a record (RFC 9147, section 4).
 #[derive(Clone, Copy, Debug, PartialEq, Eq)]
 pub struct RecordNumber {
-    /// Which of the sender's keys protect it; 0 is none.
+    /// The epoch, which selects the keys; 0 is unencrypted.
     pub epoch: u64,
-    /// Its number in its epoch.
+    /// The record's number within its epoch.
     pub sequence_number: u64,
 }
 
@@ -39,13 +39,15 @@ impl<'a> InPlace<'a> for RecordNumber {
     }
 }
 
-/// Reads an ACK (RFC 9147, section 7), the content of a record of type 26: 2 bytes of length, and within so many bytes numbers of
-/// records, each 8 bytes of epoch and 8 of sequence number. All numbers are big-endian.
+/// Parses an ACK (RFC 9147, section 7), the content of a record of type 26: 2 bytes of length, and
+/// within that many bytes record numbers of 8 bytes of epoch and 8 of sequence number. All numbers
+/// are big-endian.
 ///
-/// The list may be empty. What stands behind it is the rest, which the caller judges.
+/// The list may be empty. Bytes after it are the rest, which the caller judges.
 ///
-/// - `Incomplete` of what is missing of the length, or else of the list.
-/// - `Error` of kind `LengthValue` where the length is no multiple of 16, even if the list isn't there yet.
+/// - `Incomplete` with the count of bytes missing of the length, or else of the list.
+/// - `Error` of kind `LengthValue` if the length is no multiple of 16, even if the list isn't there
+///   yet.
 #[tactic(auto, using(layouts::proofs::OneAnswerLemmas::read_allowed), unfolding(crate::specs::Ack::ack))]
 pub fn parse_dtls13_ack(i: &[u8]) -> IResult<&[u8], Items<RecordNumber>>
     ensures { Gives (λ v. items_in record_number v.bytes.now) ack i.now result }

@@ -1,4 +1,4 @@
-//! Encrypted records (RFC 9147, section 4).
+//! Encrypted records of DTLS 1.3 (RFC 9147, section 4).
 ghost use Rattle.std.specs.Prelude.{◌≡◌};
 ghost use Rattle.std.specs.Option.{option_map};
 ghost use Rattle.layouts.specs.Answers.{Gives};
@@ -9,22 +9,23 @@ ghost use Rattle.dtls_stream.specs.Ciphertext.{encrypted_record_of as encrypted_
 use layouts::{ErrorKind, IResult, block, number1, number2, refused};
 use tls_records::MAX_RECORD_LEN;
 
-/// The bit C of the first byte: a connection id is present.
+/// Bit C of the first byte: a connection ID is present.
 const C_BIT: u8 = 0x10;
 
-/// The bit S: the sequence number has 16 bits.
+/// Bit S: the sequence number has 16 bits.
 const S_BIT: u8 = 0x08;
 
-/// The bit L: the length is present.
+/// Bit L: the length is present.
 const L_BIT: u8 = 0x04;
 
-/// The most bytes that an encrypted record may have (RFC 8446, section 5.2).
+/// The longest encrypted record, in bytes (RFC 8446, section 5.2).
 const MAX_ENCRYPTED_RECORD_LEN: usize = MAX_RECORD_LEN as usize;
 
-/// The fewest: so many are taken to encrypt the sequence number (RFC 9147, section 4.2.3).
+/// The shortest encrypted record: this many bytes of it are used to encrypt the sequence number
+/// (RFC 9147, section 4.2.3).
 const MIN_ENCRYPTED_RECORD_LEN: usize = 16;
 
-/// The low bits of a record's number, as they stand there: encrypted (RFC 9147, section 4.2.3).
+/// The low bits of a record's number, encrypted (RFC 9147, section 4.2.3).
 #[derive(Clone, Copy, Debug, PartialEq, Eq)]
 pub enum SequenceNumber {
     /// The low 8 bits.
@@ -33,14 +34,15 @@ pub enum SequenceNumber {
     Bits16(u16),
 }
 
-/// What stands in front of an encrypted record (RFC 9147, section 4, figure 3).
+/// The header of an encrypted record (RFC 9147, section 4, figure 3).
 #[derive(Clone, Copy, Debug, PartialEq)]
 pub struct UnifiedHeader<'a> {
-    /// The connection id, of at least 1 byte; `None` where the bit C isn't set.
+    /// The connection ID, of at least 1 byte; `None` if bit C isn't set.
     pub connection_id: Option<&'a [u8]>,
     /// The low bits of the record's number.
     pub sequence_number: SequenceNumber,
-    /// The length of the encrypted record, in bytes; `None` where it takes all the rest of its datagram.
+    /// The length of the encrypted record, in bytes; `None` if the record takes the rest of its
+    /// datagram.
     pub length: Option<u16>,
     /// The low 2 bits of the epoch.
     pub epoch_bits: u8,
@@ -49,16 +51,17 @@ pub struct UnifiedHeader<'a> {
 /// An encrypted record of DTLS 1.3 (RFC 9147, section 4, figure 2).
 #[derive(Clone, Copy, Debug, PartialEq)]
 pub struct DTLSCiphertext<'a> {
-    /// What stands in front.
+    /// The header.
     pub header: UnifiedHeader<'a>,
-    /// 16 to 16640 bytes: content, type and padding, encrypted.
+    /// 16 to 16640 bytes: content, content type and padding, encrypted.
     pub encrypted_record: &'a [u8],
 }
 
-/// The connection id, where it is present.
+/// Parses the connection ID, if it is present.
 #[tactic(auto, using(layouts::proofs::OneAnswerLemmas::read_allowed), unfolding(crate::specs::Ciphertext::connection_id))]
 fn connection_id(i: &[u8], is_present: bool, len: usize) -> IResult<&[u8], Option<&[u8]>>
-    ensures { Gives (λ v. option_map (λ x. x.now) v) (connection_id_layout is_present len) i.now result }
+    ensures { Gives (λ v. option_map (λ x. x.now) v) (connection_id_layout is_present len)
+        i.now result }
 {
     if !is_present {
         return Ok((i, None));
@@ -70,7 +73,7 @@ fn connection_id(i: &[u8], is_present: bool, len: usize) -> IResult<&[u8], Optio
     Ok((i, Some(id)))
 }
 
-/// The sequence number, of 16 or of 8 bits.
+/// Parses the sequence number, of 16 or of 8 bits.
 #[tactic(auto, using(layouts::proofs::OneAnswerLemmas::read_allowed), unfolding(crate::specs::Ciphertext::sequence_number))]
 fn sequence_number(i: &[u8], is_long: bool) -> IResult<&[u8], SequenceNumber>
     ensures { Gives view_sequence_number (sequence_number_layout is_long) i.now result }
@@ -83,7 +86,7 @@ fn sequence_number(i: &[u8], is_long: bool) -> IResult<&[u8], SequenceNumber>
     Ok((i, SequenceNumber::Bits8(n)))
 }
 
-/// The length, where it is present.
+/// Parses the length, if it is present.
 #[tactic(auto, using(layouts::proofs::OneAnswerLemmas::read_allowed), unfolding(crate::specs::Ciphertext::length_field))]
 fn length_field(i: &[u8], is_present: bool) -> IResult<&[u8], Option<u16>>
     ensures { Gives (λ v. v) (length_field_layout is_present) i.now result }
@@ -95,7 +98,7 @@ fn length_field(i: &[u8], is_present: bool) -> IResult<&[u8], Option<u16>>
     Ok((i, Some(n)))
 }
 
-/// The header, where connection ids have that length.
+/// Parses the header, with connection IDs of this length.
 #[tactic(auto, using(layouts::proofs::OneAnswerLemmas::read_allowed), unfolding(crate::specs::Ciphertext::unified_hdr))]
 fn unified_header(i: &[u8], connection_id_len: usize) -> IResult<&[u8], UnifiedHeader>
     ensures { Gives view_unified_header (unified_hdr connection_id_len) i.now result }
@@ -116,7 +119,7 @@ fn unified_header(i: &[u8], connection_id_len: usize) -> IResult<&[u8], UnifiedH
     Ok((i, header))
 }
 
-/// An encrypted record of that many bytes.
+/// Parses an encrypted record of `len` bytes.
 #[tactic(auto, using(layouts::proofs::OneAnswerLemmas::read_allowed), unfolding(crate::specs::Ciphertext::encrypted_record_of))]
 fn encrypted_record_of(i: &[u8], len: usize) -> IResult<&[u8], &[u8]>
     ensures { Gives (λ v. v.now) (encrypted_record_of_layout len) i.now result }
@@ -130,7 +133,7 @@ fn encrypted_record_of(i: &[u8], len: usize) -> IResult<&[u8], &[u8]>
     block(i, len)
 }
 
-/// An encrypted record behind a header with that length, or with none.
+/// Parses an encrypted record of this length, or without a length.
 #[tactic(auto, using(layouts::proofs::OneAnswerLemmas::read_allowed), unfolding(crate::specs::Ciphertext::encrypted_record))]
 fn encrypted_record(i: &[u8], length: Option<u16>) -> IResult<&[u8], &[u8]>
     ensures { Gives (λ v. v.now) (encrypted_record_layout length) i.now result }
@@ -141,21 +144,26 @@ fn encrypted_record(i: &[u8], length: Option<u16>) -> IResult<&[u8], &[u8]>
     }
 }
 
-/// Reads an encrypted record of DTLS 1.3 (RFC 9147, section 4) from what is left of a datagram: 1 byte 001CSLEE; where C is set, a
-/// connection id of `connection_id_len` bytes; a sequence number of 2 bytes where S is set, else of 1; where L is set, 2 bytes of
-/// length; and the encrypted record, of that length, or else all of `i`. All numbers are big-endian.
+/// Parses an encrypted record of DTLS 1.3 (RFC 9147, section 4) from the rest of a datagram: 1 byte
+/// 001CSLEE; if C is set, a connection ID of `connection_id_len` bytes; a sequence number of 2
+/// bytes if S is set, else of 1; if L is set, 2 bytes of length; and the encrypted record, of that
+/// length, or else all of `i`. All numbers are big-endian.
 ///
-/// `connection_id_len` is the length of the ids that the receiver asked for in its hello (RFC 9146, section 3), 0 where there are none. A
-/// record without an id is read where one is expected too: each datagram has to have one (RFC 9147, section 4), and who follows both
-/// sides sees that over the records of the datagram.
+/// `connection_id_len` is the length of the IDs that the receiver asked for in its hello (RFC 9146,
+/// section 3), 0 if there are none. A record without an ID is accepted even if IDs are expected:
+/// each datagram must have one (RFC 9147, section 4), which a caller that follows both sides can
+/// check across the records of the datagram.
 ///
-/// Without L a record ends its datagram, so `i` has to end where the datagram does.
+/// Without L a record ends its datagram, so `i` must end where the datagram does.
 ///
-/// - `Incomplete` of the count that is missing of the first field that isn't whole, or else of the encrypted record.
-/// - `Error` of kind `Tag` where the upper 3 bits of the first byte aren't 001: it is another record.
-/// - `Error` of kind `Verify` where C is set and `connection_id_len` is 0.
-/// - `Error` of kind `TooLarge` where the encrypted record has more than 16640 bytes, even if they aren't there yet.
-/// - `Error` of kind `LengthValue` where it has fewer than 16 (RFC 9147, section 4.2.3).
+/// - `Incomplete` with the count of bytes missing of the first field that isn't whole, or else of
+///   the encrypted record.
+/// - `Error` of kind `Tag` if the upper 3 bits of the first byte aren't 001: it is another kind of
+///   record.
+/// - `Error` of kind `Verify` if C is set and `connection_id_len` is 0.
+/// - `Error` of kind `TooLarge` if the encrypted record has more than 16640 bytes, even if they
+///   aren't there yet.
+/// - `Error` of kind `LengthValue` if it has fewer than 16 bytes (RFC 9147, section 4.2.3).
 #[tactic(auto, using(layouts::proofs::OneAnswerLemmas::read_allowed), unfolding(crate::specs::Ciphertext::ciphertext))]
 pub fn parse_dtls13_ciphertext(i: &[u8], connection_id_len: usize) -> IResult<&[u8], DTLSCiphertext>
     ensures { Gives view_ciphertext (ciphertext connection_id_len) i.now result }

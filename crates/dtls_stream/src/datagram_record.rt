@@ -10,39 +10,41 @@ use layouts::{ErrorKind, IResult, block, number1, number2, number8, refused};
 use tls_base::{TlsRecordType, TlsVersion};
 use tls_records::{DTLSRawRecord, DTLSRecordHeader, MAX_ENCRYPTED_LEN};
 
-/// The header of a record of DTLS 1.2 with a connection id (RFC 9146, section 4).
+/// The header of a DTLS 1.2 record with a connection ID (RFC 9146, section 4).
 #[derive(Debug, PartialEq, Drop)]
 pub struct ConnectionIdHeader<'a> {
-    /// The fields that each record of DTLS 1.2 has; the type is 25, tls12_cid.
+    /// The fields of every DTLS 1.2 record; the type is 25, tls12_cid.
     pub fields: DTLSRecordHeader,
-    /// The connection id, of at least 1 byte, which stands between the sequence number and the length.
+    /// The connection ID, of at least 1 byte, between the sequence number and the length.
     pub connection_id: &'a [u8],
 }
 
-/// A record of DTLS 1.2 with a connection id (RFC 9146, section 4); what it holds is encrypted.
+/// A DTLS 1.2 record with a connection ID (RFC 9146, section 4). Its content is encrypted.
 #[derive(Debug, PartialEq, Drop)]
 pub struct ConnectionIdRecord<'a> {
-    /// What stands in front.
+    /// The header.
     pub header: ConnectionIdHeader<'a>,
     /// `header.fields.length` bytes.
     pub fragment: &'a [u8],
 }
 
-/// A record of a datagram, whose content isn't read (RFC 9147, section 4.1).
+/// A record of a datagram, with its content unparsed (RFC 9147, section 4.1).
 #[derive(Debug, PartialEq, Drop)]
 pub enum DatagramRecord<'a> {
-    /// In the form of DTLSPlaintext, which each record has up to DTLS 1.2, also an encrypted one: of type 20 to 24, or 26 (ACK).
+    /// A record in the form of DTLSPlaintext, of type 20 to 24, or 26 (ACK). Up to DTLS 1.2
+    /// encrypted records have this form too.
     Plaintext(DTLSRawRecord<'a>),
-    /// Of DTLS 1.2, with a connection id: of type 25 (tls12_cid).
+    /// A DTLS 1.2 record with a connection ID, of type 25 (tls12_cid).
     ConnectionId(ConnectionIdRecord<'a>),
-    /// Of DTLS 1.3, encrypted.
+    /// An encrypted record of DTLS 1.3.
     Ciphertext(DTLSCiphertext<'a>),
 }
 
-/// The header of a record of DTLS 1.2, where connection ids have that length.
+/// Parses the header of a DTLS 1.2 record with a connection ID of this length.
 #[tactic(auto, using(layouts::proofs::OneAnswerLemmas::read_allowed), unfolding(crate::specs::DatagramRecord::connection_id_header))]
 fn connection_id_header(i: &[u8], connection_id_len: usize) -> IResult<&[u8], ConnectionIdHeader>
-    ensures { Gives view_connection_id_header (connection_id_header_layout connection_id_len) i.now result }
+    ensures { Gives view_connection_id_header (connection_id_header_layout connection_id_len)
+        i.now result }
 {
     if connection_id_len == 0 {
         return refused(i, ErrorKind::Verify);
@@ -66,10 +68,11 @@ fn connection_id_header(i: &[u8], connection_id_len: usize) -> IResult<&[u8], Co
     Ok((i, header))
 }
 
-/// A record of DTLS 1.2, where connection ids have that length.
+/// Parses a DTLS 1.2 record with a connection ID of this length.
 #[tactic(auto, using(layouts::proofs::OneAnswerLemmas::read_allowed), unfolding(crate::specs::DatagramRecord::connection_id_record))]
 fn connection_id_record(i: &[u8], connection_id_len: usize) -> IResult<&[u8], ConnectionIdRecord>
-    ensures { Gives view_connection_id_record (connection_id_record_layout connection_id_len) i.now result }
+    ensures { Gives view_connection_id_record (connection_id_record_layout connection_id_len)
+        i.now result }
 {
     let (i, header) = connection_id_header(i, connection_id_len)?;
     if header.fields.length > MAX_ENCRYPTED_LEN {
@@ -79,23 +82,26 @@ fn connection_id_record(i: &[u8], connection_id_len: usize) -> IResult<&[u8], Co
     Ok((i, ConnectionIdRecord { header, fragment }))
 }
 
-/// Reads a record from what is left of a datagram, in the form that its first byte says (RFC 9147, section 4.1, figure 5):
+/// Parses a record from the rest of a datagram. Its first byte gives its form (RFC 9147, section
+/// 4.1, figure 5):
 ///
-/// | first byte | is read as |
+/// | first byte | parsed as |
 /// |---|---|
 /// | 20 to 24, 26 | [`read_record`] |
-/// | 25 | a record of DTLS 1.2 with a connection id of `connection_id_len` bytes (RFC 9146, section 4) |
+/// | 25 | a DTLS 1.2 record with an ID of `connection_id_len` bytes (RFC 9146, section 4) |
 /// | 32 to 63 | [`parse_dtls13_ciphertext`] |
 ///
-/// A datagram's records are read by this call again and again, from the rest that it returned, until that is empty.
-/// `connection_id_len` is the length of the ids that the receiver asked for in its hello, 0 where there are none.
+/// To parse every record of a datagram, call it on the returned rest until that is empty.
+/// `connection_id_len` is the length of the IDs that the receiver asked for in its hello, 0 if
+/// there are none.
 ///
-/// - `Incomplete` of the count that is missing of the first field that isn't whole, or else of the record's bytes.
-/// - `Error` of kind `Switch` where the first byte is another: receivers drop it.
-/// - `Error` of kind `Verify` where there is a connection id and `connection_id_len` is 0.
-/// - `Error` of kind `TooLarge` where the length is above what such a record may have: 16640 bytes in epoch 0 and in
-///   DTLS 1.3, else 18432.
-/// - `Error` of kind `LengthValue` where an encrypted record of DTLS 1.3 has fewer than 16 bytes.
+/// - `Incomplete` with the count of bytes missing of the first field that isn't whole, or else of
+///   the record.
+/// - `Error` of kind `Switch` if the first byte is another: receivers drop it.
+/// - `Error` of kind `Verify` if there is a connection ID and `connection_id_len` is 0.
+/// - `Error` of kind `TooLarge` if the length is above the limit of such a record: 16640 bytes in
+///   epoch 0 and in DTLS 1.3, else 18432.
+/// - `Error` of kind `LengthValue` if an encrypted record of DTLS 1.3 has fewer than 16 bytes.
 #[tactic(auto, using(layouts::proofs::OneAnswerLemmas::read_allowed), unfolding(crate::specs::DatagramRecord::datagram_record13))]
 pub fn read_datagram_record(i: &[u8], connection_id_len: usize) -> IResult<&[u8], DatagramRecord>
     ensures { Gives view_datagram_record (datagram_record13 connection_id_len) i.now result }

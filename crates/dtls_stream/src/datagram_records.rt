@@ -1,13 +1,13 @@
-//! The records of a datagram, one after the other.
+//! An iterator over the records of a datagram.
 ghost use Rattle.std.specs.Prelude.{◌≡◌};
 
 use crate::datagram_record::{DatagramRecord, read_datagram_record};
 
-/// The records of a datagram (RFC 9147, section 4), as [`read_datagram_record`] reads each, up to the first that isn't read; each is read as
-/// the walk comes to it.
+/// The records of a datagram (RFC 9147, section 4), each parsed by [`read_datagram_record`] when
+/// the iterator reaches it. It ends at the first that isn't parsed.
 ///
-/// Nothing is judged across records. Receivers drop what is left of a datagram from a record on that has a connection id of another
-/// association (RFC 9147, section 4).
+/// Nothing is checked across records. Receivers drop the rest of a datagram from the first record
+/// that has the connection ID of another association (RFC 9147, section 4).
 #[derive(Clone, Copy, Debug, PartialEq)]
 pub struct DatagramRecords<'a> {
     left: &'a [u8],
@@ -15,8 +15,8 @@ pub struct DatagramRecords<'a> {
 }
 
 impl<'a> DatagramRecords<'a> {
-    /// Those of `datagram`, which has to be whole. `connection_id_len` is the length of the connection ids that its receiver asked for in its
-    /// hello, 0 where there are none.
+    /// The records of `datagram`, which must be whole. `connection_id_len` is the length of the
+    /// connection IDs that its receiver asked for in its hello, 0 if there are none.
     pub fn new(datagram: &'a [u8], connection_id_len: usize) -> Self
         ensures datagram { result.left.now ≡ datagram.now }
         ensures connection_id_len { result.connection_id_len ≡ connection_id_len }
@@ -27,7 +27,8 @@ impl<'a> DatagramRecords<'a> {
         }
     }
 
-    /// The bytes that aren't walked yet. At the end of a walk they are empty, or [`read_datagram_record`] refuses them, and says why.
+    /// The bytes that weren't iterated yet. At the end they are empty, or [`read_datagram_record`]
+    /// refuses them and gives the reason.
     pub fn left(self) -> &'a [u8]
         ensures { result.now ≡ self.entry.left.now }
     {
@@ -42,7 +43,8 @@ impl<'a> Iterator for DatagramRecords<'a> {
 
     type Item = DatagramRecord<'a>;
 
-    ghost next_gives = { YieldsFirstBy view_datagram_record (λ s. items_in (datagram_record13 s.connection_id_len) s.left.now) };
+    ghost next_gives = { YieldsFirstBy view_datagram_record
+        (λ s. items_in (datagram_record13 s.connection_id_len) s.left.now) };
 
     ghost remaining = { item_count (λ s. items_in (datagram_record13 s.connection_id_len) s.left.now) };
 

@@ -1,4 +1,4 @@
-//! Datagrams of one direction.
+//! The datagrams of one direction.
 ghost use Rattle.std.specs.Prelude.{◌≡◌, OnErr, OnOk, IfOk};
 ghost use Rattle.dtls_stream.specs.Messages.{Heard, Limits as Allowed, Stands, nothing, view_events, view_limits};
 ghost use Rattle.dtls_stream.specs.Datagrams.{IsDatagramCut, IsStep, datagram as datagram_step, datagrams as datagrams_step, views};
@@ -9,14 +9,16 @@ use crate::records::{hear_record, read_record, tell_unread};
 use layouts::OutOfMemory;
 use std::alloc::Global;
 
-/// Takes a datagram of one direction, and puts what it says behind the events. `messages` holds what came of that direction.
+/// Reads a datagram of one direction and appends its events to `events`. `messages` holds the state
+/// of that direction.
 ///
-/// A record that isn't read is told as a fault. Where its length is too large, or the datagram ends within it, nothing behind it
-/// in this datagram is read.
+/// A record that can't be parsed is reported as a fault. If its length is too large, or the
+/// datagram ends within it, the rest of the datagram is skipped.
 ///
-/// `OutOfMemory` where what comes could not be held, or not be told. Then what was told stands, and what is told of this datagram is a
-/// front of its events. The first of its fragments were taken, and no message is lost: each that they complete is told, or is still
-/// held whole and stands next, so that it is handed out with the next fragment that is taken, or by `Messages::take_front`.
+/// `OutOfMemory` if there is no memory for a fragment or an event. Earlier events stay, and a
+/// prefix of this datagram's events follows them. A prefix of its fragments was added, and no
+/// message is lost: each that they complete is either reported or still buffered whole as the next
+/// one. It is delivered with the next fragment, or by `Messages::take_front`.
 pub fn read_datagram<'a>(
     alloc: Global,
     messages: &mut Messages,
@@ -24,9 +26,13 @@ pub fn read_datagram<'a>(
     events: &mut Vec<Event<'a>>,
 ) -> Result<(), OutOfMemory>
     ensures told { (l : Allowed) (h : Heard) → Stands l h messages.old
-        → OnOk result (IsStep l (datagram_step l h datagram.now) (view_events events.old.items) (view_events events.new.items) messages.new) }
+        → OnOk result
+        (IsStep l (datagram_step l h datagram.now) (view_events events.old.items)
+        (view_events events.new.items) messages.new) }
     ensures stopped { (l : Allowed) (h : Heard) → Stands l h messages.old
-        → OnErr result (IsDatagramCut l h datagram.now (view_events events.old.items) (view_events events.new.items) messages.new) }
+        → OnErr result
+        (IsDatagramCut l h datagram.now (view_events events.old.items)
+        (view_events events.new.items) messages.new) }
 {
     let mut left = datagram;
     'records: for taken in 0..datagram.len() {
@@ -41,15 +47,17 @@ pub fn read_datagram<'a>(
     Ok(())
 }
 
-/// What these datagrams of one direction say, which come one after the other.
+/// The events of one direction's datagrams, in order.
 ///
-/// `OutOfMemory` where what comes could not be held, or not be told.
+/// `OutOfMemory` if there is no memory for a fragment or an event.
 pub fn read_datagrams<'a>(
     alloc: Global,
     limits: Limits,
     datagrams: &[&'a [u8]],
 ) -> Result<Vec<Event<'a>>, OutOfMemory>
-    ensures { IfOk result (λ es. view_events es.items ≡ (datagrams_step (view_limits limits) nothing (views datagrams.now)).1) }
+    ensures { IfOk result
+        (λ es. view_events es.items
+        ≡ (datagrams_step (view_limits limits) nothing (views datagrams.now)).1) }
 {
     let mut messages = Messages::new(alloc, limits);
     let mut events = Vec::new(alloc);

@@ -1,4 +1,4 @@
-//! What a side of DTLS says, as an event of a flow.
+//! A DTLS side's events as input for a flow.
 ghost use Rattle.std.specs.Prelude.{◌≡◌};
 ghost use Rattle.std.specs.Option.{option_map};
 ghost use Rattle.tls_flow.specs.Bytes.{view_heard};
@@ -8,7 +8,8 @@ ghost use Rattle.dtls_stream.specs.FlowEvents.{event_in_datagram, event_in_datag
 use crate::event::Event;
 use tls_flow::{Direction, Event as FlowEvent, HandshakeMessage, Kind};
 
-/// The handshake message that a side of DTLS says, with its ServerHello read; `None` where it says another thing.
+/// The handshake message of an event, with its ServerHello parsed; `None` if the event is another
+/// one.
 pub fn datagram_message<'a>(event: &'a Event<'_>) -> Option<HandshakeMessage<'a>>
     ensures { option_map view_heard result ≡ message_in_datagram (view_event event.now) }
 {
@@ -21,7 +22,8 @@ pub fn datagram_message<'a>(event: &'a Event<'_>) -> Option<HandshakeMessage<'a>
     }
 }
 
-/// What a side of DTLS says, as an event, where `kind` is that of the handshake message.
+/// The flow event of a DTLS event, where the caller gives the `kind` of a handshake message. `None`
+/// as [`dtls_event`] has it.
 pub fn dtls_event_with(event: &Event<'_>, kind: Kind, side: Direction) -> Option<FlowEvent>
     ensures { result ≡ event_in_datagram_with side (view_event event.now) kind }
 {
@@ -34,9 +36,9 @@ pub fn dtls_event_with(event: &Event<'_>, kind: Kind, side: Direction) -> Option
     }
 }
 
-/// The event that a side of DTLS says, from its datagrams. `None` for what its peer drops, which says nothing: a record, or the
-/// rest of one, that can't be read (RFC 6347, section 4.1.2.7), and a fragment that isn't taken, as one of a message that was handed out
-/// before and is sent again (section 4.2.4). A ChangeCipherSpec that is sent again is to be left out before.
+/// The flow event of a DTLS event. `None` for what the peer drops: a record, or the rest of one,
+/// that can't be parsed (RFC 6347, section 4.1.2.7), and a refused fragment, such as one of a
+/// retransmitted message (section 4.2.4). The caller leaves out a retransmitted ChangeCipherSpec.
 pub fn dtls_event(event: &Event<'_>, side: Direction) -> Option<FlowEvent>
     ensures { result ≡ event_in_datagram side (view_event event.now) }
 {

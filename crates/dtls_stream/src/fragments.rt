@@ -1,4 +1,4 @@
-//! Fragments of a handshake message of DTLS (RFC 6347, section 4.2.3).
+//! Fragments of a DTLS handshake message (RFC 6347, section 4.2.3).
 ghost use Rattle.std.specs.Prelude.{◌≡◌, ◌↔◌, ◌⊎◌, ◌+◌, ◌≤◌, ◌<◌, ℕ, length, sum_by, true, false, Ok, Err, Some, None, IsErr, IsSome, IfSome, OnOk};
 ghost use Rattle.layouts.specs.Answers.{Gives};
 ghost use Rattle.dtls_stream.specs.Fragments.{Fragment as Value, fragment as fragment_layout, Held, IsAdded, IsBegun, IsBody, IsComplete, IsCounted, absent, byte, cell, given, judged, or_else, view_fragment};
@@ -11,24 +11,25 @@ use std::alloc::{AllocError, Global};
 use std::marker::Model;
 use tls_base::TlsHandshakeType;
 
-/// Why a fragment isn't taken. Nothing that is held changes by it.
+/// Why a fragment is refused. The buffer doesn't change.
 #[derive(Clone, Copy, Debug, PartialEq)]
 pub enum FragmentError {
-    /// Its message was handed out before: it is repeated.
+    /// Its message was delivered already: it is a retransmission.
     Old,
-    /// Its message is further ahead of the next one than is held.
+    /// Its message is further ahead of the next one than the limit allows.
     TooFarAhead,
-    /// The whole message is longer than the caller allows.
+    /// The whole message is longer than the limit allows.
     TooLarge,
-    /// It is of a message of another number.
+    /// Its message's number is another.
     OtherMessage,
-    /// Its message's type is another than was said before. No call answers it: the first type stands, and the bytes are taken.
+    /// Its message's type differs from the first fragment's. No call returns this: the first type
+    /// is kept, and the bytes are added.
     OtherType,
-    /// Its message's length is another than was said before.
+    /// Its message's length differs from the first fragment's.
     OtherLength,
-    /// It reaches behind the end of its message.
+    /// It reaches past the end of its message.
     Outside,
-    /// Memory ran out for its bytes.
+    /// There is no memory for its bytes.
     OutOfMemory,
 }
 
@@ -40,26 +41,26 @@ impl From<AllocError> for FragmentError {
     }
 }
 
-/// A handshake message of DTLS whose body is there in part or whole (RFC 6347, section 4.2.2).
+/// A fragment of a DTLS handshake message, or the whole message (RFC 6347, section 4.2.2).
 #[derive(Clone, Debug, PartialEq, Drop)]
 pub struct Fragment<'a> {
-    /// What the message is.
+    /// The HandshakeType.
     pub msg_type: TlsHandshakeType,
     /// The length of the whole message's body, in bytes.
     pub length: u32,
-    /// The place of the message among those of its sender.
+    /// The message's sequence number.
     pub message_seq: u16,
     /// Where the fragment begins in the body, in bytes.
     pub fragment_offset: u32,
-    /// The bytes of the body from there on.
+    /// The fragment's bytes of the body.
     pub body: &'a [u8],
 }
 
-/// Reads a handshake message of DTLS, or a fragment of one (RFC 6347, section 4.2.2), and leaves its body as it stands: 1 byte of
-/// type, 3 of length, 2 of message number, 3 of fragment offset and 3 of fragment length, all big-endian, and as many bytes as
-/// the fragment length says.
+/// Parses a DTLS handshake message or a fragment of one (RFC 6347, section 4.2.2), with its body
+/// unparsed: 1 byte of type, 3 of length, 2 of message number, 3 of fragment offset and 3 of
+/// fragment length, all big-endian, and as many bytes as the fragment length says.
 ///
-/// `Incomplete` of the count of missing bytes.
+/// `Incomplete` with the count of missing bytes.
 #[tactic(auto, using(layouts::proofs::OneAnswerLemmas::read_allowed), unfolding(crate::specs::Fragments::fragment))]
 pub fn parse_dtls_fragment(i: &[u8]) -> IResult<&[u8], Fragment>
     ensures { Gives view_fragment fragment_layout i.now result }
@@ -96,11 +97,12 @@ impl<'a> Item<'a> for Fragment<'a> {
     }
 }
 
-/// Puts bytes from a place on where none are yet, and gives their count.
+/// Copies bytes to `offset` where no byte is known yet, and returns how many it copied.
 fn fill(have: &mut [bool], held: &mut [u8], offset: usize, bytes: &[u8]) -> usize
     requires inside { offset + length bytes.now ≤ length have.old }
     requires both { length have.old ≡ length held.old }
-    ensures cells { (i : ℕ) → cell have.new held.new i ≡ or_else (cell have.old held.old i) (given offset bytes.now (length bytes.now) i) }
+    ensures cells { (i : ℕ) → cell have.new held.new i ≡ or_else (cell have.old held.old i)
+        (given offset bytes.now (length bytes.now) i) }
     ensures count { result + sum_by absent have.new ≡ sum_by absent have.old }
 {
     let mut filled = 0;
@@ -115,11 +117,11 @@ fn fill(have: &mut [bool], held: &mut [u8], offset: usize, bytes: &[u8]) -> usiz
     filled
 }
 
-/// A message of which fragments are there.
+/// A message that is being reassembled.
 ///
-/// Its value in a contract is what they say of it, and the byte at each place where one is there. No length that a peer writes
-/// takes memory: memory grows with the highest place that came, and time with that place and the bytes of the fragments. No
-/// clause says either.
+/// Its value in a contract is the fields that the fragments give, and the byte at each place that
+/// they cover. A length in a header never allocates: memory grows with the highest place that
+/// arrived, and time with that place and the bytes of the fragments. No clause says either.
 #[derive(Drop)]
 pub struct Fragments {
     msg_type: TlsHandshakeType,
@@ -133,13 +135,20 @@ pub struct Fragments {
 impl Model for Fragments {
     ghost Value = { Held };
 
-    ghost view = { λ s. record { msg_type = s.msg_type.0; message_seq = s.message_seq; size = s.size; there = s.have.items; held = s.bytes.items } };
+    ghost view = { λ s. record {
+      msg_type = s.msg_type.0;
+      message_seq = s.message_seq;
+      size = s.size;
+      there =
+          s.have.items;
+      held = s.bytes.items;
+    } };
 
     ghost invariant = { λ s. IsCounted s.size s.filled s.have.items s.bytes.items };
 }
 
 impl Fragments {
-    /// Begins the message of this fragment, with none of its bytes. It takes no memory.
+    /// An empty message with the fields of this fragment. It doesn't allocate.
     pub fn new(alloc: Global, first: &Fragment) -> Fragments
         ensures { IsBegun result (view_fragment first.now) }
     {
@@ -153,7 +162,7 @@ impl Fragments {
         }
     }
 
-    /// Asks for memory up to a place: for twice as many bytes, but for no more than the message has.
+    /// Reserves memory for `end` bytes: for twice as many, but at most the length of the message.
     fn reserve(&mut self, end: usize) -> Result<(), AllocError>
         requires { end ≤ self.old.size }
         ensures { self.new ≡ self.old }
@@ -171,12 +180,13 @@ impl Fragments {
         self.have.reserve_exact(room - held)
     }
 
-    /// Makes room up to a place, of which no byte is there.
+    /// Extends the buffer up to `end`, without new bytes of the message.
     fn grow(&mut self, end: usize) -> Result<(), AllocError>
         requires { end ≤ self.old.size }
         ensures refused { IsErr result → self.new ≡ self.old }
         ensures room { OnOk result (end ≤ length self.new.there) }
-        ensures same { OnOk result ((self.new.msg_type ≡ self.old.msg_type) × (self.new.size ≡ self.old.size) × (self.new.message_seq ≡ self.old.message_seq)) }
+        ensures same { OnOk result ((self.new.msg_type ≡ self.old.msg_type) × (self.new.size ≡ self.old.size)
+            × (self.new.message_seq ≡ self.old.message_seq)) }
         ensures bytes { (i : ℕ) → byte self.new i ≡ byte self.old i }
     {
         self.reserve(end)?;
@@ -192,12 +202,15 @@ impl Fragments {
         Ok(())
     }
 
-    /// Adds the bytes of a fragment where none are there yet; the first stand, and so does the first type that was said.
+    /// Adds the bytes of a fragment where none are known yet. The first bytes are kept, and so is
+    /// the first type.
     ///
-    /// It is refused, and nothing changes, where it says another number or length of its message than was said
-    /// before, or reaches behind its end; or where memory runs out for its bytes.
+    /// It is refused, and nothing changes, if its message number or length differs from the first
+    /// fragment's, if it reaches past the end of the message, or if there is no memory for its
+    /// bytes.
     pub fn add(&mut self, fragment: &Fragment) -> Result<(), FragmentError>
-        ensures answer { (result ≡ Err fragment_error.OutOfMemory) ⊎ (result ≡ judged self.old (view_fragment fragment.now)) }
+        ensures answer { (result ≡ Err fragment_error.OutOfMemory)
+            ⊎ (result ≡ judged self.old (view_fragment fragment.now)) }
         ensures added { OnOk result (IsAdded self.old (view_fragment fragment.now) self.new) }
         ensures refused { IsErr result → self.new ≡ self.old }
     {
@@ -217,17 +230,20 @@ impl Fragments {
         Ok(())
     }
 
-    /// Puts bytes where none are yet.
+    /// Copies bytes to `offset` where none are known yet.
     fn put(&mut self, offset: usize, bytes: &[u8])
         requires { offset + length bytes.now ≤ length self.old.there }
-        ensures same { (self.new.msg_type ≡ self.old.msg_type) × (self.new.size ≡ self.old.size) × (self.new.message_seq ≡ self.old.message_seq) }
-        ensures bytes { (i : ℕ) → byte self.new i ≡ or_else (byte self.old i) (given offset bytes.now (length bytes.now) i) }
+        ensures same { (self.new.msg_type ≡ self.old.msg_type) × (self.new.size ≡ self.old.size)
+            × (self.new.message_seq ≡ self.old.message_seq) }
+        ensures bytes { (i : ℕ) → byte self.new i ≡ or_else (byte self.old i)
+            (given offset bytes.now (length bytes.now) i) }
     {
         let filled = fill(&mut self.have, &mut self.bytes, offset, bytes);
         self.filled += filled;
     }
 
-    /// How many bytes of memory it takes, at most, besides itself: as many as there are places, or more.
+    /// An upper bound for the memory that it uses besides itself, in bytes: at least one for each
+    /// place.
     pub fn capacity(&self) -> usize
         ensures { length self.now.held ≤ result }
     {
@@ -235,7 +251,7 @@ impl Fragments {
         bytes.saturating_add(self.have.capacity())
     }
 
-    /// The message's body, exactly where all its bytes are there.
+    /// The message's body, exactly if all its bytes are known.
     #[tactic(auto, using(crate::proofs::HeldLemmas::complete_body, crate::proofs::HeldLemmas::body_complete, crate::proofs::HeldLemmas::complete_full))]
     pub fn body(&self) -> Option<&[u8]>
         ensures complete { IsSome result ↔ IsComplete self.now }
@@ -248,9 +264,14 @@ impl Fragments {
         Some(&self.bytes)
     }
 
-    /// The message, of the bytes that are held.
+    /// The message with the bytes of the buffer.
     pub(crate) fn into_message(self) -> Message
-        ensures { view_message result ≡ record { msg_type = self.msg_type; message_seq = self.message_seq; body = self.held } }
+        ensures { view_message result ≡ record {
+          msg_type = self.msg_type;
+          message_seq =
+              self.message_seq;
+          body = self.held;
+        } }
     {
         Message {
             msg_type: self.msg_type,

@@ -1,12 +1,18 @@
-//! What one direction of a conversation in DTLS says, from its datagrams (RFC 6347, sections 4.1 and 4.2).
+//! Reads one direction of a DTLS conversation from its datagrams (RFC 6347, sections 4.1 and 4.2).
 //!
-//! A handshake message is put together from its fragments, which come in any order, cut anew, repeated or overlapping; messages are
-//! handed out in the order of their numbers, each once (RFC 6347, sections 4.2.2 to 4.2.4). Records of an epoch above 0 are
-//! encrypted and aren't read. [`dtls_event`] makes events of a flow from what is said.
+//! A handshake message is reassembled from its fragments, which may arrive in any order,
+//! refragmented, repeated or overlapping. Messages are delivered in the order of their numbers,
+//! each once (RFC 6347, sections 4.2.2 to 4.2.4). Records of an epoch above 0 are encrypted and
+//! aren't parsed. [`dtls_event`] turns the events into those of a flow.
 //!
-//! Of DTLS 1.3 (RFC 9147) encrypted records are read up to what is encrypted, acknowledgments of records, and the records of a datagram in each form that
-//! there is up to DTLS 1.3. Each of these calls reads one structure from the front of bytes, takes no memory, and answers what a layout of `specs/` allows
-//! there: the value and the exact rest, the kind of the broken rule, or the exact count of missing bytes.
+//! [`laws`] states the promise: whatever the order and overlap of the fragments, the messages
+//! delivered are the longest prefix of those that the accepted fragments cover.
+//! `specs/Messages.antt`, `specs/Datagrams.antt` and `specs/Sent.antt` define it.
+//!
+//! For DTLS 1.3 (RFC 9147) it parses encrypted records up to their ciphertext, ACKs, and the
+//! records of a datagram in every form up to DTLS 1.3. Each of these calls parses one structure at
+//! the front of bytes and doesn't allocate. It returns what a layout of `specs/` allows: the value
+//! and the exact rest, the kind of the broken rule, or the exact count of missing bytes.
 #![tactic(auto)]
 
 mod ack;

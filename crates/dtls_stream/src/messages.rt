@@ -10,22 +10,22 @@ use std::alloc::{AllocError, Global};
 use std::marker::Model;
 use std::mem::size_of;
 
-/// What a caller allows.
+/// The limits that a caller sets.
 #[derive(Clone, Copy, Debug, PartialEq)]
 pub struct Limits {
-    /// How many bytes a message's body may have.
+    /// The longest body of a message, in bytes.
     pub message: usize,
-    /// Of how many messages fragments may be held at a time, the next one among them.
+    /// How many messages may be buffered at a time, including the next one.
     pub ahead: u16,
 }
 
-/// The limits for a caller with none of its own: a body of 131,072 bytes, and 16 messages.
+/// The default limits: a body of 131,072 bytes, and 16 messages.
 pub const DEFAULT_LIMITS: Limits = Limits {
     message: 131_072,
     ahead: 16,
 };
 
-/// What is held of one direction: the messages from the next one on of which fragments came.
+/// The reassembly buffer of one direction: fragments of the next message and of those ahead of it.
 #[derive(Drop)]
 pub struct Messages {
     alloc: Global,
@@ -42,7 +42,7 @@ impl Model for Messages {
     ghost invariant = { λ s. (length s.slots.items ≤ s.limits.ahead) × (s.next + length s.slots.items ≤ 65536) };
 }
 
-/// Adds places with nothing in them, up to n.
+/// Appends empty slots, up to n of them.
 fn widen(slots: &mut Vec<Option<Fragments>>, n: usize) -> Result<(), AllocError>
     ensures refused { IsErr result → slots.new.items ≡ slots.old.items }
     ensures kept { (k : ℕ) → get_or slots.new.items k None ≡ get_or slots.old.items k None }
@@ -59,7 +59,7 @@ fn widen(slots: &mut Vec<Option<Fragments>>, n: usize) -> Result<(), AllocError>
     Ok(())
 }
 
-/// Adds a fragment to what is held of its message.
+/// Adds a fragment to its message's slot.
 fn add_to(
     alloc: Global,
     slot: &mut Option<Fragments>,
@@ -81,7 +81,7 @@ fn add_to(
 }
 
 impl Messages {
-    /// Holds nothing, and takes no memory. The next message is that of number 0.
+    /// An empty buffer, whose next message is number 0. It doesn't allocate.
     pub fn new(alloc: Global, limits: Limits) -> Messages
         ensures { Stands (view_limits limits) nothing result }
     {
@@ -93,7 +93,8 @@ impl Messages {
         }
     }
 
-    /// Holds nothing, and takes no memory. The next message is that of this number: those in front of it came where nobody heard them.
+    /// An empty buffer, whose next message is number `first`: the earlier ones were not captured.
+    /// It doesn't allocate.
     pub fn beginning_at(alloc: Global, limits: Limits, first: u16) -> Messages
         ensures { Stands (view_limits limits) (nothing_from first) result }
     {
@@ -112,7 +113,8 @@ impl Messages {
         self.next
     }
 
-    /// How many bytes of memory it takes, at most, besides itself: the parts of messages that are held, and a place for each.
+    /// An upper bound for the memory that it uses besides itself, in bytes: the buffered fragments
+    /// and the slots.
     pub fn capacity(&self) -> usize {
         let mut bytes = self
             .slots
@@ -126,12 +128,13 @@ impl Messages {
         bytes
     }
 
-    /// Adds a fragment in a place.
+    /// Adds a fragment to a slot.
     fn add_at(&mut self, index: usize, fragment: &Fragment) -> Result<(), FragmentError>
         requires near { index < self.old.limits.ahead }
         requires number { self.old.next + index < 65536 }
         ensures answer { IsOrMemory result (slot_judged (slot self.old index) (view_fragment fragment.now)) }
-        ensures added { OnOk result (IsSlotAdded (slot self.old index) (view_fragment fragment.now) (slot self.new index)) }
+        ensures added { OnOk result
+            (IsSlotAdded (slot self.old index) (view_fragment fragment.now) (slot self.new index)) }
         ensures changed { OnOk result (IsChangedAt self.old index self.new) }
         ensures refused { IsErr result → self.new ≡ self.old }
     {
@@ -144,11 +147,13 @@ impl Messages {
         answer
     }
 
-    /// Takes a fragment, or tells why it isn't taken; then nothing changes.
+    /// Adds a fragment, or returns why it is refused; then nothing changes.
     pub fn add(&mut self, fragment: &Fragment) -> Result<(), FragmentError>
-        ensures answer { (l : Allowed) (h : Heard) → Stands l h self.old → IsOrMemory result (verdict l h (view_fragment fragment.now)) }
+        ensures answer { (l : Allowed) (h : Heard) → Stands l h self.old
+            → IsOrMemory result (verdict l h (view_fragment fragment.now)) }
         ensures taken { (l : Allowed) (h : Heard) → Stands l h self.old
-            → OnOk result (Stands l (record h { taken = with_taken h (view_fragment fragment.now) }) self.new) }
+            → OnOk result
+            (Stands l (record h { taken = with_taken h (view_fragment fragment.now) }) self.new) }
         ensures refused { IsErr result → self.new ≡ self.old }
     {
         let seq = fragment.message_seq as u32;
@@ -165,9 +170,10 @@ impl Messages {
         self.add_at(index, fragment)
     }
 
-    /// Whether all bytes of the next message are there.
+    /// Whether the next message is whole.
     pub fn is_front_whole(&self) -> bool
-        ensures { (l : Allowed) (h : Heard) → Stands l h self.now → result ≡ is_some (message_of (of_message h.next h.taken)) }
+        ensures { (l : Allowed) (h : Heard) → Stands l h self.now
+            → result ≡ is_some (message_of (of_message h.next h.taken)) }
     {
         let Some(Some(part)) = self.slots.first() else {
             return false;
@@ -175,12 +181,14 @@ impl Messages {
         part.body().is_some()
     }
 
-    /// Takes the next message, where all its bytes are there. It takes no memory.
+    /// Removes and returns the next message, if it is whole. It doesn't allocate.
     pub fn take_front(&mut self) -> Option<Message>
         ensures places { length self.new.slots + (if is_some result then 1 else 0) ≡ length self.old.slots }
-        ensures message { (l : Allowed) (h : Heard) → Stands l h self.old → option_map view_message result ≡ message_of (of_message h.next h.taken) }
+        ensures message { (l : Allowed) (h : Heard) → Stands l h self.old
+            → option_map view_message result ≡ message_of (of_message h.next h.taken) }
         ensures stands { (l : Allowed) (h : Heard) → Stands l h self.old
-            → Stands l (record h { next = (if is_some result then h.next + 1 else h.next) }) self.new }
+            → Stands l (record h { next = (if is_some result then h.next + 1 else h.next) })
+            self.new }
     {
         let Some(Some(part)) = self.slots.first() else {
             return None;

@@ -1,4 +1,4 @@
-//! What is told of fragments that come one after the other.
+//! The events of fragments, in order.
 ghost use Rattle.std.specs.Prelude.{◌≡◌, ◌∷◌, [], OnOk, OnErr, IfOk};
 ghost use Rattle.dtls_stream.specs.Fragments.{view_fragment, view_fragments};
 ghost use Rattle.dtls_stream.specs.Messages.{AreHandedOut, AreHeard, AreKept, Heard, IsHeard, IsStopped, Limits as Allowed, Stands, events as events_of, nothing, view_events, view_limits};
@@ -9,13 +9,16 @@ use crate::messages::{Limits, Messages};
 use std::alloc::Global;
 use tls_base::OutOfMemory;
 
-/// Hands out the messages that stand next and are there whole. Room for one is made before it is taken off, so that where memory
-/// is refused it is still held.
+/// Delivers the next messages as long as they are whole. It reserves room for each before removing
+/// it, so that a message stays buffered if memory runs out.
 fn hand_out(messages: &mut Messages, events: &mut Vec<Event>) -> Result<(), OutOfMemory>
     ensures told { (l : Allowed) (h : Heard) → Stands l h messages.old
-        → OnOk result (AreHandedOut l h (view_events events.old.items) (view_events events.new.items) messages.new) }
+        → OnOk result
+        (AreHandedOut l h (view_events events.old.items) (view_events events.new.items)
+        messages.new) }
     ensures stopped { (l : Allowed) (h : Heard) → Stands l h messages.old
-        → OnErr result (AreKept l h (view_events events.old.items) (view_events events.new.items) messages.new) }
+        → OnErr result
+        (AreKept l h (view_events events.old.items) (view_events events.new.items) messages.new) }
 {
     'whole: while messages.is_front_whole() {
         events.reserve(1)?;
@@ -27,16 +30,20 @@ fn hand_out(messages: &mut Messages, events: &mut Vec<Event>) -> Result<(), OutO
     Ok(())
 }
 
-/// Takes a fragment, and puts what is told of it behind the events.
+/// Adds a fragment and appends its events.
 fn hear(
     messages: &mut Messages,
     fragment: &Fragment,
     events: &mut Vec<Event>,
 ) -> Result<(), OutOfMemory>
     ensures told { (l : Allowed) (h : Heard) → Stands l h messages.old
-        → OnOk result (IsHeard l h (view_fragment fragment.now) (view_events events.old.items) (view_events events.new.items) messages.new) }
+        → OnOk result
+        (IsHeard l h (view_fragment fragment.now) (view_events events.old.items)
+        (view_events events.new.items) messages.new) }
     ensures stopped { (l : Allowed) (h : Heard) → Stands l h messages.old
-        → OnErr result (IsStopped l h (view_fragment fragment.now ∷ []) (view_events events.old.items) (view_events events.new.items) messages.new) }
+        → OnErr result
+        (IsStopped l h (view_fragment fragment.now ∷ []) (view_events events.old.items)
+        (view_events events.new.items) messages.new) }
 {
     match messages.add(fragment) {
         Ok(()) => hand_out(messages, events),
@@ -48,20 +55,24 @@ fn hear(
     }
 }
 
-/// Takes fragments one after the other, and puts what is told of them behind the events.
+/// Adds fragments in order and appends their events to `events`.
 ///
-/// `OutOfMemory` where what comes could not be held, or not be told. Then the first of the fragments were taken, what is told of them
-/// stands, and no message is lost: one that could not be told is still held, and is handed out with the next fragment that is taken,
-/// or by `Messages::take_front`.
+/// `OutOfMemory` if there is no memory for a fragment or an event. Then a prefix of the fragments
+/// was added, their events stay, and no message is lost: one that couldn't be reported is still
+/// buffered. It is delivered with the next fragment, or by `Messages::take_front`.
 pub fn read_all(
     messages: &mut Messages,
     fragments: &[Fragment],
     events: &mut Vec<Event>,
 ) -> Result<(), OutOfMemory>
     ensures told { (l : Allowed) (h : Heard) → Stands l h messages.old
-        → OnOk result (AreHeard l h (view_fragments fragments.now) (view_events events.old.items) (view_events events.new.items) messages.new) }
+        → OnOk result
+        (AreHeard l h (view_fragments fragments.now) (view_events events.old.items)
+        (view_events events.new.items) messages.new) }
     ensures stopped { (l : Allowed) (h : Heard) → Stands l h messages.old
-        → OnErr result (IsStopped l h (view_fragments fragments.now) (view_events events.old.items) (view_events events.new.items) messages.new) }
+        → OnErr result
+        (IsStopped l h (view_fragments fragments.now) (view_events events.old.items)
+        (view_events events.new.items) messages.new) }
 {
     for fragment in fragments {
         hear(messages, fragment, events)?;
@@ -69,15 +80,17 @@ pub fn read_all(
     Ok(())
 }
 
-/// What is told of these fragments of one direction, which come one after the other.
+/// The events of one direction's fragments, in order.
 ///
-/// `OutOfMemory` where what comes could not be held, or not be told.
+/// `OutOfMemory` if there is no memory for a fragment or an event.
 pub fn read_fragments(
     alloc: Global,
     limits: Limits,
     fragments: &[Fragment],
 ) -> Result<Vec<Event<'static>>, OutOfMemory>
-    ensures { IfOk result (λ es. view_events es.items ≡ events_of (view_limits limits) nothing (view_fragments fragments.now)) }
+    ensures { IfOk result
+        (λ es. view_events es.items ≡ events_of (view_limits limits) nothing
+        (view_fragments fragments.now)) }
 {
     let mut messages = Messages::new(alloc, limits);
     let mut events = Vec::new(alloc);

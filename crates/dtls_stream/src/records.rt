@@ -1,4 +1,4 @@
-//! Records of a datagram, and what is told of each.
+//! The records of a datagram, and their events.
 ghost use Rattle.std.specs.Prelude.{◌≡◌, ◌++◌, OnErr, OnOk, map};
 ghost use Rattle.layouts.specs.Answers.{Gives, refusal_of};
 ghost use Rattle.tls_records.specs.DtlsRecord.{view_header, view_message as view_content, view_raw_record};
@@ -20,7 +20,8 @@ use tls_records::{
     MAX_ENCRYPTED_LEN, MAX_RECORD_LEN, parse_dtls_record_header, parse_dtls_record_with_header,
 };
 
-/// The fragment that this message is. `None` where it was read whole: the value of a whole body doesn't keep the body's bytes.
+/// The fragment in a parsed message. `None` if the message was parsed whole: its value doesn't keep
+/// the bytes of the body.
 pub fn fragment_of<'a>(message: &DTLSMessageHandshake<'a>) -> Option<Fragment<'a>>
     ensures { option_map view_fragment result ≡ fragment_in (view_handshake message.now) }
 {
@@ -36,7 +37,7 @@ pub fn fragment_of<'a>(message: &DTLSMessageHandshake<'a>) -> Option<Fragment<'a
     }
 }
 
-/// The most bytes that a record with this header may have behind it.
+/// The limit for the length in this header, in bytes.
 fn limit_of(header: &DTLSRecordHeader) -> u16
     ensures { result ≡ limit (view_header header.now) }
 {
@@ -47,7 +48,7 @@ fn limit_of(header: &DTLSRecordHeader) -> u16
     }
 }
 
-/// The content of a record with this header, as it stands.
+/// Parses the content of a record with this header as bytes.
 #[tactic(auto, using(layouts::proofs::OneAnswerLemmas::read_allowed), unfolding(crate::specs::Datagrams::content))]
 fn content<'a>(i: &'a [u8], header: &DTLSRecordHeader) -> IResult<&'a [u8], &'a [u8]>
     ensures { Gives (λ b. b.now) (content_layout (view_header header.now)) i.now result }
@@ -58,9 +59,9 @@ fn content<'a>(i: &'a [u8], header: &DTLSRecordHeader) -> IResult<&'a [u8], &'a 
     block(i, header.length as usize)
 }
 
-/// Reads a record of a datagram, and leaves its content as it stands (RFC 6347, section 4.1).
+/// Parses a record of a datagram, with its content unparsed (RFC 6347, section 4.1).
 ///
-/// `Incomplete` where the datagram ends within it; `TooLarge` where its length is more than a record may have.
+/// `Incomplete` if the datagram ends within it; `TooLarge` if its length is above the limit.
 #[tactic(auto, using(layouts::proofs::OneAnswerLemmas::read_allowed), unfolding(crate::specs::Datagrams::datagram_record))]
 pub fn read_record(i: &[u8]) -> IResult<&[u8], DTLSRawRecord>
     ensures { Gives view_raw_record datagram_record i.now result }
@@ -70,7 +71,7 @@ pub fn read_record(i: &[u8]) -> IResult<&[u8], DTLSRawRecord>
     Ok((i, DTLSRawRecord { header, fragment }))
 }
 
-/// What a message is told as.
+/// The event of a message.
 fn told_as<'a>(message: &DTLSMessage<'a>) -> Event<'a>
     ensures { view_event result ≡ event_of (view_content message.now) }
 {
@@ -84,7 +85,7 @@ fn told_as<'a>(message: &DTLSMessage<'a>) -> Event<'a>
     }
 }
 
-/// What a refusal is told as: a datagram is whole, so what is missing doesn't come.
+/// The fault of a refusal. A datagram is whole, so missing bytes won't come.
 fn kind_of(error: Refused<Error<&[u8]>>) -> ErrorKind
     ensures { result ≡ kind_told (refusal_of error.entry) }
 {
@@ -94,9 +95,10 @@ fn kind_of(error: Refused<Error<&[u8]>>) -> ErrorKind
     }
 }
 
-/// Tells of bytes that are left behind what was read.
+/// Appends a fault if bytes are left after what was parsed.
 fn tell_left_over(rest: &[u8], events: &mut Vec<Event>) -> Result<(), OutOfMemory>
-    ensures told { OnOk result (view_events events.new.items ≡ view_events events.old.items ++ left_over rest.now) }
+    ensures told { OnOk result
+        (view_events events.new.items ≡ view_events events.old.items ++ left_over rest.now) }
     ensures stopped { OnErr result (view_events events.new.items ≡ view_events events.old.items) }
 {
     if !rest.is_empty() {
@@ -105,13 +107,15 @@ fn tell_left_over(rest: &[u8], events: &mut Vec<Event>) -> Result<(), OutOfMemor
     Ok(())
 }
 
-/// Tells of a datagram's end in which no record can be read.
+/// Appends a fault if no record can be parsed from the rest of a datagram.
 pub(crate) fn tell_unread(
     left: &[u8],
     error: Refused<Error<&[u8]>>,
     events: &mut Vec<Event>,
 ) -> Result<(), OutOfMemory>
-    ensures told { OnOk result (view_events events.new.items ≡ view_events events.old.items ++ unread left.now (refusal_of error.entry)) }
+    ensures told { OnOk result
+        (view_events events.new.items ≡ view_events events.old.items ++ unread left.now
+        (refusal_of error.entry)) }
     ensures stopped { OnErr result (view_events events.new.items ≡ view_events events.old.items) }
 {
     if !left.is_empty() {
@@ -120,12 +124,14 @@ pub(crate) fn tell_unread(
     Ok(())
 }
 
-/// Tells of messages.
+/// Appends the events of messages.
 fn tell_messages<'a>(
     messages: &[DTLSMessage<'a>],
     events: &mut Vec<Event<'a>>,
 ) -> Result<(), OutOfMemory>
-    ensures told { OnOk result (view_events events.new.items ≡ view_events events.old.items ++ map (λ m. event_of (view_content m)) messages.now) }
+    ensures told { OnOk result
+        (view_events events.new.items ≡ view_events events.old.items ++ map
+        (λ m. event_of (view_content m)) messages.now) }
     ensures stopped { OnErr result (AreToldInPart (map (λ m. event_of (view_content m)) messages.now)
         (view_events events.old.items) (view_events events.new.items)) }
 {
@@ -135,10 +141,11 @@ fn tell_messages<'a>(
     Ok(())
 }
 
-/// The version of DTLS that OpenSSL had before RFC 4347.
+/// The version that OpenSSL used before RFC 4347.
 const BEFORE_RFC: u16 = 0x0100;
 
-/// What the messages of a record are read from: all of its fragment but, in version 0x0100, the number of a message behind a ChangeCipherSpec.
+/// The bytes that a record's messages are parsed from: the whole fragment, except that in version
+/// 0x0100 a ChangeCipherSpec is followed by a message number.
 #[tactic(auto, unfolding(crate::specs::Datagrams::content_bytes))]
 fn content_bytes<'a>(raw: &DTLSRawRecord<'a>) -> &'a [u8]
     ensures { result.now ≡ content_bytes_of (view_raw_record raw.now) }
@@ -153,16 +160,20 @@ fn content_bytes<'a>(raw: &DTLSRawRecord<'a>) -> &'a [u8]
     }
 }
 
-/// Tells of a record of another type than handshake.
+/// Appends the events of a record that isn't of type handshake.
 fn tell_content<'a>(
     alloc: Global,
     raw: &DTLSRawRecord<'a>,
     events: &mut Vec<Event<'a>>,
 ) -> Result<(), OutOfMemory>
     ensures told { (h : Heard)
-        → OnOk result (view_events events.new.items ≡ view_events events.old.items ++ (content_record_step (view_raw_record raw.now) h).1) }
+        → OnOk result
+        (view_events events.new.items ≡ view_events
+        events.old.items ++ (content_record_step (view_raw_record raw.now) h).1) }
     ensures stopped { (h : Heard)
-        → OnErr result (AreToldInPart (content_record_step (view_raw_record raw.now) h).1 (view_events events.old.items) (view_events events.new.items)) }
+        → OnErr result
+        (AreToldInPart (content_record_step (view_raw_record raw.now) h).1
+        (view_events events.old.items) (view_events events.new.items)) }
 {
     match parse_dtls_record_with_header(alloc, content_bytes(raw), &raw.header) {
         Ok((rest, messages)) => {
@@ -177,7 +188,7 @@ fn tell_content<'a>(
     }
 }
 
-/// Takes the fragments of a record.
+/// Adds the fragments in a record and appends their events.
 fn read_handshake(
     alloc: Global,
     bytes: &[u8],
@@ -185,9 +196,12 @@ fn read_handshake(
     events: &mut Vec<Event>,
 ) -> Result<(), OutOfMemory>
     ensures told { (l : Allowed) (h : Heard) → Stands l h messages.old
-        → OnOk result (IsStep l (fragment_record_step bytes.now l h) (view_events events.old.items) (view_events events.new.items) messages.new) }
+        → OnOk result
+        (IsStep l (fragment_record_step bytes.now l h) (view_events events.old.items)
+        (view_events events.new.items) messages.new) }
     ensures stopped { (l : Allowed) (h : Heard) → Stands l h messages.old
-        → OnErr result (IsCut l h (fragments_in_content bytes.now) (fragment_record_step bytes.now l h).1
+        → OnErr result
+        (IsCut l h (fragments_in_content bytes.now) (fragment_record_step bytes.now l h).1
         (view_events events.old.items) (view_events events.new.items) messages.new) }
 {
     match items1::<Fragment>(alloc, bytes) {
@@ -203,9 +217,11 @@ fn read_handshake(
     }
 }
 
-/// Takes a record of one direction, and puts what it says behind the events. `messages` holds what came of that direction.
+/// Reads a record of one direction and appends its events to `events`. `messages` holds the state
+/// of that direction.
 ///
-/// `OutOfMemory` where what comes could not be held, or not be told, as [`read_datagram`](crate::read_datagram) says.
+/// `OutOfMemory` if there is no memory for a fragment or an event, as in
+/// [`read_datagram`](crate::read_datagram).
 pub fn hear_record<'a>(
     alloc: Global,
     raw: DTLSRawRecord<'a>,
@@ -213,9 +229,13 @@ pub fn hear_record<'a>(
     events: &mut Vec<Event<'a>>,
 ) -> Result<(), OutOfMemory>
     ensures told { (l : Allowed) (h : Heard) → Stands l h messages.old
-        → OnOk result (IsStep l (record_step l h (view_raw_record raw.entry)) (view_events events.old.items) (view_events events.new.items) messages.new) }
+        → OnOk result
+        (IsStep l (record_step l h (view_raw_record raw.entry)) (view_events events.old.items)
+        (view_events events.new.items) messages.new) }
     ensures stopped { (l : Allowed) (h : Heard) → Stands l h messages.old
-        → OnErr result (IsRecordCut l h (view_raw_record raw.entry) (view_events events.old.items) (view_events events.new.items) messages.new) }
+        → OnErr result
+        (IsRecordCut l h (view_raw_record raw.entry) (view_events events.old.items)
+        (view_events events.new.items) messages.new) }
 {
     if raw.header.epoch > 0 {
         events.push(Event::Encrypted(EncryptedRecord {

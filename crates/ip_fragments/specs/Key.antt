@@ -1,4 +1,4 @@
--- To which datagram a fragment belongs.
+-- The keys of datagrams in reassembly.
 use Rattle.std.specs.Hash.{HashWrites}
 use Rattle.std.specs.Hash as fed
 use Rattle.std.specs.Prelude.{ℕ, ◌++◌, ◌+◌, ◌*◌, Bool}
@@ -8,7 +8,7 @@ use Rattle.capture.specs.declared.fragment.Fragment.{Fragment}
 use Rattle.ip_fragments.specs.declared.key.Key.{Key}
 use Rattle.ip_fragments.specs.contracts.key.KeyPartialEq.TheImpl as key_eq
 
--- All of them are the same.
+-- Whether two keys are equal.
 abbrev pub are_keys : Key → Key → Bool
 are_keys = key_eq.ghosts.eq
 
@@ -26,7 +26,7 @@ key_of f = record {
   protocol = protocol_in f.source f.protocol;
 }
 
--- Of what a hash is made.
+-- The input of the key's hash.
 abbrev pub address_fed : Address → HashWrites
 address_fed (V4 n) = fed.u32 n
 address_fed (V6 upper lower) = fed.u64 upper ++ fed.u64 lower

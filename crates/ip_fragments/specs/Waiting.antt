@@ -1,13 +1,14 @@
--- A datagram of which fragments came.
+-- A datagram in reassembly.
 use Rattle.std.specs.Prelude.{◌≡◌, ℕ, ◌+◌, ◌*◌, ◌%◌, ◌==◌, ◌&&◌, ◌||◌, not, nat_lt, max, Bool, true, false, Option, Some, None, is_some, [], ◌∷◌, length, if◌then◌else◌}
 use Rattle.segments.specs.Cells.{Bytes, Cells, cell, differing, earlier, run}
 use Rattle.segments.specs.Pages.{written}
 use Rattle.capture.specs.declared.fragment.Fragment.{Fragment}
 use Rattle.ip_fragments.specs.declared.waiting.Whole.{Whole}
 
--- At each place the byte that came there first; up to which place fragments reach, and whether the last one came, which ends the datagram; the
--- protocol that the fragment with offset 0 says; whether the checksums of all headers were right; how many bytes came twice and disagreed; for
--- how many bytes it counts among those that wait; when its first fragment came.
+-- The fields: at each offset the byte that arrived there first; the offset up to which fragments
+-- reach, and whether the last fragment arrived; the protocol of the fragment with offset 0; whether
+-- all header checksums were correct; how many bytes arrived again with another value; the memory
+-- that it counts; when its first fragment arrived.
 pub record Waiting : Type 0 where
   pub cells : Cells
   pub reach : ℕ
@@ -18,7 +19,7 @@ pub record Waiting : Type 0 where
   pub weight : ℕ
   pub since : ℕ
 
--- None did.
+-- No fragment arrived.
 abbrev pub begun : ℕ → Waiting
 begun time = record {
   cells = [];
@@ -31,34 +32,35 @@ begun time = record {
   since = time;
 }
 
--- The place behind a fragment's last byte, and its byte at a place.
+-- The offset behind a fragment's last byte, and its byte at an offset.
 abbrev pub end_of : Fragment → ℕ
 end_of f = f.offset + length f.payload.now
 
 abbrev pub given : Fragment → ℕ → Option ℕ
 given f i = written f.offset f.payload.now i
 
--- Twice its bytes, and what surrounds them.
+-- Twice its bytes, and the overhead.
 abbrev pub weight_of : Fragment → ℕ
 weight_of f = length f.payload.now * 2 + 5120
 
--- The datagram would have more than 65,535 bytes.
+-- The datagram would exceed 65,535 bytes.
 abbrev pub is_too_long : Fragment → Bool
 is_too_long f = nat_lt 65535 (f.in_front + end_of f)
 
--- It isn't the last, and its length isn't a multiple of 8.
+-- It isn't the last fragment, and its length isn't a multiple of 8.
 abbrev pub is_uneven : Fragment → Bool
 is_uneven f = f.has_more && not (length f.payload.now % 8 == 0)
 
--- Two fragments say different ends, or bytes stand behind the end.
+-- Two fragments end the datagram differently, or bytes are past its end.
 abbrev pub is_other_end : Fragment → Waiting → Bool
-is_other_end f w = (not f.has_more && nat_lt (end_of f) w.reach) || (w.is_ended && nat_lt w.reach (end_of f))
+is_other_end f w = (not f.has_more && nat_lt (end_of f) w.reach)
+    || (w.is_ended && nat_lt w.reach (end_of f))
 
 abbrev pub first_protocol : Option ℕ → Fragment → Option ℕ
 first_protocol (Some p) f = Some p
 first_protocol None f = if f.offset == 0 then Some f.protocol else None
 
--- A fragment's bytes stand where none stood.
+-- A fragment's bytes are added at the offsets that have none.
 pub record IsWith (f : Fragment) (v w : Waiting) : Type 0 where
   pub bytes : (i : ℕ) → cell w.cells i ≡ earlier (cell v.cells i) (given f i)
   pub reach : w.reach ≡ max v.reach (end_of f)
@@ -69,17 +71,17 @@ pub record IsWith (f : Fragment) (v w : Waiting) : Type 0 where
   pub weight : w.weight ≡ v.weight + weight_of f
   pub since : w.since ≡ v.since
 
--- All bytes up to its end came.
+-- All bytes up to the end arrived.
 abbrev pub is_whole : Waiting → Bool
 is_whole w = w.is_ended && ((length (run w.cells) == w.reach) && is_some w.protocol)
 
--- At how many places two rows of bytes differ, as far as both go.
+-- At how many positions two lists of bytes differ, up to the shorter one's end.
 abbrev pub unlike : Bytes → Bytes → ℕ
 unlike [] ys = 0
 unlike (x ∷ xs) [] = 0
 unlike (x ∷ xs) (y ∷ ys) = (if x == y then 0 else 1) + unlike xs ys
 
--- What is handed out, with the addresses of its last fragment, which are those of all.
+-- The reassembled datagram, with the addresses of its last fragment. All its fragments have these.
 pub record IsHandedOut (f : Fragment) (w : Waiting) (d : Whole) : Type 0 where
   pub source : d.source ≡ f.source
   pub destination : d.destination ≡ f.destination

@@ -1,4 +1,4 @@
-//! The datagrams that wait for fragments.
+//! Datagrams in reassembly.
 ghost use Rattle.std.specs.Prelude.{◌≡◌, ◌≤◌, ◌<◌, ◌+◌, ◌^◌, ◌-◌, ◌==◌, [], ◌∷◌, length, nat_lt, IfOk, OnErr, OnOk, IfSome, true, false, None};
 ghost use Rattle.ip_fragments.specs.Waiting.{IsHandedOut, is_whole as is_whole_datagram, weight_of as weight_of_fragment};
 ghost use Rattle.ip_fragments.specs.Key.{key_of};
@@ -12,58 +12,61 @@ use std::alloc::{AllocError, Global};
 use std::hash::RandomState;
 use std::marker::Model;
 
-/// After so many nanoseconds of the capture's clock behind its first fragment a datagram is let go: 30 seconds, as in Linux.
+/// How long a datagram waits for fragments after its first, in nanoseconds of the capture's clock:
+/// 30 seconds, as in Linux.
 pub const WAIT_LIMIT: u64 = 30_000_000_000;
 
-/// So many bytes are held of all datagrams that wait: 32 MiB.
+/// The most memory for all datagrams in reassembly: 32 MiB.
 pub const HELD_LIMIT: usize = 33_554_432;
 
-/// What a fragment counts for besides twice its bytes: two pages of `segments`, which have 2,056 bytes, and entries of the tree of pages and of the table.
+/// What a fragment counts besides twice its bytes, in bytes: two pages of `segments`, of 2,056
+/// bytes each, and entries in the tree of pages and in the table.
 pub const FRAGMENT_COST: usize = 5120;
 
-/// The most bytes of a datagram, with its header.
+/// The longest datagram in bytes, header included.
 const MAX_DATAGRAM: usize = 65_535;
 
-/// Why a fragment isn't taken. Its datagram stays as it was.
+/// Why a fragment is refused. Its datagram doesn't change.
 #[derive(Clone, Copy, Debug, PartialEq, Eq)]
 pub enum Refusal {
-    /// The datagram would have more than 65,535 bytes.
+    /// The datagram would exceed 65,535 bytes.
     TooLong,
-    /// It isn't the last, and its length isn't a multiple of 8.
+    /// It isn't the last fragment, and its length isn't a multiple of 8.
     Uneven,
-    /// It ends the datagram elsewhere than another fragment, or in front of bytes that came; or it stands behind the end.
+    /// Its end contradicts other fragments: it is a last fragment that ends elsewhere than another,
+    /// or before bytes that arrived, or it goes past the end.
     OtherEnd,
 }
 
-/// What becomes of a fragment.
+/// What happened to a fragment.
 #[derive(Debug, PartialEq, Drop)]
 pub enum Outcome {
-    /// All bytes of its datagram came.
+    /// It completed its datagram.
     Whole(Whole),
-    /// Its datagram waits for others.
+    /// Its datagram waits for more fragments.
     Waits,
-    /// It isn't taken.
+    /// It was refused.
     Refused(Refusal),
 }
 
-/// What becomes of a fragment of a datagram that waits.
+/// What happened to a fragment of a datagram in reassembly.
 #[derive(Clone, Copy)]
 enum Step {
-    /// None waits.
+    /// No fragment of its datagram arrived before.
     Missing,
-    /// It says another end.
+    /// Its end contradicts other fragments.
     OtherEnd,
-    /// It waits for others.
+    /// The datagram waits for more fragments.
     Waits,
-    /// All its bytes came.
+    /// The datagram is complete.
     Whole,
 }
 
-/// The datagrams of which fragments came and others are missing.
+/// The datagrams in reassembly.
 #[derive(Drop)]
 pub struct Fragments {
     alloc: Global,
-    // That whose first fragment came last stands first.
+    // The datagram whose first fragment arrived last comes first.
     waiting: LruCache<Key, Waiting, RandomState>,
     held: usize,
     late: u64,
@@ -78,10 +81,11 @@ impl Model for Fragments {
 
     ghost view = { λ f. f.waiting.entries };
 
-    ghost invariant = { λ f. (f.waiting.cap ≡ 2 ^ 64 - 1) × (f.held ≡ weight f.waiting.entries) × (f.held ≤ 33554432) };
+    ghost invariant = { λ f. (f.waiting.cap ≡ 2 ^ 64 - 1) × (f.held ≡ weight f.waiting.entries)
+        × (f.held ≤ 33554432) };
 }
 
-/// Adds a fragment to its datagram, where that waits.
+/// Adds a fragment to its datagram, if that is in the table.
 #[tactic(auto, using(crate::proofs::TableLemmas::weight_at))]
 fn add_at(
     table: &mut LruCache<Key, Waiting, RandomState>,
@@ -108,7 +112,7 @@ fn add_at(
     }
 }
 
-/// For how many bytes those count that are left, and how many were let go for which reason.
+/// The memory of the datagrams that are left, and how many were dropped for which reason.
 #[derive(Clone, Copy)]
 struct Left {
     held: usize,
@@ -116,14 +120,14 @@ struct Left {
     crowded: u64,
 }
 
-/// Whether one whose first fragment came then has waited too long.
+/// Returns whether a datagram whose first fragment arrived at `since` has waited too long.
 fn is_late(time: u64, since: u64) -> bool
     ensures { result ≡ nat_lt WAIT_LIMIT (time - since) }
 {
     time.saturating_sub(since) > WAIT_LIMIT
 }
 
-/// Whether it has, or all hold too much with so many bytes more.
+/// Returns whether a datagram has waited too long, or all exceed their memory with `more` bytes.
 fn is_over(time: u64, more: usize, held: usize, since: u64) -> bool
     requires { more + held < 2 ^ 63 }
     ensures over { result ≡ true → IsOver time more held since }
@@ -132,7 +136,8 @@ fn is_over(time: u64, more: usize, held: usize, since: u64) -> bool
     is_late(time, since) || held + more > HELD_LIMIT
 }
 
-/// Lets the oldest go while it is over.
+/// Drops the oldest datagrams that have waited too long, and further ones until there is room for
+/// `more` bytes.
 #[tactic(auto, using(crate::proofs::TableLemmas::last_forgotten, crate::proofs::TableLemmas::weight_front))]
 fn forget_over(
     waiting: &mut LruCache<Key, Waiting, RandomState>,
@@ -168,7 +173,7 @@ fn forget_over(
     }
 }
 
-/// What becomes of a fragment whose datagram is whole.
+/// Returns the outcome for a fragment that completed its datagram.
 fn handed_out(waiting: Waiting, fragment: &Fragment<'_>) -> Outcome
     ensures { is_whole_datagram waiting ≡ true → HandsOut fragment.now waiting result }
 {
@@ -178,7 +183,7 @@ fn handed_out(waiting: Waiting, fragment: &Fragment<'_>) -> Outcome
     }
 }
 
-/// Puts a datagram that waits in front, under a key that none has.
+/// Adds a datagram at the front, under a key that the table doesn't have.
 fn put_in_front(
     table: &mut LruCache<Key, Waiting, RandomState>,
     key: Key,
@@ -196,7 +201,8 @@ fn put_in_front(
 }
 
 impl Fragments {
-    /// None waits. The keys are for the hashes, so that nobody who doesn't know them can choose datagrams whose hashes are the same.
+    /// Returns an empty table. `keys` keys its hashes, so that nobody without the keys can choose
+    /// datagrams whose hashes collide.
     pub fn new(alloc: Global, keys: RandomState) -> Result<Fragments, AllocError>
         ensures { IfOk result (λ f. f ≡ []) }
     {
@@ -209,7 +215,8 @@ impl Fragments {
         })
     }
 
-    /// How many bytes those that wait count for: for each fragment twice its bytes and [`FRAGMENT_COST`]. At most [`HELD_LIMIT`].
+    /// Returns the memory of the datagrams in reassembly, in bytes: for each fragment twice its
+    /// bytes and [`FRAGMENT_COST`]. At most [`HELD_LIMIT`].
     pub fn held(&self) -> usize
         ensures is { result ≡ weight self.now }
         ensures within { result ≤ 33554432 }
@@ -217,31 +224,33 @@ impl Fragments {
         self.held
     }
 
-    /// How many datagrams wait.
+    /// Returns the number of datagrams in reassembly.
     pub fn len(&self) -> usize
         ensures { result ≡ length self.now }
     {
         self.waiting.len()
     }
 
-    /// Whether none waits.
+    /// Returns whether no datagram is in reassembly.
     pub fn is_empty(&self) -> bool
         ensures { result ≡ (length self.now == 0) }
     {
         self.waiting.is_empty()
     }
 
-    /// How many were let go since a fragment was missing for [`WAIT_LIMIT`].
+    /// Returns how many datagrams were dropped because a fragment was missing for longer than
+    /// [`WAIT_LIMIT`].
     pub fn late(&self) -> u64 {
         self.late
     }
 
-    /// How many were let go since all held [`HELD_LIMIT`].
+    /// Returns how many datagrams were dropped because all exceeded [`HELD_LIMIT`].
     pub fn crowded(&self) -> u64 {
         self.crowded
     }
 
-    /// Lets the oldest go while it waited too long, or all hold too much with so many bytes more.
+    /// Drops the oldest datagrams that have waited too long, and further ones until there is room
+    /// for `more` bytes.
     fn forget(&mut self, time: u64, more: usize)
         requires { more ≤ 200000 }
         ensures forgotten { IsForgotten time more self.old self.new }
@@ -253,7 +262,7 @@ impl Fragments {
         self.crowded = self.crowded.saturating_add(left.crowded);
     }
 
-    /// Adds a fragment of a datagram of which none came before.
+    /// Adds the first fragment of a datagram.
     fn begin(&mut self, time: u64, key: Key, fragment: &Fragment<'_>) -> Result<Outcome, AllocError>
         requires short { length fragment.now.payload.now < 2 ^ 16 }
         requires missing { at key self.old ≡ None }
@@ -272,10 +281,11 @@ impl Fragments {
         Ok(Outcome::Waits)
     }
 
-    /// Takes a datagram out that is whole.
+    /// Removes a complete datagram and returns it.
     #[tactic(auto, using(crate::proofs::TableLemmas::missed, crate::proofs::TableLemmas::weight_others, crate::proofs::TableLemmas::weight_at))]
     fn take(&mut self, key: &Key, fragment: &Fragment<'_>) -> Outcome
-        ensures handed_out { IfSome (at key.now self.old) (λ w. is_whole_datagram w ≡ true → HandsOut fragment.now w result) }
+        ensures handed_out { IfSome (at key.now self.old)
+            (λ w. is_whole_datagram w ≡ true → HandsOut fragment.now w result) }
         ensures left { self.new ≡ others key.now self.old }
     {
         match self.waiting.pop(key) {
@@ -287,7 +297,7 @@ impl Fragments {
         }
     }
 
-    /// Adds a fragment to its datagram, for whose bytes there is room.
+    /// Adds a fragment to its datagram. There is room for its bytes.
     #[tactic(auto, using(crate::proofs::TableLemmas::at_with, crate::proofs::TableLemmas::others_with, crate::proofs::TableLemmas::weight_with))]
     fn put(&mut self, time: u64, fragment: &Fragment<'_>) -> Result<Outcome, AllocError>
         requires short { length fragment.now.payload.now < 2 ^ 16 }
@@ -310,13 +320,16 @@ impl Fragments {
         }
     }
 
-    /// Adds a fragment that came at that time of the capture's clock to its datagram, and hands that out where all its bytes came. Datagrams that wait too
-    /// long are let go first, and the oldest where there would be no room.
+    /// Adds a fragment that was captured at `time` to its datagram, and returns the datagram once
+    /// it is complete. Datagrams that have waited too long are dropped first, and then the oldest
+    /// if there is no room.
     ///
-    /// `AllocError` where it could not be held: it is left out, and those that were let go are.
+    /// `AllocError` if there is no memory for the fragment. It is left out then, but the datagrams
+    /// dropped before stay dropped.
     pub fn add(&mut self, time: u64, fragment: &Fragment<'_>) -> Result<Outcome, AllocError>
         ensures adds { IfOk result (λ o. Adds time fragment.now o self.old self.new) }
-        ensures err { OnErr result (IsForgotten time (weight_of_fragment fragment.now) self.old self.new) }
+        ensures err { OnErr result
+            (IsForgotten time (weight_of_fragment fragment.now) self.old self.new) }
     {
         let end = fragment.offset as usize + fragment.payload.len();
         if fragment.in_front > MAX_DATAGRAM || end > MAX_DATAGRAM - fragment.in_front {

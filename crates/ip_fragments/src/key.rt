@@ -1,4 +1,4 @@
-//! To which datagram a fragment belongs.
+//! The keys of datagrams in reassembly.
 ghost use Rattle.std.specs.Prelude.{◌≡◌, ◌++◌};
 ghost use Rattle.std.proofs.Common.{rules};
 ghost use Rattle.std.specs.Hash as fed;
@@ -8,18 +8,19 @@ ghost use Rattle.ip_fragments.specs.Key.{address_fed, key_of, number_of};
 use capture::{Address, Fragment};
 use std::hash::{Hash, Hasher};
 
-/// What the fragments of a datagram have in common.
+/// What all fragments of a datagram have in common.
 #[derive(Clone, Copy, Debug, PartialEq, Eq)]
 pub struct Key {
     source: Address,
     destination: Address,
     identification: u32,
-    // 0 in IPv6, where fragments may say different ones.
+    // 0 in IPv6, where the fragments of one datagram may have different ones.
     protocol: u8,
 }
 
 impl Key {
-    /// Source, destination, identification and protocol (RFC 791, section 3.2); in IPv6 the first three (RFC 8200, section 4.5).
+    /// Returns a fragment's key: source, destination, identification and protocol (RFC 791, section
+    /// 3.2). In IPv6 the protocol doesn't count (RFC 8200, section 4.5).
     pub(crate) fn of(fragment: &Fragment<'_>) -> Key
         ensures { result ≡ key_of fragment.now }
     {
@@ -36,7 +37,7 @@ impl Key {
     }
 }
 
-// In whole words, of which a hash is made fastest.
+// Whole words hash fastest.
 impl Hash for Key {
     ghost hash_input = { λ k. address_fed k.source ++ (address_fed k.destination ++ fed.u64 (number_of k)) };
 

@@ -1,16 +1,23 @@
-//! Datagrams of IPv4 and IPv6, put together from their fragments (RFC 791, section 3.2; RFC 8200, section 4.5).
+//! Reassembles IPv4 and IPv6 datagrams from their fragments (RFC 791, section 3.2; RFC 8200,
+//! section 4.5).
 //!
-//! [`Fragments`] holds the datagrams of which fragments came and others are missing. [`Fragments::add`] takes a fragment, as `capture` reads it, and
-//! hands out its datagram once all bytes of that came, in whatever order and however often fragments came. Of bytes that come twice the first stand;
-//! how many disagreed is told with the datagram. [`laws`] has what stands of fragments in any order.
+//! [`Fragments`] is the table of datagrams in reassembly. [`Fragments::add`] takes a fragment, as
+//! `capture` parses it, and returns its datagram once all bytes arrived, in any order and with any
+//! repeats. Where fragments overlap, the first byte stays; the datagram has the count of bytes that
+//! disagreed.
 //!
-//! A datagram isn't waited for longer than [`WAIT_LIMIT`], and all that wait hold at most [`HELD_LIMIT`] bytes: the oldest is let go first.
+//! A datagram waits at most [`WAIT_LIMIT`] for fragments, and all together take at most
+//! [`HELD_LIMIT`] bytes: beyond that the oldest are dropped.
+//!
+//! Promise: `Table.Adds` and `Waiting.IsWith` in `specs/` define what a fragment does to the table
+//! and to its datagram. [`laws`] proves that any order of fragments gives the same datagram.
 //!
 //! # Cost
 //!
-//! A fragment takes time by its own bytes, whatever came before (crate `segments`). Memory follows the bytes that came, and not where they stand: behind a
-//! gap they are held in pages of 1,024 places. So a fragment counts for twice its bytes and for
-//! what surrounds them ([`FRAGMENT_COST`]), however often it comes.
+//! A fragment takes time by its own length, whatever arrived before (crate `segments`). Memory
+//! follows the bytes that arrived, not their offsets: behind a gap they are stored in pages of
+//! 1,024 offsets. So each fragment, repeated or not, counts twice its bytes and an overhead
+//! ([`FRAGMENT_COST`]).
 #![tactic(auto)]
 
 mod fragments;

@@ -1,4 +1,4 @@
-//! A datagram of which fragments came.
+//! A datagram in reassembly.
 ghost use Rattle.std.specs.Prelude.{◌≡◌, ◌≤◌, ◌<◌, ◌+◌, ◌^◌, length, is_some, true, IfSome, Some, OnOk, OnErr};
 ghost use Rattle.segments.specs.Cells.{differing, run};
 ghost use Rattle.ip_fragments.specs.Waiting.{IsHandedOut, IsWith, begun, is_other_end as is_other_end_of, is_whole as is_whole_datagram, unlike, weight_of as weight_of_fragment};
@@ -9,28 +9,29 @@ use segments::TcpReassembler;
 use std::alloc::{AllocError, Global};
 use std::marker::Model;
 
-/// A datagram that was put together.
+/// A reassembled datagram.
 #[derive(Debug, PartialEq, Drop)]
 pub struct Whole {
-    /// Where it comes from.
+    /// The source address.
     pub source: Address,
-    /// Where it goes to.
+    /// The destination address.
     pub destination: Address,
-    /// The protocol that the fragment with offset 0 says; in IPv6 the number of the first header in the payload.
+    /// The protocol of the fragment with offset 0; in IPv6 the number of the first header in the
+    /// payload.
     pub protocol: u8,
-    /// Whether the checksums of the headers of all fragments were right.
+    /// Whether the header checksums of all fragments were correct.
     pub is_header_right: bool,
-    /// The payloads of the fragments, put together.
+    /// The reassembled payload.
     pub payload: Vec<u8>,
-    /// How many bytes came twice and disagreed; the first stand.
+    /// How many bytes arrived again with another value; the first ones stay.
     pub disagreeing: usize,
 }
 
-/// The bytes of a datagram that came, and what its fragments said of it.
+/// The bytes of a datagram that arrived, and the fields of its fragments.
 #[derive(Drop)]
 pub struct Waiting {
     segments: TcpReassembler,
-    // The place behind the last byte that came, and whether that ends the datagram.
+    // The offset behind the last byte that arrived, and whether the datagram ends there.
     reach: usize,
     is_ended: bool,
     protocol: Option<u8>,
@@ -46,12 +47,23 @@ impl Model for Waiting {
 
     ghost Value = { Waiting };
 
-    ghost view = { λ w. record { cells = w.segments.cells; reach = w.reach; is_ended = w.is_ended; protocol = w.protocol; is_header_right = w.is_header_right; disagreeing = w.disagreeing; weight = w.weight; since = w.since } };
+    ghost view = { λ w. record {
+      cells = w.segments.cells;
+      reach = w.reach;
+      is_ended = w.is_ended;
+      protocol =
+          w.protocol;
+      is_header_right = w.is_header_right;
+      disagreeing = w.disagreeing;
+      weight =
+          w.weight;
+      since = w.since;
+    } };
 
     ghost invariant = { λ w. (w.segments.first ≡ 0) × (w.segments.taken ≡ 0) × (w.disagreeing ≤ w.weight) };
 }
 
-/// For how many bytes a fragment counts.
+/// Returns the memory that a fragment counts, in bytes.
 pub(crate) fn weight_of(fragment: &Fragment<'_>) -> usize
     requires { length fragment.now.payload.now < 2 ^ 16 }
     ensures { result ≡ weight_of_fragment fragment.now }
@@ -59,7 +71,7 @@ pub(crate) fn weight_of(fragment: &Fragment<'_>) -> usize
     fragment.payload.len() * 2 + FRAGMENT_COST
 }
 
-/// At how many places two slices differ, as far as both go.
+/// Returns at how many positions two slices differ, up to the shorter one's end.
 fn count_unlike(bytes: &[u8], others: &[u8]) -> usize
     ensures is { result ≡ unlike bytes.now others.now }
     ensures within { result ≤ length others.now }
@@ -75,7 +87,7 @@ fn count_unlike(bytes: &[u8], others: &[u8]) -> usize
 }
 
 impl Waiting {
-    /// None came; the first comes at that time.
+    /// Returns an empty datagram whose first fragment arrived at `time`.
     pub(crate) fn new(alloc: Global, time: u64) -> Waiting
         ensures { result ≡ begun time }
     {
@@ -91,21 +103,21 @@ impl Waiting {
         }
     }
 
-    /// When the first came.
+    /// Returns when the first fragment arrived.
     pub(crate) fn since(&self) -> u64
         ensures { result ≡ self.now.since }
     {
         self.since
     }
 
-    /// For how many bytes it counts.
+    /// Returns the memory that the datagram counts, in bytes.
     pub(crate) fn weight(&self) -> usize
         ensures { result ≡ self.now.weight }
     {
         self.weight
     }
 
-    /// Whether a fragment says another end than others did, or stands behind the end.
+    /// Returns whether a fragment's end contradicts those of others, or it goes past the end.
     pub(crate) fn is_other_end(&self, fragment: &Fragment<'_>) -> bool
         ensures { result ≡ is_other_end_of fragment.now self.now }
     {
@@ -115,11 +127,12 @@ impl Waiting {
         ends_before || goes_behind
     }
 
-    /// At how many places other bytes came before than a fragment's.
+    /// Returns at how many offsets a fragment's byte differs from one that arrived before.
     #[tactic(auto, using(crate::proofs::CountLemmas::differing_behind))]
     fn count_differing(&self, fragment: &Fragment<'_>) -> usize
         requires { length fragment.now.payload.now < 2 ^ 16 }
-        ensures is { result ≡ differing fragment.now.offset fragment.now.payload.now self.now.cells }
+        ensures is { result ≡ differing fragment.now.offset fragment.now.payload.now
+            self.now.cells }
         ensures within { result ≤ length fragment.now.payload.now }
     {
         let front = self.segments.available();
@@ -137,9 +150,9 @@ impl Waiting {
         count_unlike(standing, there) + self.segments.differing(front.len() as u32, behind)
     }
 
-    /// Puts a fragment's bytes where none stand.
+    /// Adds the bytes of a fragment at the offsets that have none yet.
     ///
-    /// `AllocError` where they could not be held: nothing changes.
+    /// `AllocError` if there is no memory for them. Nothing changes then.
     #[tactic(auto, using(crate::proofs::CountLemmas::put_bytes))]
     pub(crate) fn add(&mut self, fragment: &Fragment<'_>) -> Result<(), AllocError>
         requires short { length fragment.now.payload.now < 2 ^ 16 }
@@ -149,7 +162,7 @@ impl Waiting {
     {
         let differing = self.count_differing(fragment);
         let place = u32::from(fragment.offset);
-        // (there is room for each place of a datagram)
+        // (no datagram exceeds the reassembler's limit, so only memory can fail)
         if self.segments.put(place, fragment.payload).is_err() {
             return Err(AllocError);
         }
@@ -166,14 +179,14 @@ impl Waiting {
         Ok(())
     }
 
-    /// Whether all bytes up to its end came.
+    /// Returns whether all bytes up to the end arrived.
     pub(crate) fn is_whole(&self) -> bool
         ensures { result ≡ is_whole_datagram self.now }
     {
         self.is_ended && self.segments.available().len() == self.reach && self.protocol.is_some()
     }
 
-    /// The datagram, where that says what it holds, between the addresses of this fragment.
+    /// Returns the datagram between the addresses of this fragment, if the protocol is known.
     pub(crate) fn into_whole(self, fragment: &Fragment<'_>) -> Option<Whole>
         ensures some { is_whole_datagram self ≡ true → is_some result ≡ true }
         ensures is { IfSome result (IsHandedOut fragment.now self) }

@@ -1,4 +1,4 @@
--- What a layout leaves is an end of the bytes.
+-- The rest that a layout leaves is a suffix of the bytes.
 use Rattle.std.proofs.Common.{[], ◌∷◌, ◌++◌, Some, None, sym, ◌∙◌, ap, subst, inl, inr, append_assoc}
 use Rattle.layouts.specs.Bytes.{Bytes, AreBytes, bytes_of}
 use Rattle.layouts.specs.Layout.{
@@ -24,7 +24,7 @@ use Rattle.layouts.proofs.NumberLemmas.{AreBytes-back}
 pub ends_after : (b m r : Bytes) → EndsWith b m → EndsWith m r → EndsWith b r
 ends_after b m r (f, e) (g, h) = (f ++ g, e ∙ ap (λ x. f ++ x) h ∙ sym (append_assoc f g r))
 
--- what some spelling leaves is an end of the bytes
+-- every rest that S allows is a suffix of the bytes
 abbrev LeavesEnds : {A : Type 0} → Spelling A → Type 0
 LeavesEnds {A} S = (b : Bytes) (v : A) (r d : Bytes) → S b v r d → EndsWith b r
 
@@ -52,9 +52,11 @@ ends (either l m) b v r d (inl s) = ends l b v r d s
 ends (either l m) b v r d (inr s) = ends m b v r d s.1
 ends (complete l) b v r d s = ends l b v r d s
 ends (look l) b v r d s = ([], s.0)
-ends (chain l f) b v r d (a, m, d1, d2, s, t, e) = ends_after b m r (ends l b a m d1 s) (ends (f a) m v r d2 t)
+ends (chain l f) b v r d (a, m, d1, d2, s, t, e) =
+    ends_after b m r (ends l b a m d1 s) (ends (f a) m v r d2 t)
 
-pub AreBytes-rest : {A : Type 0} (l : Layout A) (b : Bytes) (v : A) (r d : Bytes) → Spells l b v r d → AreBytes b
+pub AreBytes-rest : {A : Type 0} (l : Layout A) (b : Bytes) (v : A) (r d : Bytes) → Spells l b v r d
+    → AreBytes b
     → AreBytes r
 AreBytes-rest l b v r d s are =
     let end : EndsWith b r = ends l b v r d s in AreBytes-back end.0 r (subst AreBytes end.1 are)

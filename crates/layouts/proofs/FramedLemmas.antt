@@ -1,4 +1,4 @@
--- What stands in a frame is read from its content alone.
+-- A framed part: its content is read from the frame's bytes alone.
 use Rattle.std.proofs.Common.{
   ◌≡◌,
   ℕ,
@@ -35,22 +35,24 @@ use Rattle.layouts.specs.Items.{items_in, left_in, value_of, list_read, decode_w
 use Rattle.layouts.specs.Framed.{Framed, framed}
 use Rattle.layouts.proofs.ItemsLemmas.{items_first, items_none, items_decoded}
 
--- so many bytes are cut off
+-- the first part of a split has n bytes
 split_size : (n : ℕ) (b : Bytes) (x : Bytes × Bytes) → split_at n b ≡ Ok x → length x.0 ≡ n
 unfolding split_at
 split_size n b x e = go (ltb (length b) n) refl e
   where
-    go : (t : Bool) → ltb (length b) n ≡ t → cond t (Err (Lacks (n - length b))) (Ok (take n b, drop n b)) ≡ Ok x
+    go : (t : Bool) → ltb (length b) n ≡ t
+        → cond t (Err (Lacks (n - length b))) (Ok (take n b, drop n b)) ≡ Ok x
         → length x.0 ≡ n
     go true h f = absurd cc
     go false h f = let pair : ◌≡◌ {A = Bytes × Bytes} (take n b, drop n b) x =
         cc in ap (λ y. length y.0) (sym pair) ∙ length-take-le n b (ltb-false (length b) n h)
 
--- a window whose value is f of what stands in it, as a layout's part
+-- a part whose window is read by `content`, and its value mapped by f
 module _ {A B : Type 0} (f : A → B) (content : ℕ → ℕ → Layout A) where
-  -- what a content of that kind is
+  -- the value of a frame's content
   abbrev pub content_of : Framed → Result B Refusal
-  content_of x = value_of (reading (content x.kind (length x.content)) x.content and_then λ y. Ok (f y.0, y.1))
+  content_of x =
+      value_of (reading (content x.kind (length x.content)) x.content and_then λ y. Ok (f y.0, y.1))
 
   -- the steps of both readings
   abbrev finished : A × Bytes → Answer B
@@ -71,13 +73,15 @@ module _ {A B : Type 0} (f : A → B) (content : ℕ → ℕ → Layout A) where
   by_value r (Err k) = refl
 
   by_window : (kind n : ℕ) (s : Bytes × Bytes) → length s.0 ≡ n
-      → (in_window kind n s and_then finished) ≡ decoded_then (record { kind = kind; content = s.0 }, s.1)
+      → (in_window kind n s and_then finished) ≡ decoded_then
+      (record { kind = kind; content = s.0 }, s.1)
   by_window kind n s size = subst (λ m. (in_window kind m s and_then finished)
       ≡ decoded_then (record { kind = kind; content = s.0 }, s.1)) size
       (by_value s.1 (reading (content kind (length s.0)) s.0))
 
   by_content : (kind n : ℕ) (m : Bytes) (a : Answer Bytes) → split_at n m ≡ a
-      → ((a and_then in_window kind n) and_then finished) ≡ ((a and_then as_frame kind) and_then decoded_then)
+      → ((a and_then in_window kind n) and_then finished)
+      ≡ ((a and_then as_frame kind) and_then decoded_then)
   by_content kind n m (Ok s) e = by_window kind n s (split_size n m s e)
   by_content kind n m (Err e) h = refl
 
@@ -105,7 +109,8 @@ module _ {A B : Type 0} (f : A → B) (content : ℕ → ℕ → Layout A) where
   abbrev frame_behind : ℕ → ℕ × Bytes → Answer Framed
   frame_behind k x = (reading (number k) x.1 and_then cut) and_then as_frame x.0
 
-  by_kind : (k : ℕ) (a : Answer ℕ) → (a and_then behind_kind k) ≡ ((a and_then frame_behind k) and_then decoded_then)
+  by_kind : (k : ℕ) (a : Answer ℕ)
+      → (a and_then behind_kind k) ≡ ((a and_then frame_behind k) and_then decoded_then)
   by_kind k (Ok x) = by_count x.0 (reading (number k) x.1)
   by_kind k (Err e) = refl
 
@@ -113,8 +118,8 @@ module _ {A B : Type 0} (f : A → B) (content : ℕ → ℕ → Layout A) where
   unfolding framed
   framed_decodes w k b = by_kind k (reading (number w) b)
 
--- one or more items, of which the first takes a byte, are the items that are walked; where the first is refused, none
--- is
+-- `list1` of a layout whose first item isn't empty reads the items of the walk; none if the first
+-- is refused
 pub list1_walked : {A : Type 0} (l : Layout A) (b : Bytes) → LeavesFewer (length b) (reading l b)
     → list_read (reading (list1 l) b) ≡ items_in l b
 list1_walked {A} l b fewer = go (reading l b) refl fewer
@@ -126,7 +131,7 @@ list1_walked {A} l b fewer = go (reading l b) refl fewer
     go (Err (Broken k)) e short = sym (items_none l b (Broken k) e)
     go (Err (Lacks n)) e short = sym (items_none l b (Lacks n) e)
 
--- the same where the window is the layout's last part, and its value the layout's
+-- the frame as the layout's last part, with its value the value of the layout
 same_value : {A : Type 0} (a : Answer A) → a ≡ (a and_then λ x. Ok (x.0, x.1))
 same_value (Ok x) = refl
 same_value (Err e) = refl
@@ -138,7 +143,8 @@ module _ {A : Type 0} (content : ℕ → Layout A) (k : ℕ) where
   abbrev at_count_then : ℕ → ℕ × Bytes → Answer A
   at_count_then kind y = reading (window y.0 (content kind)) y.1 and_then λ x. Ok (x.0, x.1)
 
-  last_count : (kind : ℕ) (a : Answer ℕ) → (a and_then at_count kind) ≡ (a and_then at_count_then kind)
+  last_count : (kind : ℕ) (a : Answer ℕ)
+      → (a and_then at_count kind) ≡ (a and_then at_count_then kind)
   last_count kind (Ok y) = same_value (reading (window y.0 (content kind)) y.1)
   last_count kind (Err e) = refl
 
@@ -161,7 +167,7 @@ module _ {A : Type 0} (content : ℕ → Layout A) (k : ℕ) where
     kind ← number w
     counted_window k (content kind)
 
-  -- what a content is
+  -- the value of a frame's content
   abbrev value_in : Framed → Result A Refusal
   value_in x = value_of (reading (content x.kind) x.content)
 
@@ -178,10 +184,13 @@ module _ {A : Type 0} (content : ℕ → Layout A) (k : ℕ) where
 
   pub window_decodes : (w : ℕ) → ReadsThenDecodes (window_of w) (framed w k) value_in
   unfolding framed
-  window_decodes w b = last_kind (reading (number w) b) ∙ framed_decodes (λ x. x) (λ kind n. content kind) w k b
+  window_decodes w b = last_kind (reading (number w) b)
+      ∙ framed_decodes (λ x. x) (λ kind n. content kind) w k b
       ∙ by_frame (reading (framed w k) b)
 
 pub items_of_windows : {A : Type 0} (content : ℕ → Layout A) (w k : ℕ) (b : Bytes)
-    → items_in (window_of content k w) b ≡ decode_while (value_in content k) (items_in (framed w k) b)
-items_of_windows content w k b = items_decoded (window_of content k w) (framed w k) (value_in content k)
+    → items_in (window_of content k w) b ≡ decode_while (value_in content k)
+    (items_in (framed w k) b)
+items_of_windows content w k b =
+    items_decoded (window_of content k w) (framed w k) (value_in content k)
     (window_decodes content k w) b

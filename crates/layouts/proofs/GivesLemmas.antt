@@ -1,4 +1,4 @@
--- What a call's contract wants of what it read.
+-- The rules that prove `Gives` for a reader.
 use Rattle.std.proofs.lemmas.Grind.{common_steps}
 use Rattle.layouts.proofs.OneAnswerLemmas.{read_allowed}
 

@@ -1,4 +1,4 @@
--- Missing bytes: at least one is, and where none can be.
+-- Missing bytes: if any are missing, at least one is. Which layouts never lack bytes.
 use Rattle.std.proofs.Common.{◌≡◌, ◌≢◌, ℕ, ◌-◌, ◌<◌, [], ◌∷◌, ◌++◌, length, refl, ap, inl, inr, arith}
 use Rattle.layouts.specs.Bytes.{Bytes}
 use Rattle.layouts.specs.Layout.{
@@ -60,7 +60,7 @@ lacks_some (look l) b n h = lacks_some l b n h
 lacks_some (chain l f) b n (inl h) = lacks_some l b n h
 lacks_some (chain l f) b n (inr h) = lacks_some (f h.0) h.1 n h.4
 
--- Where no bytes can be missing.
+-- Layouts that never lack bytes.
 pub never-done : {A : Type 0} (a : A) → NeverLacks (done a)
 never-done a b n h = h
 
@@ -74,7 +74,8 @@ never-complete l b n (inr h) = let e : Lacks n ≡ Broken Complete = h.2 in cc
 pub never-list : {A : Type 0} (l : Layout A) → NeverLacks (list l)
 never-list l b n h = h
 
-pub never-chain : {A B : Type 0} (l : Layout A) (f : A → Layout B) → NeverLacks l → ((a : A) → NeverLacks (f a))
+pub never-chain : {A B : Type 0} (l : Layout A) (f : A → Layout B) → NeverLacks l
+    → ((a : A) → NeverLacks (f a))
     → NeverLacks (chain l f)
 never-chain l f first then b n (inl h) = first b n h
 never-chain l f first then b n (inr h) = then h.0 h.1 n h.4
@@ -82,9 +83,11 @@ never-chain l f first then b n (inr h) = then h.0 h.1 n h.4
 pub never-rest : NeverLacks rest
 never-rest b n (inl h) = h
 never-rest b n (inr (a, m, d, s, h)) =
-    let same : a ≡ length b = s.0 in let all : length b ≡ length m = ap length s.1 in omega (arith, h.0)
+    let same : a ≡ length b = s.0 in let all : length b ≡ length m = ap length s.1 in
+    omega (arith, h.0)
 
 pub never-list1 : {A : Type 0} (l : Layout A) → NeverLacks (list1 l)
 never-list1 l =
     never-chain (complete l) (λ x. behind (x ∷ []) (list l)) (never-complete l)
-    (λ x. never-chain (list l) (λ ys. done ((x ∷ []) ++ ys)) (never-list l) (λ ys. never-done ((x ∷ []) ++ ys)))
+    (λ x. never-chain (list l) (λ ys. done ((x ∷ []) ++ ys)) (never-list l)
+    (λ ys. never-done ((x ∷ []) ++ ys)))

@@ -1,4 +1,4 @@
--- Each layout allows one answer on given bytes, and reading gives it.
+-- Each layout allows exactly one answer on given bytes, and reading gives it.
 use Rattle.std.proofs.Common.{
   ◌≡◌,
   ◌≢◌,
@@ -97,21 +97,23 @@ use Rattle.layouts.proofs.NumberLemmas.{
 }
 use Rattle.layouts.proofs.EndLemmas.{AreBytes-rest}
 
--- what is known of a layout on some bytes
+-- what is proved of a layout on some bytes
 pub record Meets {A : Type 0} (l : Layout A) (b : Bytes) : Type 0 where
   pub allowed : Allows l b (reading l b)
   pub spelled : (v : A) (r d : Bytes) → Spells l b v r d → reading l b ≡ Ok (v, r)
   pub refused : (e : Refusal) → Refuses l b e → reading l b ≡ Err e
 
--- what is known on any bytes
+-- what is proved of a layout on any bytes
 abbrev pub MeetsAll : {A : Type 0} → Layout A → Type 0
 MeetsAll l = (b : Bytes) → AreBytes b → Meets l b
 
--- what is refused is not spelled, and what is not spelled is refused
-nothing : {A : Type 0} (l : Layout A) (b : Bytes) (e : Refusal) → Meets l b → Refuses l b e → SpellsNothing (Spells l) b
+-- bytes that are refused encode nothing, and bytes that encode nothing are refused
+nothing : {A : Type 0} (l : Layout A) (b : Bytes) (e : Refusal) → Meets l b → Refuses l b e
+    → SpellsNothing (Spells l) b
 nothing l b e m h =
     λ v r d s.
-    let yes : reading l b ≡ Ok (v, r) = m.spelled v r d s in let no : reading l b ≡ Err e = m.refused e h in cc
+    let yes : reading l b ≡ Ok (v, r) = m.spelled v r d s in let no : reading l b ≡ Err e =
+    m.refused e h in cc
 
 some_refusal : {A : Type 0} (l : Layout A) (b : Bytes) → Meets l b → SpellsNothing (Spells l) b
     → (e : Refusal) × Refuses l b e × (reading l b ≡ Err e)
@@ -146,7 +148,7 @@ meets_left b = record {
   refused = λ e h. absurd h;
 }
 
--- tests
+-- results of tests
 pub ltb_yes : (m n : ℕ) → m < n → ltb m n ≡ true
 ltb_yes m n h = grind (arith, nat_tests)
 
@@ -162,12 +164,13 @@ eqb_same n = grind (arith, nat_tests)
 pub eqb_other : (m n : ℕ) → m ≢ n → eqb m n ≡ false
 eqb_other m n h = grind (arith, nat_tests)
 
--- a block, a number and a gap
+-- blocks, numbers and gaps
 split_tests : (n : ℕ) (b : Bytes) (t : Bool) → ltb (length b) n ≡ t
     → Allows (block n) b (cond t (Err (Lacks (n - length b))) (Ok (take n b, drop n b)))
 unfolding Allows split_at number_at ignored_at tag_at items_at
 split_tests n b true e = (ltb-true (length b) n e, refl)
-split_tests n b false e = ([], (length-take-le n b (ltb-false (length b) n e), sym (take-append-drop n b), refl))
+split_tests n b false e =
+    ([], (length-take-le n b (ltb-false (length b) n e), sym (take-append-drop n b), refl))
 
 split_exact : (v r : Bytes) → split_at (length v) (v ++ r) ≡ Ok (v, r)
 unfolding Allows split_at number_at ignored_at tag_at items_at
@@ -183,11 +186,13 @@ split_exact v r =
 
 split_spelled : (n : ℕ) (b v r : Bytes) → length v ≡ n → b ≡ v ++ r → split_at n b ≡ Ok (v, r)
 split_spelled n b v r e h =
-    subst (λ k. split_at k b ≡ Ok (v, r)) e (subst (λ c. split_at (length v) c ≡ Ok (v, r)) (sym h) (split_exact v r))
+    subst (λ k. split_at k b ≡ Ok (v, r)) e
+    (subst (λ c. split_at (length v) c ≡ Ok (v, r)) (sym h) (split_exact v r))
 
 split_short : (n : ℕ) (b : Bytes) → length b < n → split_at n b ≡ Err (Lacks (n - length b))
 unfolding Allows split_at number_at ignored_at tag_at items_at
-split_short n b h = ap (λ t. cond t (Err (Lacks (n - length b))) (Ok (take n b, drop n b))) (ltb_yes (length b) n h)
+split_short n b h = ap (λ t. cond t (Err (Lacks (n - length b))) (Ok (take n b, drop n b)))
+    (ltb_yes (length b) n h)
 
 split_refused : (n : ℕ) (b : Bytes) (e : Refusal) → Refuses (block n) b e → split_at n b ≡ Err e
 split_refused n b e h = split_short n b h.0 ∙ ap Err (sym h.1)
@@ -212,7 +217,12 @@ number_allowed k b h (Ok x) (d, s) =
     let back : bytes_of k (number_of x.0) ≡ x.0 =
     subst (λ n. bytes_of n (number_of x.0) ≡ x.0) s.0 (bytes_of-number_of x.0 are) in (
       [],
-      (subst (λ n. number_of x.0 < 256 ^ n) s.0 (number_of-below x.0 are), s.1 ∙ ap (λ f. f ++ x.1) (sym back), refl),
+      (
+        subst (λ n. number_of x.0 < 256 ^ n) s.0 (number_of-below x.0 are),
+        s.1
+            ∙ ap (λ f. f ++ x.1) (sym back),
+        refl,
+      ),
     )
 number_allowed k b h (Err e) s = s
 
@@ -228,15 +238,17 @@ meets_number k b are = record {
   refused = λ e h. ap (λ a. a and_then λ x. Ok (number_of x.0, x.1)) (split_refused k b e h);
 }
 
--- what is read, from the bytes in front and the others
+-- a read from the prefix and the rest
 split_parts : (k : ℕ) (b front r : Bytes) → k ≤ length b → front ≡ take k b → r ≡ drop k b
     → split_at k b ≡ Ok (front, r)
 unfolding Allows split_at number_at ignored_at tag_at items_at
 split_parts k b front r long is behind =
-    ap (λ t. cond t (Err (Lacks (k - length b))) (Ok (take k b, drop k b))) (ltb_no (length b) k long)
+    ap (λ t. cond t (Err (Lacks (k - length b))) (Ok (take k b, drop k b)))
+    (ltb_no (length b) k long)
     ∙ rw (is, behind) refl
 
-pub number_read : (k : ℕ) (b front r : Bytes) (n : ℕ) → k ≤ length b → front ≡ take k b → r ≡ drop k b
+pub number_read : (k : ℕ) (b front r : Bytes) (n : ℕ) → k ≤ length b → front ≡ take k b
+    → r ≡ drop k b
     → number_of front ≡ n → reading (number k) b ≡ Ok (n, r)
 unfolding Allows split_at number_at ignored_at tag_at items_at
 number_read k b front r n long is behind value =
@@ -257,7 +269,7 @@ meets_ignored k b = record {
   refused = λ e h. ap (λ a. a and_then λ x. Ok (tt, x.1)) (split_refused k b e h);
 }
 
--- a tag
+-- tags
 tag_more : (x : ℕ) (t : Bytes) (y : ℕ) (b : Bytes) → x ≡ y → (a : Answer Unit) → Allows (tag t) b a
     → Allows (tag (x ∷ t)) (y ∷ b) a
 unfolding Allows split_at number_at ignored_at tag_at items_at
@@ -266,7 +278,8 @@ tag_more x t y b e (Err g) (inl (same, t', b', x', y', f, h, differ, is)) =
     inl (x ∷ same, t', b', x', y', cc, cc, differ, is)
 tag_more x t y b e (Err g) (inr (missing, some, f, is)) = inr (missing, some, cc, is)
 
-tag_tests : (x : ℕ) (t : Bytes) (y : ℕ) (b : Bytes) (s : Bool) → eqb x y ≡ s → Allows (tag t) b (tag_at t b)
+tag_tests : (x : ℕ) (t : Bytes) (y : ℕ) (b : Bytes) (s : Bool) → eqb x y ≡ s
+    → Allows (tag t) b (tag_at t b)
     → Allows (tag (x ∷ t)) (y ∷ b) (cond s (tag_at t b) (Err (Broken Tag)))
 unfolding Allows split_at number_at ignored_at tag_at items_at
 tag_tests x t y b true e h = tag_more x t y b (eqb-true x y e) (tag_at t b) h
@@ -282,13 +295,15 @@ tag_same : (same t b : Bytes) → tag_at (same ++ t) (same ++ b) ≡ tag_at t b
 unfolding Allows split_at number_at ignored_at tag_at items_at
 tag_same [] t b = refl
 tag_same (x ∷ same) t b =
-    ap (λ s. cond s (tag_at (same ++ t) (same ++ b)) (Err (Broken Tag))) (eqb_same x) ∙ tag_same same t b
+    ap (λ s. cond s (tag_at (same ++ t) (same ++ b)) (Err (Broken Tag))) (eqb_same x)
+    ∙ tag_same same t b
 
 pub tag_differs : (x y : ℕ) (t b : Bytes) → x ≢ y → tag_at (x ∷ t) (y ∷ b) ≡ Err (Broken Tag)
 unfolding Allows split_at number_at ignored_at tag_at items_at
 tag_differs x y t b h = ap (λ s. cond s (tag_at t b) (Err (Broken Tag))) (eqb_other x y h)
 
-pub tag_missing : (missing : Bytes) → missing ≢ [] → tag_at missing [] ≡ Err (Lacks (length missing))
+pub tag_missing : (missing : Bytes) → missing ≢ []
+    → tag_at missing [] ≡ Err (Lacks (length missing))
 unfolding Allows split_at number_at ignored_at tag_at items_at
 tag_missing [] h = absurd (h refl)
 tag_missing (x ∷ missing) h = refl
@@ -305,13 +320,16 @@ meets_tag : (t b : Bytes) → Meets (tag t) b
 unfolding Allows split_at number_at ignored_at tag_at items_at
 meets_tag t b = record {
   allowed = tag_allowed t b;
-  spelled = λ v r d s. ap (λ z. tag_at t z) s.0 ∙ ap (λ z. tag_at z (t ++ r)) (sym (append-nil t)) ∙ tag_same t [] r;
+  spelled = λ v r d s. ap (λ z. tag_at t z) s.0 ∙ ap (λ z. tag_at z (t ++ r)) (sym (append-nil t))
+      ∙ tag_same t [] r;
   refused = λ e h. tag_refused t b e h;
 }
 
--- a window
-window_allowed : {A : Type 0} (n : ℕ) (l : Layout A) (b : Bytes) → AreBytes b → MeetsAll l → (a : Answer Bytes)
-    → Allows (block n) b a → Allows (window n l) b (a and_then λ w. reading l w.0 and_then λ x. Ok (x.0, w.1))
+-- windows
+window_allowed : {A : Type 0} (n : ℕ) (l : Layout A) (b : Bytes) → AreBytes b → MeetsAll l
+    → (a : Answer Bytes)
+    → Allows (block n) b a
+    → Allows (window n l) b (a and_then λ w. reading l w.0 and_then λ x. Ok (x.0, w.1))
 unfolding Allows split_at number_at ignored_at tag_at items_at
 window_allowed {A} n l b are inner (Ok w) (d, s) =
     go (reading l w.0) (inner w.0 (AreBytes-front w.0 w.1 (subst AreBytes s.1 are))).allowed
@@ -321,26 +339,30 @@ window_allowed {A} n l b are inner (Ok w) (d, s) =
     go (Err e) h = inr (w.0, w.1, s.0, s.1, h)
 window_allowed n l b are inner (Err e) h = inl h
 
-window_refused : {A : Type 0} (n : ℕ) (l : Layout A) (b : Bytes) → AreBytes b → MeetsAll l → (e : Refusal)
+window_refused : {A : Type 0} (n : ℕ) (l : Layout A) (b : Bytes) → AreBytes b → MeetsAll l
+    → (e : Refusal)
     → Refuses (window n l) b e → reading (window n l) b ≡ Err e
 window_refused n l b are inner e (inl h) =
     ap (λ a. a and_then λ w. reading l w.0 and_then λ x. Ok (x.0, w.1)) (split_refused n b e h)
 window_refused n l b are inner e (inr (w, r, f, g, h)) =
     ap (λ a. a and_then λ w. reading l w.0 and_then λ x. Ok (x.0, w.1)) (split_spelled n b w r f g)
-    ∙ ap (λ a. a and_then λ x. Ok (x.0, r)) ((inner w (AreBytes-front w r (subst AreBytes g are))).refused e h)
+    ∙ ap (λ a. a and_then λ x. Ok (x.0, r))
+    ((inner w (AreBytes-front w r (subst AreBytes g are))).refused e h)
 
-meets_window : {A : Type 0} (n : ℕ) (l : Layout A) (b : Bytes) → AreBytes b → MeetsAll l → Meets (window n l) b
+meets_window : {A : Type 0} (n : ℕ) (l : Layout A) (b : Bytes) → AreBytes b → MeetsAll l
+    → Meets (window n l) b
 unfolding Allows split_at number_at ignored_at tag_at items_at
 meets_window n l b are inner = record {
   allowed = window_allowed n l b are inner (split_at n b) (split_allowed n b);
   spelled = λ v r d s.
-      ap (λ a. a and_then λ w. reading l w.0 and_then λ x. Ok (x.0, w.1)) (split_spelled n b s.0 r s.3 s.4)
+      ap (λ a. a and_then λ w. reading l w.0 and_then λ x. Ok (x.0, w.1))
+      (split_spelled n b s.0 r s.3 s.4)
       ∙ ap (λ a. a and_then λ x. Ok (x.0, r))
       ((inner s.0 (AreBytes-front s.0 r (subst AreBytes s.4 are))).spelled v s.1 s.2 s.5);
   refused = λ e h. window_refused n l b are inner e h;
 }
 
--- a list
+-- lists
 still : {A : Type 0} (l : Layout A) (b : Bytes) (v : A) (m d : Bytes) → Meets l b → Spells l b v m d
     → length b ≤ length m → SpellsNothing (SpellsItem (Spells l)) b
 still {A} l b v m d known s long = λ w r d2 t.
@@ -353,8 +375,10 @@ still {A} l b v m d known s long = λ w r d2 t.
 abbrev SpellsMore : {A : Type 0} → Layout A → (Bytes → List A × Bytes) → Bytes → Type 0
 SpellsMore l more b = (d : Bytes) × SpellsItems (Spells l) b (more b).0 (more b).1 d
 
-items_test : {A : Type 0} (l : Layout A) (b : Bytes) (more : Bytes → List A × Bytes) (v : A) (m d : Bytes) → Meets l b
-    → Spells l b v m d → (length m < length b → SpellsMore l more m) → (t : Bool) → ltb (length m) (length b) ≡ t
+items_test : {A : Type 0} (l : Layout A) (b : Bytes) (more : Bytes → List A × Bytes) (v : A)
+    (m d : Bytes) → Meets l b
+    → Spells l b v m d → (length m < length b → SpellsMore l more m) → (t : Bool)
+    → ltb (length m) (length b) ≡ t
     → SpellsMore l (λ b. cond t (v ∷ (more m).0, (more m).1) ([], b)) b
 items_test l b more v m d known s then true e =
     let short : length m < length b = ltb-true (length m) (length b) e in
@@ -363,41 +387,53 @@ items_test l b more v m d known s then true e =
 items_test l b more v m d known s then false e =
     ([], (refl, refl, still l b v m d known s (ltb-false (length m) (length b) e)))
 
-items_answer : {A : Type 0} (l : Layout A) (b : Bytes) (more : Bytes → List A × Bytes) → AreBytes b → Meets l b
-    → ((m : Bytes) → AreBytes m → length m < length b → SpellsMore l more m) → (a : Answer A) → Allows l b a
+items_answer : {A : Type 0} (l : Layout A) (b : Bytes) (more : Bytes → List A × Bytes) → AreBytes b
+    → Meets l b
+    → ((m : Bytes) → AreBytes m → length m < length b → SpellsMore l more m) → (a : Answer A)
+    → Allows l b a
     → SpellsMore l (with_items a more) b
 unfolding Allows split_at number_at ignored_at tag_at items_at
 items_answer l b more are known then (Ok x) (d, s) =
-    items_test l b more x.0 x.1 d known s (then x.1 (AreBytes-rest l b x.0 x.1 d s are)) (ltb (length x.1) (length b))
+    items_test l b more x.0 x.1 d known s (then x.1 (AreBytes-rest l b x.0 x.1 d s are))
+    (ltb (length x.1) (length b))
     refl
-items_answer l b more are known then (Err e) h = ([], (refl, refl, λ v r d s. nothing l b e known h v r d s.0))
+items_answer l b more are known then (Err e) h =
+    ([], (refl, refl, λ v r d s. nothing l b e known h v r d s.0))
 
-none_in_none : {A : Type 0} (l : Layout A) (b : Bytes) → length b ≤ 0 → SpellsNothing (SpellsItem (Spells l)) b
+none_in_none : {A : Type 0} (l : Layout A) (b : Bytes) → length b ≤ 0
+    → SpellsNothing (SpellsItem (Spells l)) b
 none_in_none l b h = λ v r d s. absurd (omega (arith, s.1))
 
-items_allowed : {A : Type 0} (l : Layout A) → MeetsAll l → (n : ℕ) (b : Bytes) → AreBytes b → length b ≤ n
+items_allowed : {A : Type 0} (l : Layout A) → MeetsAll l → (n : ℕ) (b : Bytes) → AreBytes b
+    → length b ≤ n
     → SpellsMore l (items_at (reading l) n) b
 unfolding Allows split_at number_at ignored_at tag_at items_at
 items_allowed l known zero b are h = ([], (refl, refl, none_in_none l b h))
 items_allowed l known (suc n) b are h =
     items_answer l b (items_at (reading l) n) are (known b are)
-    (λ m are2 short. items_allowed l known n m are2 (omega arith)) (reading l b) (known b are).allowed
+    (λ m are2 short. items_allowed l known n m are2 (omega arith)) (reading l b)
+    (known b are).allowed
 
 items_end : {A : Type 0} (l : Layout A) (b : Bytes) (more : Bytes → List A × Bytes)
-    → SpellsNothing (SpellsItem (Spells l)) b → (a : Answer A) → Allows l b a → with_items a more b ≡ ([], b)
+    → SpellsNothing (SpellsItem (Spells l)) b → (a : Answer A) → Allows l b a
+    → with_items a more b ≡ ([], b)
 unfolding Allows split_at number_at ignored_at tag_at items_at
 items_end l b more none (Ok x) (d, s) =
     ap (λ t. cond t (x.0 ∷ (more x.1).0, (more x.1).1) ([], b))
     (ltb_no (length x.1) (length b) (not_below _ _ (λ short. none x.0 x.1 d (s, short))))
 items_end l b more none (Err e) h = refl
 
-items_spelled : {A : Type 0} (l : Layout A) → MeetsAll l → (n : ℕ) (b : Bytes) → AreBytes b → length b ≤ n
-    → (vs : List A) (r d : Bytes) → SpellsItems (Spells l) b vs r d → items_at (reading l) n b ≡ (vs, r)
+items_spelled : {A : Type 0} (l : Layout A) → MeetsAll l → (n : ℕ) (b : Bytes) → AreBytes b
+    → length b ≤ n
+    → (vs : List A) (r d : Bytes) → SpellsItems (Spells l) b vs r d
+    → items_at (reading l) n b ≡ (vs, r)
 unfolding Allows split_at number_at ignored_at tag_at items_at
 items_spelled l known zero b are h [] r d s = ap (λ x. ([], x)) s.0
-items_spelled l known zero b are h (v ∷ vs) r d (m, d1, d2, first, rest, e) = absurd (omega (arith, first.1))
+items_spelled l known zero b are h (v ∷ vs) r d (m, d1, d2, first, rest, e) =
+    absurd (omega (arith, first.1))
 items_spelled l known (suc n) b are h [] r d s =
-    items_end l b (items_at (reading l) n) s.2 (reading l b) (known b are).allowed ∙ ap (λ x. ([], x)) s.0
+    items_end l b (items_at (reading l) n) s.2 (reading l b) (known b are).allowed
+    ∙ ap (λ x. ([], x)) s.0
 items_spelled l known (suc n) b are h (v ∷ vs) r d (m, d1, d2, first, rest, e) =
     let are2 : AreBytes m = AreBytes-rest l b v m d1 first.0 are in
     let then : items_at (reading l) n m ≡ (vs, r) =
@@ -415,7 +451,7 @@ meets_list l b are known = record {
   refused = λ e h. absurd h;
 }
 
--- an option
+-- optional parts
 option_allowed : {A : Type 0} (l : Layout A) (b : Bytes) → Meets l b → (a : Answer A) → Allows l b a
     → Allows (maybe l) b (optional_at a b)
 unfolding Allows split_at number_at ignored_at tag_at items_at
@@ -436,22 +472,25 @@ meets_maybe l b known = record {
   refused = λ e h. absurd h;
 }
 
--- one of two
-either_allowed : {A : Type 0} (l m : Layout A) (b : Bytes) → Meets l b → Meets m b → (x y : Answer A) → Allows l b x
+-- one of two layouts
+either_allowed : {A : Type 0} (l m : Layout A) (b : Bytes) → Meets l b → Meets m b
+    → (x y : Answer A) → Allows l b x
     → Allows m b y → Allows (either l m) b (or_else x y)
 unfolding Allows split_at number_at ignored_at tag_at items_at
 either_allowed l m b k1 k2 (Ok x) y (d, s) h = (d, inl s)
 either_allowed l m b k1 k2 (Err e) (Ok y) g (d, s) = (d, inr (nothing l b e k1 g, s))
 either_allowed l m b k1 k2 (Err e) (Err f) g h = (nothing l b e k1 g, nothing m b f k2 h, refl)
 
-either_spelled : {A : Type 0} (l m : Layout A) (b : Bytes) → Meets l b → Meets m b → (v : A) (r d : Bytes)
+either_spelled : {A : Type 0} (l m : Layout A) (b : Bytes) → Meets l b → Meets m b
+    → (v : A) (r d : Bytes)
     → Spells (either l m) b v r d → reading (either l m) b ≡ Ok (v, r)
 either_spelled l m b k1 k2 v r d (inl s) = ap (λ a. or_else a (reading m b)) (k1.spelled v r d s)
 either_spelled l m b k1 k2 v r d (inr (none, s)) =
     ap (λ a. or_else a (reading m b)) (some_refusal l b k1 none).2
     ∙ ap (λ a. or_else (Err (some_refusal l b k1 none).0) a) (k2.spelled v r d s)
 
-meets_either : {A : Type 0} (l m : Layout A) (b : Bytes) → Meets l b → Meets m b → Meets (either l m) b
+meets_either : {A : Type 0} (l m : Layout A) (b : Bytes) → Meets l b → Meets m b
+    → Meets (either l m) b
 unfolding Allows split_at number_at ignored_at tag_at items_at
 meets_either l m b k1 k2 = record {
   allowed = either_allowed l m b k1 k2 (reading l b) (reading m b) k1.allowed k2.allowed;
@@ -462,7 +501,7 @@ meets_either l m b k1 k2 = record {
       ∙ ap Err (sym h.2);
 }
 
--- for good
+-- `complete`
 complete_allowed : {A : Type 0} (l : Layout A) (b : Bytes) (a : Answer A) → Allows l b a
     → Allows (complete l) b (completed a)
 unfolding Allows split_at number_at ignored_at tag_at items_at
@@ -470,10 +509,13 @@ complete_allowed l b (Ok x) h = h
 complete_allowed l b (Err (Broken k)) h = inl (k, h, refl)
 complete_allowed l b (Err (Lacks n)) h = inr (n, h, refl)
 
-complete_refused : {A : Type 0} (l : Layout A) (b : Bytes) → Meets l b → (e : Refusal) → Refuses (complete l) b e
+complete_refused : {A : Type 0} (l : Layout A) (b : Bytes) → Meets l b → (e : Refusal)
+    → Refuses (complete l) b e
     → reading (complete l) b ≡ Err e
-complete_refused l b known e (inl (k, h, is)) = ap completed (known.refused (Broken k) h) ∙ ap Err (sym is)
-complete_refused l b known e (inr (n, h, is)) = ap completed (known.refused (Lacks n) h) ∙ ap Err (sym is)
+complete_refused l b known e (inl (k, h, is)) = ap completed (known.refused (Broken k) h)
+    ∙ ap Err (sym is)
+complete_refused l b known e (inr (n, h, is)) = ap completed (known.refused (Lacks n) h)
+    ∙ ap Err (sym is)
 
 meets_complete : {A : Type 0} (l : Layout A) (b : Bytes) → Meets l b → Meets (complete l) b
 unfolding Allows split_at number_at ignored_at tag_at items_at
@@ -483,7 +525,7 @@ meets_complete l b known = record {
   refused = complete_refused l b known;
 }
 
--- not taken
+-- `look`
 look_allowed : {A : Type 0} (l : Layout A) (b : Bytes) (a : Answer A) → Allows l b a
     → Allows (look l) b (a and_then λ x. Ok (x.0, b))
 unfolding Allows split_at number_at ignored_at tag_at items_at
@@ -495,12 +537,14 @@ unfolding Allows split_at number_at ignored_at tag_at items_at
 meets_look l b known = record {
   allowed = look_allowed l b (reading l b) known.allowed;
   spelled =
-      λ v r d s. ap (λ a. a and_then λ x. Ok (x.0, b)) (known.spelled v s.2.0 s.2.1 s.2.2) ∙ ap (λ x. Ok (v, x)) s.0;
+      λ v r d s. ap (λ a. a and_then λ x. Ok (x.0, b)) (known.spelled v s.2.0 s.2.1 s.2.2)
+      ∙ ap (λ x. Ok (v, x)) s.0;
   refused = λ e h. ap (λ a. a and_then λ x. Ok (x.0, b)) (known.refused e h);
 }
 
--- a first part, and then a second
-chain_allowed : {A B : Type 0} (l : Layout A) (f : A → Layout B) (b : Bytes) → AreBytes b → ((a : A) → MeetsAll (f a))
+-- chains
+chain_allowed : {A B : Type 0} (l : Layout A) (f : A → Layout B) (b : Bytes) → AreBytes b
+    → ((a : A) → MeetsAll (f a))
     → (a : Answer A) → Allows l b a → Allows (chain l f) b (a and_then λ x. reading (f x.0) x.1)
 unfolding Allows split_at number_at ignored_at tag_at items_at
 chain_allowed {A} {B} l f b are then (Ok x) (d, s) =
@@ -511,9 +555,12 @@ chain_allowed {A} {B} l f b are then (Ok x) (d, s) =
     go (Err e) h = inr (x.0, x.1, d, s, h)
 chain_allowed l f b are then (Err e) h = inl h
 
-chain_refused : {A B : Type 0} (l : Layout A) (f : A → Layout B) (b : Bytes) → AreBytes b → Meets l b
-    → ((a : A) → MeetsAll (f a)) → (e : Refusal) → Refuses (chain l f) b e → reading (chain l f) b ≡ Err e
-chain_refused l f b are first then e (inl h) = ap (λ a. a and_then λ x. reading (f x.0) x.1) (first.refused e h)
+chain_refused : {A B : Type 0} (l : Layout A) (f : A → Layout B) (b : Bytes) → AreBytes b
+    → Meets l b
+    → ((a : A) → MeetsAll (f a)) → (e : Refusal) → Refuses (chain l f) b e
+    → reading (chain l f) b ≡ Err e
+chain_refused l f b are first then e (inl h) =
+    ap (λ a. a and_then λ x. reading (f x.0) x.1) (first.refused e h)
 chain_refused l f b are first then e (inr (a, m, d, s, h)) =
     ap (λ a. a and_then λ x. reading (f x.0) x.1) (first.spelled a m d s)
     ∙ (then a m (AreBytes-rest l b a m d s are)).refused e h
@@ -529,7 +576,7 @@ meets_chain l f b are first then = record {
   refused = λ e h. chain_refused l f b are first then e h;
 }
 
--- each layout, on any bytes
+-- every layout, on any bytes
 pub meets : {A : Type 0} (l : Layout A) → MeetsAll l
 meets (done a) b are = meets_done a b
 meets (refuse k) b are = meets_refuse k b
@@ -546,16 +593,19 @@ meets (complete l) b are = meets_complete l b (meets l b are)
 meets (look l) b are = meets_look l b (meets l b are)
 meets (chain l f) b are = meets_chain l f b are (meets l b are) (λ a. meets (f a))
 
--- what reading gives is allowed
-pub reading_allowed : {A : Type 0} (l : Layout A) (b : Bytes) → AreBytes b → Allows l b (reading l b)
+-- the answer of reading is allowed
+pub reading_allowed : {A : Type 0} (l : Layout A) (b : Bytes) → AreBytes b
+    → Allows l b (reading l b)
 unfolding Allows split_at number_at ignored_at tag_at items_at
 reading_allowed l b are = (meets l b are).allowed
 
-pub read_allowed : {A : Type 0} (l : Layout A) (b : Bytes) (a : Answer A) → AreBytes b → reading l b ≡ a → Allows l b a
+pub read_allowed : {A : Type 0} (l : Layout A) (b : Bytes) (a : Answer A) → AreBytes b
+    → reading l b ≡ a → Allows l b a
 read_allowed l b a are e = subst (Allows l b) e (reading_allowed l b are)
 
--- and nothing else is
-pub only_reading : {A : Type 0} (l : Layout A) (b : Bytes) → AreBytes b → (x : Answer A) → Allows l b x
+-- no other answer is allowed
+pub only_reading : {A : Type 0} (l : Layout A) (b : Bytes) → AreBytes b → (x : Answer A)
+    → Allows l b x
     → x ≡ reading l b
 unfolding Allows split_at number_at ignored_at tag_at items_at
 only_reading l b are (Ok x) (d, s) = sym ((meets l b are).spelled x.0 x.1 d s)
@@ -569,15 +619,17 @@ pub one_answer : {A : Type 0} (l : Layout A) (b : Bytes) → AreBytes b → Allo
 unfolding Allows split_at number_at ignored_at tag_at items_at
 one_answer l b are = (reading l b, reading_allowed l b are, only_reading l b are)
 
--- what is read leaves bytes, and cuts bytes
-pub AreBytes-read : {A : Type 0} (l : Layout A) (b : Bytes) (v : A) (r : Bytes) → AreBytes b → reading l b ≡ Ok (v, r)
+-- the rest of a read has only bytes, and so has a block
+pub AreBytes-read : {A : Type 0} (l : Layout A) (b : Bytes) (v : A) (r : Bytes) → AreBytes b
+    → reading l b ≡ Ok (v, r)
     → AreBytes r
 unfolding Allows
 AreBytes-read l b v r are e =
     let allowed : Allows l b (Ok (v, r)) = read_allowed l b (Ok (v, r)) are e in
     AreBytes-rest l b v r allowed.0 allowed.1 are
 
-pub AreBytes-window : (n : ℕ) (b : Bytes) (w : Bytes × Bytes) → AreBytes b → split_at n b ≡ Ok w → AreBytes w.0
+pub AreBytes-window : (n : ℕ) (b : Bytes) (w : Bytes × Bytes) → AreBytes b → split_at n b ≡ Ok w
+    → AreBytes w.0
 unfolding Allows
 AreBytes-window n b w are e =
     let allowed : Allows (block n) b (Ok w) = subst (Allows (block n) b) e (split_allowed n b) in

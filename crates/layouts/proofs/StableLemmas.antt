@@ -1,4 +1,4 @@
--- What stands of an answer where further bytes follow.
+-- What further bytes can change about an answer.
 use Rattle.std.proofs.Common.{
   ◌≡◌,
   ℕ,
@@ -61,7 +61,7 @@ use Rattle.layouts.proofs.OneAnswerLemmas.{
   AreBytes-read,
 }
 
--- the answer on more bytes, where the fewer decide it
+-- y is the answer on more bytes, and x decided it
 abbrev pub Stays : {A : Type 0} → Bytes → Answer A → Answer A → Type 0
 Stays s (Ok x) y = y ≡ Ok (x.0, x.1 ++ s)
 Stays s (Err (Broken k)) y = y ≡ Err (Broken k)
@@ -72,7 +72,8 @@ unfolding split_at number_at ignored_at tag_at
 split_stays n b s = go (ltb (length b) n) refl
   where
     go : (t : Bool) → ltb (length b) n ≡ t
-        → Stays s (cond t (Err (Lacks (n - length b))) (Ok (take n b, drop n b))) (split_at n (b ++ s))
+        → Stays s (cond t (Err (Lacks (n - length b))) (Ok (take n b, drop n b)))
+        (split_at n (b ++ s))
     go true e = tt
     go false e =
         let long : n ≤ length b = ltb-false (length b) n e in
@@ -89,9 +90,10 @@ tag_stays : (t b s : Bytes) → Stays s (tag_at t b) (tag_at t (b ++ s))
 unfolding split_at number_at ignored_at tag_at
 tag_stays [] b s = refl
 tag_stays (x ∷ t) [] s = tt
-tag_stays (x ∷ t) (y ∷ b) s = tag_tests (eqb x y) s Tag (tag_at t b) (tag_at t (b ++ s)) (tag_stays t b s)
+tag_stays (x ∷ t) (y ∷ b) s =
+    tag_tests (eqb x y) s Tag (tag_at t b) (tag_at t (b ++ s)) (tag_stays t b s)
 
--- what is computed from an answer, and leaves its rest alone
+-- a step that computes from an answer and passes its rest on
 then_stays : {A B : Type 0} (s : Bytes) (f : A × Bytes → Answer B)
     → ((x : A × Bytes) → Stays s (f x) (f (x.0, x.1 ++ s))) → (x y : Answer A) → Stays s x y
     → Stays s (x and_then f) (y and_then f)
@@ -105,19 +107,23 @@ window_stays r s (Ok x) = refl
 window_stays r s (Err (Broken k)) = refl
 window_stays r s (Err (Lacks n)) = tt
 
-pub stays : {A : Type 0} (l : Layout A) → IsStable l → (b s : Bytes) → Stays s (reading l b) (reading l (b ++ s))
+pub stays : {A : Type 0} (l : Layout A) → IsStable l → (b s : Bytes)
+    → Stays s (reading l b) (reading l (b ++ s))
 unfolding split_at number_at ignored_at tag_at
 stays (done a) h b s = refl
 stays (refuse k) h b s = refl
 stays (number k) h b s =
-    then_stays s (λ x. Ok (number_of x.0, x.1)) (λ x. refl) (split_at k b) (split_at k (b ++ s)) (split_stays k b s)
+    then_stays s (λ x. Ok (number_of x.0, x.1)) (λ x. refl) (split_at k b) (split_at k (b ++ s))
+    (split_stays k b s)
 stays (ignored k) h b s =
-    then_stays s (λ x. Ok (tt, x.1)) (λ x. refl) (split_at k b) (split_at k (b ++ s)) (split_stays k b s)
+    then_stays s (λ x. Ok (tt, x.1)) (λ x. refl) (split_at k b) (split_at k (b ++ s))
+    (split_stays k b s)
 stays (block n) h b s = split_stays n b s
 stays left h b s = absurd h
 stays (tag t) h b s = tag_stays t b s
 stays (window n l) h b s =
-    then_stays s (λ w. reading l w.0 and_then λ x. Ok (x.0, w.1)) (λ w. window_stays w.1 s (reading l w.0))
+    then_stays s (λ w. reading l w.0 and_then λ x. Ok (x.0, w.1))
+    (λ w. window_stays w.1 s (reading l w.0))
     (split_at n b) (split_at n (b ++ s)) (split_stays n b s)
 stays (list l) h b s = absurd h
 stays (maybe l) h b s = absurd h
@@ -125,22 +131,24 @@ stays (either l m) h b s = absurd h
 stays (complete l) h b s = absurd h
 stays (look l) h b s = absurd h
 stays (chain l f) h b s =
-    then_stays s (λ x. reading (f x.0) x.1) (λ x. stays (f x.0) (h.1 x.0) x.1 s) (reading l b) (reading l (b ++ s))
+    then_stays s (λ x. reading (f x.0) x.1) (λ x. stays (f x.0) (h.1 x.0) x.1 s) (reading l b)
+    (reading l (b ++ s))
     (stays l h.0 b s)
 
--- what is read stays, with more behind it
-pub read_stays : {A : Type 0} (l : Layout A) → IsStable l → (b s : Bytes) (v : A) (r : Bytes) → reading l b ≡ Ok (v, r)
+-- a value stays, and the rest grows
+pub read_stays : {A : Type 0} (l : Layout A) → IsStable l → (b s : Bytes) (v : A) (r : Bytes)
+    → reading l b ≡ Ok (v, r)
     → reading l (b ++ s) ≡ Ok (v, r ++ s)
 read_stays l h b s v r e = subst (λ a. Stays s a (reading l (b ++ s))) e (stays l h b s)
 
--- and so does a broken rule
+-- a broken rule stays
 pub broken_stays : {A : Type 0} (l : Layout A) → IsStable l → (b s : Bytes) (k : ErrorKind)
     → reading l b ≡ Err (Broken k) → reading l (b ++ s) ≡ Err (Broken k)
 broken_stays l h b s k e = subst (λ a. Stays s a (reading l (b ++ s))) e (stays l h b s)
 
--- Where bytes are missing, the others are missing still.
+-- If bytes are missing, further bytes leave the others missing.
 
--- no missing bytes are found where none can be
+-- a layout that never lacks bytes isn't refused for missing ones
 none_lacks : {A : Type 0} (l : Layout A) → NeverLacks l → (b : Bytes) → AreBytes b → (n : ℕ)
     → reading l b ≡ Err (Lacks n) → ⊥
 unfolding Allows
@@ -152,7 +160,8 @@ unfolding split_at
 split_counts k b s n e short = go (ltb (length b) k) refl e
   where
     go : (t : Bool) → ltb (length b) k ≡ t
-        → cond {A = Answer Bytes} t (Err (Lacks (k - length b))) (Ok (take k b, drop k b)) ≡ Err (Lacks n)
+        → cond {A = Answer Bytes} t (Err (Lacks (k - length b))) (Ok (take k b, drop k b))
+        ≡ Err (Lacks n)
         → split_at k (b ++ s) ≡ Err (Lacks (n - length s))
     go true f g =
         let is : k - length b ≡ n = cc in
@@ -161,21 +170,26 @@ split_counts k b s n e short = go (ltb (length b) k) refl e
         ∙ ap (λ m. Err (Lacks m)) (omega (arith, length-append b s))
     go false f g = absurd cc
 
--- a refusal in front is passed on, and a value in front is read on from
-refused_front : {X Y : Type 0} (a : Answer X) (f : X × Bytes → Answer Y) (e : Refusal) → a and_then f ≡ Err e
+-- a refusal comes from the first part, unless the second gave it
+refused_front : {X Y : Type 0} (a : Answer X) (f : X × Bytes → Answer Y) (e : Refusal)
+    → a and_then f ≡ Err e
     → ((x : X × Bytes) → a ≡ Ok x → f x ≡ Err e → ⊥) → a ≡ Err e
 refused_front (Ok x) f e h none = absurd (none x refl h)
 refused_front (Err g) f e h none = let is : g ≡ e = cc in ap Err is
 
--- the same of a first part and what is read behind it
-chain_counts : {A B : Type 0} (s : Bytes) (f : A → Layout B) (n : ℕ) (a a' : Answer A) → Stays s a a'
+-- a chain: its first part, and what is read after it
+chain_counts : {A B : Type 0} (s : Bytes) (f : A → Layout B) (n : ℕ) (a a' : Answer A)
+    → Stays s a a'
     → (a ≡ Err (Lacks n) → a' ≡ Err (Lacks (n - length s)))
     →
-    ((x : A × Bytes) → a ≡ Ok x → reading (f x.0) x.1 ≡ Err (Lacks n) → reading (f x.0) (x.1 ++ s) ≡ Err
+    ((x : A × Bytes) → a ≡ Ok x → reading (f x.0) x.1 ≡ Err (Lacks n)
+    → reading (f x.0) (x.1 ++ s) ≡ Err
     (Lacks (n - length s)))
-    → (a and_then λ x. reading (f x.0) x.1) ≡ Err (Lacks n) → (a' and_then λ x. reading (f x.0) x.1) ≡ Err
+    → (a and_then λ x. reading (f x.0) x.1) ≡ Err (Lacks n)
+    → (a' and_then λ x. reading (f x.0) x.1) ≡ Err
     (Lacks (n - length s))
-chain_counts s f n (Ok x) a' stay first then e = ap (λ a. a and_then λ x. reading (f x.0) x.1) stay ∙ then x refl e
+chain_counts s f n (Ok x) a' stay first then e = ap (λ a. a and_then λ x. reading (f x.0) x.1) stay
+    ∙ then x refl e
 chain_counts s f n (Err g) a' stay first then e =
     let is : g ≡ Lacks n = cc in ap (λ a. a and_then λ x. reading (f x.0) x.1) (first (ap Err is))
 
@@ -203,10 +217,12 @@ counts (refuse k) h b s are n e short = absurd cc
 counts (number k) h b s are n e short =
     ap (λ a. a and_then λ x. Ok (number_of x.0, x.1))
     (split_counts k b s n
-    (refused_front (split_at k b) (λ x. Ok (number_of x.0, x.1)) (Lacks n) e (λ x f g. absurd cc)) short)
+    (refused_front (split_at k b) (λ x. Ok (number_of x.0, x.1)) (Lacks n) e (λ x f g. absurd cc))
+    short)
 counts (ignored k) h b s are n e short =
     ap (λ a. a and_then λ x. Ok (tt, x.1))
-    (split_counts k b s n (refused_front (split_at k b) (λ x. Ok (tt, x.1)) (Lacks n) e (λ x f g. absurd cc)) short)
+    (split_counts k b s n
+    (refused_front (split_at k b) (λ x. Ok (tt, x.1)) (Lacks n) e (λ x f g. absurd cc)) short)
 counts (block k) h b s are n e short = split_counts k b s n e short
 counts left h b s are n e short = absurd h
 counts (tag t) h b s are n e short = absurd h
@@ -229,8 +245,9 @@ counts (chain l f) h b s are n e short =
     (λ x g i. counts (f x.0) (h.1 x.0) x.1 s (AreBytes-read l b x.0 x.1 are g) n i short)
     e
 
--- The same of what is allowed.
-pub decides : {A : Type 0} (l : Layout A) → IsStable l → (b s : Bytes) → AreBytes b → AreBytes s → Decides l b s
+-- The laws, for allowed answers.
+pub decides : {A : Type 0} (l : Layout A) → IsStable l → (b s : Bytes) → AreBytes b → AreBytes s
+    → Decides l b s
 decides l h b s are more = record {
   value =
       λ v r a.
@@ -242,7 +259,8 @@ decides l h b s are more = record {
       (broken_stays l h b s k (sym (only_reading l b are (Err (Broken k)) a)));
 }
 
-pub counts_down : {A : Type 0} (l : Layout A) → CountsMissing l → (b s : Bytes) → AreBytes b → AreBytes s
+pub counts_down : {A : Type 0} (l : Layout A) → CountsMissing l → (b s : Bytes) → AreBytes b
+    → AreBytes s
     → CountsDown l b s
 counts_down l h b s are more n a short =
     read_allowed l (b ++ s) (Err (Lacks (n - length s))) (AreBytes-append b s are more)

@@ -1,5 +1,5 @@
--- Parts whose content isn't read: a number of their kind, a count, and the bytes that it counts. So stand extensions in a
--- hello, and handshake messages in a record.
+-- Parts whose content isn't parsed: a type, a length, and that many bytes. Extensions in a hello
+-- and handshake messages in a record have this form.
 use Rattle.std.specs.Prelude.{ℕ}
 use Rattle.layouts.specs.Bytes.{Bytes}
 use Rattle.layouts.specs.Layout.{Layout, done, number, ◌>>=◌, counted}
@@ -8,7 +8,7 @@ pub record Framed : Type 0 where
   pub kind : ℕ
   pub content : Bytes
 
--- A kind of w bytes, and a count of k bytes.
+-- A type of w bytes, then a length of k bytes and the content.
 unfoldable pub framed : ℕ → ℕ → Layout Framed
 framed w k = do
   kind ← number w

@@ -1,4 +1,4 @@
--- The one answer of a layout, read from left to right.
+-- Computes the one answer of a layout, from left to right.
 use Rattle.std.specs.Prelude.{
   ℕ,
   zero,
@@ -41,52 +41,54 @@ use Rattle.layouts.specs.Layout.{
 use Rattle.layouts.specs.Meaning.{Refusal, Broken, Lacks, Answer}
 use Rattle.layouts.specs.declared.result.ErrorKind.TheVariants.{Tag, Complete}
 
--- An answer, and what is read behind it; a refusal is passed on.
+-- Continues after a value; passes a refusal on.
 infixl 10 ◌and_then◌
-abbrev pub ◌and_then◌ : {X Y : Type 0} → Result X Refusal → (X → Result Y Refusal) → Result Y Refusal
+abbrev pub ◌and_then◌ : {X Y : Type 0} → Result X Refusal → (X → Result Y Refusal)
+    → Result Y Refusal
 (Ok x) and_then f = f x
 (Err e) and_then f = Err e
 
--- The first n bytes and the others.
+-- The first n bytes, and the rest.
 unfoldable pub split_at : ℕ → Bytes → Answer Bytes
 split_at n b = if nat_lt (length b) n then Err (Lacks (n - length b)) else Ok (take n b, drop n b)
 
--- The number of the first k bytes.
+-- The number in the first k bytes.
 unfoldable pub number_at : ℕ → Bytes → Answer ℕ
 number_at k b = split_at k b and_then λ x. Ok (number_of x.0, x.1)
 
--- What stands behind the first k bytes.
+-- Skips the first k bytes.
 unfoldable pub ignored_at : ℕ → Bytes → Answer Unit
 ignored_at k b = split_at k b and_then λ x. Ok (tt, x.1)
 
--- What stands behind a tag, compared byte by byte.
+-- Skips a tag, which is compared byte by byte.
 unfoldable pub tag_at : Bytes → Bytes → Answer Unit
 tag_at [] b = Ok (tt, b)
 tag_at (x ∷ t) [] = Err (Lacks (length (x ∷ t)))
 tag_at (x ∷ t) (y ∷ b) = if x == y then tag_at t b else Err (Broken Tag)
 
--- An item that is read and takes bytes, and more behind it; else none.
+-- The item and further items, if it was read and isn't empty; else no items.
 abbrev pub with_items : {A : Type 0} → Answer A → (Bytes → List A × Bytes) → Bytes → List A × Bytes
 with_items (Err e) more b = ([], b)
-with_items (Ok x) more b = if nat_lt (length x.1) (length b) then (x.0 ∷ (more x.1).0, (more x.1).1) else ([], b)
+with_items (Ok x) more b = if nat_lt (length x.1) (length b) then
+    (x.0 ∷ (more x.1).0, (more x.1).1) else ([], b)
 
--- Items up to the first that isn't read, at most so many.
+-- Items up to the first that can't be read, at most n.
 unfoldable pub items_at : {A : Type 0} → (Bytes → Answer A) → ℕ → Bytes → List A × Bytes
 items_at f zero b = ([], b)
 items_at f (suc n) b = with_items (f b) (items_at f n) b
 
--- A value, or None where it is refused.
+-- The value, or None if it is refused.
 abbrev pub optional_at : {A : Type 0} → Answer A → Bytes → Answer (Option A)
 optional_at (Ok x) b = Ok (Some x.0, x.1)
 optional_at (Err e) b = Ok (None, b)
 
--- Missing bytes as `Complete`.
+-- Turns missing bytes into `Complete`.
 abbrev pub completed : {A : Type 0} → Answer A → Answer A
 completed (Ok x) = Ok x
 completed (Err (Broken k)) = Err (Broken k)
 completed (Err (Lacks n)) = Err (Broken Complete)
 
--- The first that is read, and `Complete` where neither is.
+-- The first answer that is a value, or `Complete` if neither is.
 abbrev pub or_else : {A : Type 0} → Answer A → Answer A → Answer A
 or_else (Ok x) y = Ok x
 or_else (Err e) (Ok y) = Ok y

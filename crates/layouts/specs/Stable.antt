@@ -1,4 +1,4 @@
--- What stands of an answer where further bytes follow, as the segments of a stream do.
+-- What further bytes can change about an answer, as when segments of a stream arrive.
 use Rattle.std.specs.Prelude.{ℕ, ◌-◌, ◌<◌, ◌++◌, length, Ok, Err, ⊤}
 use Rattle.layouts.specs.Bytes.{Bytes}
 use Rattle.layouts.specs.Layout.{
@@ -21,7 +21,7 @@ use Rattle.layouts.specs.Layout.{
 use Rattle.layouts.specs.Meaning.{Broken, Lacks, Refuses, Allows}
 use Rattle.layouts.specs.declared.result.ErrorKind.{ErrorKind}
 
--- None of its parts looks at where the bytes end, other than by lacking some.
+-- No part depends on where the bytes end, except by lacking some.
 abbrev pub IsStable : {A : Type 0} → Layout A → Type 0
 IsStable (done a) = ⊤
 IsStable (refuse k) = ⊤
@@ -38,12 +38,13 @@ IsStable (complete l) = ⊥
 IsStable (look l) = ⊥
 IsStable (chain l f) = IsStable l × ((a : _) → IsStable (f a))
 
--- It is never refused for missing bytes.
+-- The layout is never refused for missing bytes.
 abbrev pub NeverLacks : {A : Type 0} → Layout A → Type 0
 NeverLacks l = (b : Bytes) (n : ℕ) → Refuses l b (Lacks n) → ⊥
 
--- It is stable, and the bytes that it lacks are those that its own numbers, blocks and windows want: none is
--- missing inside a window that is whole, and none of a tag, whose next byte may differ.
+-- The layout is stable, and only its own numbers, skipped bytes, blocks and windows can lack bytes:
+-- the content of a complete window lacks none. It has no tags, since the missing bytes of a tag may
+-- turn out to differ.
 abbrev pub CountsMissing : {A : Type 0} → Layout A → Type 0
 CountsMissing (done a) = ⊤
 CountsMissing (refuse k) = ⊤
@@ -60,13 +61,14 @@ CountsMissing (complete l) = ⊥
 CountsMissing (look l) = ⊥
 CountsMissing (chain l f) = CountsMissing l × ((a : _) → CountsMissing (f a))
 
--- What a decided answer on b says of b and then s.
+-- What an answer on b decides about b followed by s.
 pub record Decides {A : Type 0} (l : Layout A) (b s : Bytes) : Type 0 where
-  -- a value stays, and its rest grows by s
+  -- a value stays, and s is appended to its rest
   pub value : (v : A) (r : Bytes) → Allows l b (Ok (v, r)) → Allows l (b ++ s) (Ok (v, r ++ s))
   -- a broken rule stays broken
   pub broken : (k : ErrorKind) → Allows l b (Err (Broken k)) → Allows l (b ++ s) (Err (Broken k))
 
--- Where bytes are missing, s supplies some of them, and the others are still missing.
+-- If n bytes are missing on b, and s has fewer, then the others are missing on b followed by s.
 abbrev pub CountsDown : {A : Type 0} → Layout A → Bytes → Bytes → Type 0
-CountsDown l b s = (n : ℕ) → Allows l b (Err (Lacks n)) → length s < n → Allows l (b ++ s) (Err (Lacks (n - length s)))
+CountsDown l b s = (n : ℕ) → Allows l b (Err (Lacks n)) → length s < n
+    → Allows l (b ++ s) (Err (Lacks (n - length s)))

@@ -1,4 +1,4 @@
-//! Stretches of bytes: blocks, counted blocks and tags.
+//! Blocks of bytes, blocks after their length, and tags.
 ghost use Rattle.std.specs.Option.{option_map};
 ghost use Rattle.layouts.specs.Bytes.{bytes_of};
 ghost use Rattle.layouts.specs.Layout.{block as block_of, counted, maybe, rest as rest_of, tag as tag_of};
@@ -7,9 +7,9 @@ ghost use Rattle.layouts.specs.Answers.{Gives};
 use crate::number::{number1, number2, number3};
 use crate::result::{Err, ErrorKind, IResult, Needed, refused};
 
-/// The first `n` bytes (`opaque[n]`; RFC 8446, section 3.4).
+/// Reads the first `n` bytes (`opaque[n]`; RFC 8446, section 3.4).
 ///
-/// `Incomplete` of the missing bytes where there are fewer.
+/// `Incomplete` with the number of missing bytes if there are fewer.
 #[tactic(auto, using(crate::proofs::GivesLemmas::reads), unfolding(crate::specs::Reading::split_at))]
 pub fn block(i: &[u8], n: usize) -> IResult<&[u8], &[u8]>
     ensures { Gives (λ v. v.now) (block_of n) i.now result }
@@ -21,9 +21,9 @@ pub fn block(i: &[u8], n: usize) -> IResult<&[u8], &[u8]>
     Ok((rest, front))
 }
 
-/// All bytes that are left, with none behind them (`opaque` up to the end of what it stands in).
+/// Reads all remaining bytes (an `opaque` that reaches to the end of the structure around it).
 ///
-/// It never refuses.
+/// Never refuses.
 #[inline(always)]
 pub fn rest(i: &[u8]) -> IResult<&[u8], &[u8]>
     ensures { Gives (λ v. v.now) rest_of i.now result }
@@ -31,9 +31,9 @@ pub fn rest(i: &[u8]) -> IResult<&[u8], &[u8]>
     block(i, i.len())
 }
 
-/// A count of 1 byte, and then that many bytes (`opaque<0..2^8-1>`; RFC 8446, section 3.4).
+/// Reads a length of 1 byte, then that many bytes (`opaque<0..2^8-1>`; RFC 8446, section 3.4).
 ///
-/// `Incomplete` of what is missing of the count, or else of the bytes.
+/// `Incomplete` with the bytes missing from the length, or else from the block.
 pub fn counted1(i: &[u8]) -> IResult<&[u8], &[u8]>
     ensures { Gives (λ v. v.now) (counted 1) i.now result }
 {
@@ -41,9 +41,10 @@ pub fn counted1(i: &[u8]) -> IResult<&[u8], &[u8]>
     block(i, n as usize)
 }
 
-/// A count of 2 bytes, and then that many bytes (`opaque<0..2^16-1>`; RFC 8446, section 3.4).
+/// Reads a length of 2 bytes, big-endian, then that many bytes (`opaque<0..2^16-1>`; RFC 8446,
+/// section 3.4).
 ///
-/// `Incomplete` of what is missing of the count, or else of the bytes.
+/// `Incomplete` with the bytes missing from the length, or else from the block.
 pub fn counted2(i: &[u8]) -> IResult<&[u8], &[u8]>
     ensures { Gives (λ v. v.now) (counted 2) i.now result }
 {
@@ -51,9 +52,10 @@ pub fn counted2(i: &[u8]) -> IResult<&[u8], &[u8]>
     block(i, n as usize)
 }
 
-/// A count of 3 bytes, and then that many bytes (`opaque<0..2^24-1>`; RFC 8446, section 3.4).
+/// Reads a length of 3 bytes, big-endian, then that many bytes (`opaque<0..2^24-1>`; RFC 8446,
+/// section 3.4).
 ///
-/// `Incomplete` of what is missing of the count, or else of the bytes.
+/// `Incomplete` with the bytes missing from the length, or else from the block.
 pub fn counted3(i: &[u8]) -> IResult<&[u8], &[u8]>
     ensures { Gives (λ v. v.now) (counted 3) i.now result }
 {
@@ -61,9 +63,11 @@ pub fn counted3(i: &[u8]) -> IResult<&[u8], &[u8]>
     block(i, n as usize)
 }
 
-/// What [`counted2`] reads, where it stands whole; else `None`, and nothing is taken.
+/// Reads a block after 2 bytes of length, as [`counted2`], if it is whole. Else returns `None` and
+/// consumes nothing.
 ///
-/// So stand the extensions at the end of a hello (RFC 5246, section 7.4.1.2). It never refuses.
+/// The extensions at the end of a hello are such an optional block (RFC 5246, section 7.4.1.2).
+/// Never refuses.
 pub fn maybe2(i: &[u8]) -> IResult<&[u8], Option<&[u8]>>
     ensures { Gives (λ v. option_map (λ x. x.now) v) (maybe (counted 2)) i.now result }
 {
@@ -73,9 +77,10 @@ pub fn maybe2(i: &[u8]) -> IResult<&[u8], Option<&[u8]>>
     }
 }
 
-/// The 2 bytes of the number `t`, big-endian.
+/// Reads the 2 bytes of the number `t`, big-endian.
 ///
-/// `Error` of kind `Tag` where a byte that is present differs; else `Incomplete` of the missing bytes.
+/// `Error` of kind `Tag` if a byte that is present differs, else `Incomplete` with the number of
+/// missing bytes.
 #[tactic(auto, using(crate::proofs::GivesLemmas::reads), unfolding(crate::specs::Reading::tag_at))]
 pub fn tag(i: &[u8], t: u16) -> IResult<&[u8], ()>
     ensures { Gives (λ v. v) (tag_of (bytes_of 2 t)) i.now result }

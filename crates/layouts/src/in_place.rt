@@ -1,8 +1,9 @@
-//! Lists in place: read item by item, as they are walked, with no memory of their own.
+//! Lists in place: items are parsed while the list is walked, and nothing is allocated.
 //!
-//! A list in place is the bytes that it stands in. What it holds is what the layout `list` reads there, so a structure that
-//! has such a list has the same layout as one that holds a `Vec`. Nothing is judged before the walk comes to it: a walk
-//! ends in front of the first item that isn't read, or at the end of the bytes, and [`Items::refusal`] says which.
+//! A list in place keeps only its bytes. It holds what the layout `list` reads there, so a
+//! structure with such a list has the same layout as one with a `Vec`. Nothing is checked before
+//! the walk reaches it: a walk ends before the first item that can't be read, or at the end of the
+//! bytes. [`Items::refusal`] returns which.
 ghost use Rattle.std.specs.Prelude.{◌≡◌, ◌*◌, ◌<◌, ◌≤◌, ℕ, length, slice_get, IfSome};
 ghost use Rattle.std.specs.Option.{option_map};
 ghost use Rattle.layouts.specs.Layout.{Layout, number, pairs_of, times};
@@ -13,21 +14,21 @@ use crate::number::Number;
 use crate::result::{Err, Error, ErrorKind, IResult, Needed, refused};
 use std::marker::PhantomData;
 
-/// How an item is read in place: its layout, and a reader of it that takes no memory.
+/// An item of a list in place: its layout, and a reader that allocates nothing.
 ///
-/// Numbers of a fixed width are read by themselves; other types name what they read.
+/// Numbers of a fixed width are items of themselves; other types name what they read.
 pub trait InPlace<'a> {
-    /// What is read.
+    /// The type of an item that was read.
     type Read: Drop;
 
-    /// What it says, apart from where it lies in memory.
+    /// The item's value, regardless of its place in memory.
     ghost Value: { Type 0 };
 
     ghost view: { Self.Read → Value };
 
     ghost layout: { Layout Value };
 
-    /// Reads one item from the front of `i`.
+    /// Reads one item from the start of `i`.
     fn read(i: &'a [u8]) -> IResult<&'a [u8], Self::Read>
         ensures { Gives view layout i.now result };
 }
@@ -52,9 +53,10 @@ impl<'a, T: Number> InPlace<'a> for T {
     }
 }
 
-/// The items that bytes hold, up to the first that isn't read; each is read as the walk comes to it.
+/// Walks the items in a slice of bytes, up to the first that can't be read. Each is parsed when the
+/// walk reaches it.
 ///
-/// Two are equal where their bytes are.
+/// Two are equal if their bytes are.
 #[derive_where(Clone, Copy, Debug, PartialEq)]
 pub struct Items<'a, T> {
     bytes: &'a [u8],
@@ -63,7 +65,7 @@ pub struct Items<'a, T> {
 }
 
 impl<'a, T> Items<'a, T> {
-    /// The items of `bytes`.
+    /// Returns a walk over the items in `bytes`.
     #[inline(always)]
     pub fn new(bytes: &'a [u8]) -> Self
         ensures { result.bytes.now ≡ bytes.now }
@@ -74,7 +76,7 @@ impl<'a, T> Items<'a, T> {
         }
     }
 
-    /// The bytes that aren't walked yet.
+    /// Returns the bytes that the walk hasn't reached yet.
     #[inline(always)]
     pub fn bytes(self) -> &'a [u8]
         ensures { result.now ≡ self.entry.bytes.now }
@@ -84,7 +86,7 @@ impl<'a, T> Items<'a, T> {
 }
 
 impl<'a, T: InPlace<'a>> Items<'a, T> {
-    /// What is left behind the items: empty, or in front of the first that isn't read.
+    /// Returns the bytes after the items: none, or those from the first item that can't be read.
     #[tactic(auto, using(crate::proofs::ItemsLemmas::left_first, crate::proofs::ItemsLemmas::left_none, crate::proofs::ItemsLemmas::left_still, crate::proofs::ItemsLemmas::left_over))]
     pub fn rest(self) -> &'a [u8]
         ensures { result.now ≡ left_in T.layout self.entry.bytes.now }
@@ -99,9 +101,9 @@ impl<'a, T: InPlace<'a>> Items<'a, T> {
         rest
     }
 
-    /// Why the items end where they do: what refuses the next one, and `None` where no bytes are left.
+    /// Returns why the items end: the refusal of the next item, or `None` if no bytes are left.
     ///
-    /// `None` too where the next one would take no byte, which no item of TLS does.
+    /// Also `None` if the next item would be empty, which no item of TLS is.
     #[inline(always)]
     pub fn refusal(self) -> Option<Err<Error<&'a [u8]>>>
         ensures why { option_map refusal_of result ≡ refusal_in T.layout self.entry.bytes.now }
@@ -141,7 +143,7 @@ impl<'a, T: InPlace<'a>> Iterator for Items<'a, T> {
 }
 
 impl<'a, T: Number> Items<'a, T> {
-    /// How many numbers there are.
+    /// Returns how many numbers the bytes hold. Bytes left over at the end don't count.
     #[tactic(auto, using(crate::proofs::NumbersLemmas::numbers_count, crate::proofs::NumbersLemmas::no_width))]
     #[inline(always)]
     pub fn len(self) -> usize
@@ -153,11 +155,12 @@ impl<'a, T: Number> Items<'a, T> {
         self.bytes.len() / T::WIDTH
     }
 
-    /// The number at the place `i`, counted from 0.
+    /// Returns the number at position `i`, counted from 0; `None` beyond the last one.
     #[tactic(auto, using(crate::proofs::NumbersLemmas::place_fits, crate::proofs::NumbersLemmas::number_at_place))]
     #[inline(always)]
     pub fn get(self, i: usize) -> Option<T>
-        ensures { option_map T.value result ≡ slice_get (items_in (number T.WIDTH) self.entry.bytes.now) i }
+        ensures { option_map T.value result ≡ slice_get
+            (items_in (number T.WIDTH) self.entry.bytes.now) i }
     {
         if i >= self.len() {
             return None;
@@ -168,25 +171,27 @@ impl<'a, T: Number> Items<'a, T> {
     }
 }
 
-/// `count` numbers, all of which are there, in place.
+/// Reads `count` numbers in place. The caller ensures that their bytes are present.
 #[tactic(auto, using(crate::proofs::OneAnswerLemmas::read_allowed, crate::proofs::NumbersLemmas::numbers_in))]
 #[inline(always)]
 pub fn numbers_in_place<T: Number>(i: &[u8], count: usize) -> IResult<&[u8], Items<T>>
     requires some { 0 < T.WIDTH }
     requires fits { T.WIDTH * count ≤ length i.now }
-    ensures { Gives (λ v. items_in (number T.WIDTH) v.bytes.now) (times count (number T.WIDTH)) i.now result }
+    ensures { Gives (λ v. items_in (number T.WIDTH) v.bytes.now) (times count (number T.WIDTH))
+        i.now result }
 {
     let (numbers, rest) = i.split_at(T::WIDTH * count);
     Ok((rest, Items::new(numbers)))
 }
 
-/// All bytes of `i` as numbers of 2 bytes each, in place.
+/// Reads all bytes of `i` as 2-byte numbers, big-endian, in place.
 ///
-/// `Error` of kind `LengthValue` where the count of bytes is odd.
+/// `Error` of kind `LengthValue` if the number of bytes is odd.
 #[inline(always)]
 pub fn pairs_in_place<T: Number>(i: &[u8]) -> IResult<&[u8], Items<T>>
     requires { T.WIDTH ≡ 2 }
-    ensures { Gives (λ v. items_in (number T.WIDTH) v.bytes.now) (pairs_of (number T.WIDTH)) i.now result }
+    ensures { Gives (λ v. items_in (number T.WIDTH) v.bytes.now) (pairs_of (number T.WIDTH))
+        i.now result }
 {
     if i.len() % 2 != 0 {
         return refused(i, ErrorKind::LengthValue);

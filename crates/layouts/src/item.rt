@@ -1,4 +1,4 @@
-//! What lists hold.
+//! Items of lists.
 ghost use Rattle.std.specs.Prelude.{◌≤◌, ℕ, length};
 ghost use Rattle.layouts.specs.Bytes.{Bytes};
 ghost use Rattle.layouts.specs.Layout.{Layout, counted, number};
@@ -11,24 +11,24 @@ use crate::result::IResult;
 use crate::room::{Room, hops1, hops2};
 use std::alloc::Global;
 
-/// How the items of a list are read: their layout, and its reader. Most types that are read are items of themselves.
+/// An item of a list: its layout, and a reader. Most types that are parsed are items of themselves.
 pub trait Item<'a>: Room {
-    /// What is read.
+    /// The type of an item that was read.
     type Read: Drop;
 
-    /// What it says, apart from where it lies in memory.
+    /// The item's value, regardless of its place in memory.
     ghost Value: { Type 0 };
 
     ghost view: { Self.Read → Value };
 
     ghost layout: { Layout Value };
 
-    /// Reads one item from the front of `i`.
+    /// Reads one item from the start of `i`.
     fn read(alloc: Global, i: &'a [u8]) -> IResult<&'a [u8], Self::Read>
         ensures { GivesOrMemory view layout i.now result };
 }
 
-/// Numbers of 2 bytes.
+/// 2-byte numbers, big-endian.
 pub struct Number2;
 
 impl<'a> InPlace<'a> for Number2 {
@@ -53,7 +53,7 @@ impl Room for Number2 {
     }
 }
 
-/// Bytes behind 1 byte of their count.
+/// Blocks of bytes, each after a length of 1 byte.
 pub struct Counted1;
 
 impl<'a> InPlace<'a> for Counted1 {
@@ -78,7 +78,7 @@ impl Room for Counted1 {
     }
 }
 
-/// Bytes behind 2 bytes of their count.
+/// Blocks of bytes, each after a length of 2 bytes, big-endian.
 pub struct Counted2;
 
 impl<'a> InPlace<'a> for Counted2 {

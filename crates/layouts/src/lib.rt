@@ -1,9 +1,19 @@
-//! Fields of TLS structures: the results of parse calls, and readers of single fields and of lists.
+//! Readers of single fields and of lists, the results of parse calls, and what all writers share.
 //!
-//! Each reader's contract names a layout (`specs/Layout.antt`), and says that the call answers what that layout allows
-//! on the bytes: the value and the exact rest, the kind of the broken rule, or the exact count of missing bytes.
-//! Numbers are big-endian (RFC 8446, section 3.3). Here stands also what every writer shares (`writer`): why a value
-//! isn't written, what adds numbers and bytes to a vector, and the loop over a writer.
+//! The promise: each reader returns the one answer that its layout allows on the bytes. That is the
+//! value and the exact rest, the kind of the broken rule, or the exact number of missing bytes.
+//! Numbers are big-endian (RFC 8446, section 3.3).
+//!
+//! - `specs/Layout.antt` defines layouts, the language in which every structure is specified.
+//! - `specs/Meaning.antt` defines which answers a layout allows, `specs/Reading.antt` how to
+//!   compute the one it allows.
+//! - `specs/Answers.antt` defines `Gives` and `GivesOrMemory`, which the contracts of readers name.
+//! - `specs/Stable.antt` defines what further bytes can change, `specs/Items.antt` lists that are
+//!   parsed while they are walked.
+//! - [`laws`] states the theorems about all layouts: exactly one answer is allowed, and reading
+//!   gives it.
+//! - [`writer`] has the errors of writers, appends to a vector, and the loop over a `Write`.
+//!   `specs/Writer.antt` defines what a writer promises.
 #![tactic(auto, using(crate::proofs::OneAnswerLemmas::read_allowed))]
 
 mod bytes;

@@ -9,13 +9,14 @@ use crate::result::{Err, ErrorKind, IResult, refused};
 use crate::room::room_at_first;
 use std::alloc::Global;
 
-/// Items behind those that are there already, as [`items`] reads them.
+/// Appends the items in `i` to `first`, read as [`items`] reads them.
 fn further_items<'a, T: Item<'a>>(
     alloc: Global,
     i: &'a [u8],
     first: Vec<T::Read>,
 ) -> IResult<&'a [u8], Vec<T::Read>>
-    ensures { GivesOrMemory (λ v. map T.view v.items) (behind (map T.view first.items) (list T.layout)) i.now result }
+    ensures { GivesOrMemory (λ v. map T.view v.items)
+        (behind (map T.view first.items) (list T.layout)) i.now result }
 {
     let mut items = first;
     let mut rest = i;
@@ -32,14 +33,16 @@ fn further_items<'a, T: Item<'a>>(
     Ok((rest, items))
 }
 
-/// The same, where most often nothing is left.
+/// Appends the items in `i` to `first`, as [`further_items`]. Returns at once if no bytes are left,
+/// which is most common.
 #[inline(always)]
 fn items_behind<'a, T: Item<'a>>(
     alloc: Global,
     i: &'a [u8],
     first: Vec<T::Read>,
 ) -> IResult<&'a [u8], Vec<T::Read>>
-    ensures { GivesOrMemory (λ v. map T.view v.items) (behind (map T.view first.items) (list T.layout)) i.now result }
+    ensures { GivesOrMemory (λ v. map T.view v.items)
+        (behind (map T.view first.items) (list T.layout)) i.now result }
 {
     if i.is_empty() {
         return Ok((i, first));
@@ -47,10 +50,10 @@ fn items_behind<'a, T: Item<'a>>(
     further_items::<T>(alloc, i, first)
 }
 
-/// Zero or more items, up to the first that isn't read, by `Error` or `Incomplete`, or that would take no byte; what is
-/// left begins there.
+/// Reads zero or more items into a vector. It ends before the first item that is refused (`Error`
+/// or `Incomplete`) or empty. The rest begins there.
 ///
-/// It refuses for memory alone: `OutOfMemory`, of the list or of an item.
+/// `OutOfMemory` if the list or an item can't be allocated. Refuses nothing else.
 #[inline(always)]
 pub fn items<'a, T: Item<'a>>(alloc: Global, i: &'a [u8]) -> IResult<&'a [u8], Vec<T::Read>>
     ensures { GivesOrMemory (λ v. map T.view v.items) (list T.layout) i.now result }
@@ -58,10 +61,10 @@ pub fn items<'a, T: Item<'a>>(alloc: Global, i: &'a [u8]) -> IResult<&'a [u8], V
     further_items::<T>(alloc, i, Vec::with_capacity(alloc, room_at_first::<T>(i))?)
 }
 
-/// One or more items, up to the first that isn't read.
+/// Reads one or more items into a vector, up to the first that can't be read.
 ///
-/// Where the first isn't read, it is refused as that is, with `Incomplete` turned into `Error` of kind `Complete`.
-/// `OutOfMemory` where the list, or an item, could not be held.
+/// If the first item is refused, returns that refusal, with `Incomplete` turned into `Error` of
+/// kind `Complete`. `OutOfMemory` if the list or an item can't be allocated.
 pub fn items1<'a, T: Item<'a>>(alloc: Global, i: &'a [u8]) -> IResult<&'a [u8], Vec<T::Read>>
     ensures { GivesOrMemory (λ v. map T.view v.items) (list1 T.layout) i.now result }
 {
@@ -76,9 +79,10 @@ pub fn items1<'a, T: Item<'a>>(alloc: Global, i: &'a [u8]) -> IResult<&'a [u8], 
     }
 }
 
-/// `count` numbers, all of which are there. The room for them is asked for at once.
+/// Reads `count` numbers into a vector, which is allocated once. The caller ensures that their
+/// bytes are present.
 ///
-/// It refuses for memory alone: `OutOfMemory` where the list could not be held.
+/// `OutOfMemory` if the vector can't be allocated. Refuses nothing else.
 #[inline(always)]
 pub fn numbers<T: Number>(alloc: Global, i: &[u8], count: usize) -> IResult<&[u8], Vec<T>>
     requires { T.WIDTH * count ≤ length i.now }
@@ -94,9 +98,10 @@ pub fn numbers<T: Number>(alloc: Global, i: &[u8], count: usize) -> IResult<&[u8
     Ok((rest, numbers))
 }
 
-/// All bytes of `i` as numbers of 2 bytes each.
+/// Reads all bytes of `i` as 2-byte numbers, big-endian, into a vector.
 ///
-/// `Error` of kind `LengthValue` where the count of bytes is odd. `OutOfMemory` where the list could not be held.
+/// `Error` of kind `LengthValue` if the number of bytes is odd. `OutOfMemory` if the vector can't
+/// be allocated.
 pub fn pairs<T: Number>(alloc: Global, i: &[u8]) -> IResult<&[u8], Vec<T>>
     requires { T.WIDTH ≡ 2 }
     ensures { GivesOrMemory (λ v. map T.value v.items) (pairs_of (number T.WIDTH)) i.now result }

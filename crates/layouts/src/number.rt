@@ -1,4 +1,4 @@
-//! Numbers of one to eight bytes, big-endian.
+//! Numbers of 1 to 8 bytes, big-endian.
 #![tactic(auto, using(crate::proofs::GivesLemmas::reads), unfolding(crate::specs::Reading::split_at, crate::specs::Reading::number_at))]
 
 ghost use Rattle.std.specs.Prelude.{◌≡◌, ◌+◌, ◌≤◌, ℕ, Ok, length};
@@ -7,28 +7,30 @@ ghost use Rattle.layouts.specs.Answers.{Gives};
 
 use crate::result::{Err, IResult, Needed};
 
-/// A value that is a number of so many bytes.
+/// A type whose values are numbers of a fixed width.
 ///
-/// Where its bytes are there, it is read without a test, so that the bytes of many are turned round at once.
+/// [`Number::read_present`] has no bounds check, so that the compiler can swap the bytes of many
+/// numbers at once.
 pub trait Number: Drop {
-    /// How many bytes it has.
+    /// The width in bytes.
     ghost WIDTH: { ℕ };
 
     const WIDTH: usize;
 
-    /// The number.
+    /// The number as a natural number.
     ghost value: { Self → ℕ };
 
-    /// Reads one from the front of `i`, big-endian.
+    /// Reads a number from the start of `i`, big-endian. The caller ensures that its bytes are
+    /// present.
     fn read_present(i: &[u8]) -> (&[u8], Self)
         requires { WIDTH ≤ length i.now }
         ensures read { Gives value (number WIDTH) i.now (Ok result) }
         ensures behind { WIDTH + length result.0.now ≡ length i.now };
 }
 
-/// A number of 1 byte (`uint8`; RFC 8446, section 3.3).
+/// Reads a number of 1 byte (`uint8`; RFC 8446, section 3.3).
 ///
-/// `Incomplete` of 1 where there is no byte.
+/// `Incomplete` with 1 if there is no byte.
 pub fn number1(i: &[u8]) -> IResult<&[u8], u8>
     ensures { Gives (λ v. v) (number 1) i.now result }
 {
@@ -38,9 +40,9 @@ pub fn number1(i: &[u8]) -> IResult<&[u8], u8>
     }
 }
 
-/// A number of 2 bytes, big-endian (`uint16`; RFC 8446, section 3.3).
+/// Reads a number of 2 bytes, big-endian (`uint16`; RFC 8446, section 3.3).
 ///
-/// `Incomplete` of the missing bytes where there are fewer than 2.
+/// `Incomplete` with the number of missing bytes if there are fewer than 2.
 pub fn number2(i: &[u8]) -> IResult<&[u8], u16>
     ensures { Gives (λ v. v) (number 2) i.now result }
 {
@@ -78,9 +80,9 @@ impl Number for u16 {
     }
 }
 
-/// A number of 3 bytes, big-endian (`uint24`; RFC 8446, section 3.3).
+/// Reads a number of 3 bytes, big-endian (`uint24`; RFC 8446, section 3.3).
 ///
-/// `Incomplete` of the missing bytes where there are fewer than 3.
+/// `Incomplete` with the number of missing bytes if there are fewer than 3.
 pub fn number3(i: &[u8]) -> IResult<&[u8], u32>
     ensures { Gives (λ v. v) (number 3) i.now result }
 {
@@ -90,9 +92,9 @@ pub fn number3(i: &[u8]) -> IResult<&[u8], u32>
     }
 }
 
-/// A number of 4 bytes, big-endian (`uint32`; RFC 8446, section 3.3).
+/// Reads a number of 4 bytes, big-endian (`uint32`; RFC 8446, section 3.3).
 ///
-/// `Incomplete` of the missing bytes where there are fewer than 4.
+/// `Incomplete` with the number of missing bytes if there are fewer than 4.
 pub fn number4(i: &[u8]) -> IResult<&[u8], u32>
     ensures { Gives (λ v. v) (number 4) i.now result }
 {
@@ -102,9 +104,9 @@ pub fn number4(i: &[u8]) -> IResult<&[u8], u32>
     }
 }
 
-/// A number of 8 bytes, big-endian (`uint64`; RFC 8446, section 3.3).
+/// Reads a number of 8 bytes, big-endian (`uint64`; RFC 8446, section 3.3).
 ///
-/// `Incomplete` of the missing bytes where there are fewer than 8.
+/// `Incomplete` with the number of missing bytes if there are fewer than 8.
 pub fn number8(i: &[u8]) -> IResult<&[u8], u64>
     ensures { Gives (λ v. v) (number 8) i.now result }
 {

@@ -1,20 +1,20 @@
-//! Where parts stand in the bytes that they were read from.
+//! Positions of parts within the bytes that they were read from.
 ghost use Rattle.std.specs.Prelude.{◌≡◌, ◌++◌, length};
 ghost use Rattle.layouts.specs.Meaning.{EndsWith};
 ghost use Rattle.layouts.specs.Place.{bytes_at};
 
-/// Where bytes stand in others, counted in bytes.
+/// A range within a slice of bytes.
 #[derive(Clone, Copy, Debug, PartialEq)]
 pub struct Place {
-    /// How many bytes stand in front.
+    /// The number of bytes before the range.
     pub offset: usize,
-    /// How many bytes stand there.
+    /// The number of bytes in the range.
     pub length: usize,
 }
 
 impl Place {
-    /// Where `part` stands in `whole`, at whose end it is followed by `rest`: as a part that was read, and the rest that its
-    /// reader answered.
+    /// Returns where `part` is within `whole`, if `whole` ends with `part` and then `rest`: as
+    /// after a reader that returned `part` and `rest`.
     #[tactic(auto, using(crate::proofs::PlaceLemmas::place_is))]
     #[inline(always)]
     pub fn before(whole: &[u8], part: &[u8], rest: &[u8]) -> Place

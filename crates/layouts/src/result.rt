@@ -1,33 +1,33 @@
-//! What a parse call answers.
+//! Results of parse calls.
 
 ghost use Rattle.std.specs.Prelude.{◌≡◌, MatchResult};
 
 use std::alloc::{AllocError, AllocFailed};
 use std::fmt;
 
-/// Why bytes are refused.
+/// The kind of rule that the bytes break.
 #[derive(Clone, Copy, Debug, PartialEq, Eq)]
 pub enum ErrorKind {
-    /// A length is above what its record may have.
+    /// A length is above the maximum of its record.
     TooLarge,
-    /// A count does not fit what it counts.
+    /// A length doesn't fit what it counts.
     LengthValue,
     /// A value breaks its rule.
     Verify,
-    /// No form is read for a type.
+    /// The parser knows no structure for this type.
     Switch,
     /// A fixed tag differs.
     Tag,
-    /// Bytes are missing where no further bytes could help.
+    /// Bytes are missing, and no further bytes could supply them.
     Complete,
 }
 
 /// How many bytes are missing.
 #[derive(Clone, Copy, Debug, PartialEq, Eq)]
 pub enum Needed {
-    /// Not known. No call answers it by itself.
+    /// Unknown. No parse call returns it by itself.
     Unknown,
-    /// So many, at least 1.
+    /// The number of missing bytes, at least 1.
     Size(usize),
 }
 
@@ -39,30 +39,31 @@ pub struct Error<I> {
     pub code: ErrorKind,
 }
 
-/// Why a parse call answers no value.
+/// Why a parse call returns no value.
 #[derive(Clone, Debug, PartialEq, Drop)]
 pub enum Err<E> {
     /// The bytes end before the structure does.
     Incomplete(Needed),
-    /// The bytes are refused, and others may be tried in their place.
+    /// The bytes are refused. A caller may try another structure instead.
     Error(E),
-    /// The bytes are refused for good. No call answers it by itself.
+    /// The bytes are refused for good. No parse call returns it by itself.
     Failure(E),
-    /// A growth of a list or a text was refused.
+    /// A list or a text couldn't grow.
     OutOfMemory,
 }
 
 /// The rest of the input and the value, or why there is none.
 pub type IResult<I, O> = Result<(I, O), Err<Error<I>>>;
 
-/// A growth of a list or a text was refused, in a call that is no parse call.
+/// A list or a text couldn't grow, in a call that doesn't parse.
 #[derive(Debug, PartialEq, Drop)]
 pub struct OutOfMemory;
 
-/// A refusal of that kind, with the input that is refused.
+/// Returns `Error` of this kind, with the input that is refused.
 #[inline(always)]
 pub fn refused<I, O>(input: I, code: ErrorKind) -> IResult<I, O>
-    ensures { MatchResult result (λ _. ⊥) (λ e. e ≡ Err.Error (record { input = input; code = code })) }
+    ensures { MatchResult result (λ _. ⊥)
+        (λ e. e ≡ Err.Error (record { input = input; code = code })) }
 {
     Err(Err::Error(Error { input, code }))
 }

@@ -1,15 +1,17 @@
-//! How many items may stand in bytes: guesses, so that a list asks for its room at once.
+//! Estimates of how many items a slice holds, so that a list allocates its capacity at once.
 //!
-//! A guess is never more than there are bytes, whatever a sender's lengths say, and no answer depends on it. Before any
-//! item is read, room is asked for [`MOST_AT_FIRST`] items at most: bytes whose first item is refused cost no more.
+//! An estimate is at most the number of bytes, whatever lengths a sender wrote, and no answer
+//! depends on it. Before the first item is read, a list allocates for [`MOST_AT_FIRST`] items at
+//! most, so bytes whose first item is refused cost no more than that.
 ghost use Rattle.std.specs.Prelude.{◌≤◌, length};
 
-/// For how many items a list asks for room before any is read.
+/// The most items that a list allocates for before it reads the first.
 const MOST_AT_FIRST: usize = 32;
 
-/// What a list of items guesses of its length. Where lengths stand at hand, an item counts by them.
+/// An item type that estimates how many items a slice holds. If items have length fields, the
+/// estimate follows these.
 pub trait Room {
-    /// How many items may stand in `i`.
+    /// Returns an estimate of how many items `i` holds, at most its number of bytes.
     fn room(i: &[u8]) -> usize
         ensures { result ≤ length i.now }
     {
@@ -17,7 +19,7 @@ pub trait Room {
     }
 }
 
-/// How many stretches stand one behind the other, each 1 byte of length and that many bytes.
+/// Returns how many blocks follow one another, each a length of 1 byte and that many bytes.
 #[inline(always)]
 pub fn hops1(i: &[u8]) -> usize
     ensures { result ≤ length i.now }
@@ -32,7 +34,8 @@ pub fn hops1(i: &[u8]) -> usize
     i.len()
 }
 
-/// How many stretches stand one behind the other, each `front` bytes, 2 bytes of length, and that many bytes.
+/// Returns how many blocks follow one another, each `front` bytes, a length of 2 bytes
+/// (big-endian), and that many bytes.
 #[inline(always)]
 pub fn hops2(i: &[u8], front: usize) -> usize
     ensures { result ≤ length i.now }
@@ -56,7 +59,7 @@ pub fn hops2(i: &[u8], front: usize) -> usize
     i.len()
 }
 
-/// As many as there are bytes, but `most` at most.
+/// Returns the number of bytes, at most `most`.
 #[inline(always)]
 pub fn at_most(i: &[u8], most: usize) -> usize
     ensures { result ≤ length i.now }
@@ -64,7 +67,7 @@ pub fn at_most(i: &[u8], most: usize) -> usize
     if i.len() < most { i.len() } else { most }
 }
 
-/// The room that a list of `T` asks for before any item of `i` is read.
+/// Returns for how many items a list of `T` allocates before it reads the first item of `i`.
 #[inline(always)]
 pub(crate) fn room_at_first<T: Room>(i: &[u8]) -> usize
     ensures { result ≤ 32 }

@@ -1,8 +1,9 @@
-//! A search in a table of numbers.
+//! Binary search in a table of numbers.
 ghost use Rattle.std.specs.Prelude.{◌≡◌, ◌↔◌, ℕ, Some, slice_get};
 ghost use Rattle.std.specs.List.Sorted.{IsStrictlyIncreasing};
 
-/// Where `n` stands in a table that rises strictly, found by halving.
+/// Returns the position of `n` in a strictly increasing table, by binary search; `None` if it isn't
+/// there.
 pub fn place(table: &[u16], n: u16) -> Option<usize>
     requires { IsStrictlyIncreasing table.now }
     ensures { (k : ℕ) → (result ≡ Some k) ↔ (slice_get table.now k ≡ Some n) }

@@ -1,4 +1,4 @@
-//! What every writer shares: why a value isn't written, the loop that hands a text to a writer, and what builds a text.
+//! What all writers share: errors, the loop over a `Write`, and appends to a vector.
 ghost use Rattle.std.specs.Prelude.{◌≡◌, ℕ, IfErr, OnOk, take};
 ghost use Rattle.std.specs.Io.KnownBytes.{Appends};
 
@@ -8,16 +8,16 @@ use std::io::Write;
 
 pub mod builder;
 
-/// Why a value is not written.
+/// Why a value isn't written.
 #[derive(Clone, Debug, PartialEq, Drop)]
 pub enum GenError {
-    /// The writer does not know this kind of message or extension. Nothing was written.
+    /// The writer doesn't know this kind of message or extension. Nothing was written.
     NotYetImplemented,
-    /// A length does not fit its field. Nothing was written.
+    /// A length doesn't fit its field. Nothing was written.
     BadLength,
-    /// The writer failed, or took nothing. How much of the text went out is unknown.
+    /// The `Write` failed, or took no bytes. How many bytes it took before is unknown.
     Io,
-    /// The text could not be held. Nothing was written.
+    /// The encoding couldn't be allocated. Nothing was written.
     OutOfMemory,
 }
 
@@ -54,9 +54,9 @@ impl fmt::Display for GenError {
 
 impl std::error::Error for GenError {}
 
-/// Hands all of `bytes` to the writer; a short write is gone on with.
+/// Writes all of `bytes`, in as many calls of `write` as it takes.
 ///
-/// `Io` where a write fails, also where it was interrupted, or takes nothing. The writer isn't flushed.
+/// `Io` if a write fails (also if it was interrupted) or takes no bytes. Doesn't flush.
 #[tactic(auto, using(crate::proofs::WriterLemmas::longer_front))]
 pub fn write_whole<W: Write>(w: &mut W, bytes: &[u8]) -> Result<(), GenError>
     ensures ok { OnOk result (Appends (W.contents w.old) (W.contents w.new) bytes.now) }

@@ -1,4 +1,4 @@
--- What is heard of a side from where its TLS begins.
+-- The analysis of a side from where its TLS begins.
 use Rattle.std.proofs.Common.{◌≡◌, ℕ, ◌≤◌, ◌<◌, Bool, true, false, List, length, drop, refl, sym, ◌∙◌, ap, subst, inr, arith}
 use Rattle.std.specs.Prelude.{min, nat_le, not}
 use Rattle.std.proofs.lemmas.Bool.{and_parts, leb-true, leb-false}
@@ -22,16 +22,19 @@ use Rattle.log_connections.specs.declared.fronts.Beginning.TheVariants as beginn
 use Rattle.log_connections.specs.declared.heard.Said.{Said}
 use Rattle.log_connections.specs.declared.heard.Said.TheVariants as said
 
-pub heard_none : (s : Side) (d : Direction) (t u : Stream) (z : Said) (x : Analyzer) (f : Fronts) (y : Analyzer) (g : Fronts)
+pub heard_none : (s : Side) (d : Direction) (t u : Stream) (z : Said) (x : Analyzer) (f : Fronts)
+    (y : Analyzer) (g : Fronts)
     → z ≡ said.Stream x f → IsHeardAsNone x d y → g ≡ leaving s f → u ≡ stopped t t.reading
     → HearsNone s d t u z (said.Stream y g)
 unfolding HearsNone
 heard_none s d t u z x f y g is heard left stops =
     subst (λ z. HearsNone s d t u z (said.Stream y g)) (sym is) (heard, left, stops)
 
-pub heard_at : (s : Side) (d : Direction) (n : ℕ) (t u : Stream) (z w : Said) (x : Analyzer) (f : Fronts) (y : Analyzer) (g : Fronts)
+pub heard_at : (s : Side) (d : Direction) (n : ℕ) (t u : Stream) (z w : Said) (x : Analyzer)
+    (f : Fronts) (y : Analyzer) (g : Fronts)
     (b : Bytes)
-    → z ≡ said.Stream x f → w ≡ said.Stream y g → b ≡ drop n (next_bytes t t.reading) → IsHeardOn x d b y
+    → z ≡ said.Stream x f → w ≡ said.Stream y g → b ≡ drop n (next_bytes t t.reading)
+    → IsHeardOn x d b y
     → g ≡ with_begun s n f → IsTakenOff t u → HearsAt s d n t u z w
 unfolding HearsAt
 heard_at s d n t u z w x f y g b is its bytes heard begun taken =
@@ -39,7 +42,7 @@ heard_at s d n t u z w x f y g b is its bytes heard begun taken =
     (subst (λ w. HearsAt s d n t u (said.Stream x f) w) (sym its)
     (subst (λ b. IsHeardOn x d b y) bytes heard, begun, taken))
 
--- What is behind more bytes than there are is what is behind all.
+-- Dropping more bytes than there are drops all.
 pub behind_all : (n m : ℕ) (b c : Bytes) → m ≡ min n (length b) → c ≡ drop m b → c ≡ drop n b
 behind_all n m b c e is = is ∙ go (nat_le n (length b)) refl
   where
@@ -48,7 +51,7 @@ behind_all n m b c e is = is ∙ go (nat_le n (length b)) refl
     go false h = drop_all m b (omega (arith, e, leb-false n (length b) h))
         ∙ sym (drop_all n b (omega (arith, leb-false n (length b) h)))
 
--- Of a side that is over nothing is heard, whatever comes.
+-- A side that is over is not analyzed, whatever comes.
 heard_over : (x : Analyzer) (d : Direction) (b : Bytes) → is_over x d ≡ true → IsHeardOn x d b x
 heard_over x d b over = go (hearing x d) refl
   where
@@ -57,7 +60,8 @@ heard_over x d b over = go (hearing x d) refl
 
     go : (h : Hearing) → hearing x d ≡ h → IsHeardBy h x d b x
     go Unknown is =
-        let none : false ≡ true = subst (λ h. over_by h (outcome_at x.hearer.flow.state) ≡ true) is over in cc
+        let none : false ≡ true =
+        subst (λ h. over_by h (outcome_at x.hearer.flow.state) ≡ true) is over in cc
     go Clear is = next
     go Encrypted is = next
     go Other is = next
@@ -71,14 +75,15 @@ not_sought : (b : Bool) → not b ≡ true → b ≡ false
 not_sought false is = refl
 not_sought true is = cc
 
--- A side that is over is read no further, and all else stays.
+-- A side that is over is read no further, and everything else stays.
 pub over_stays : (s : Side) (last : Bool) (d : Direction) (t u : Stream) (z : Said)
     → is_over_in s d z ≡ true → u ≡ stopped t t.reading → HearsStream s last d t u z z
 unfolding HearsStream HearsAt
 over_stays s last d t u (said.Stream x f) over stops =
     let both = and_parts (not (is_sought (front_of s f))) (is_over x d) over in
     let found : is_sought (front_of s f) ≡ false = not_sought (is_sought (front_of s f)) both.0 in
-    let begins : begins_in s last (said.Stream x f) (next_bytes t t.reading) ≡ beginnings.At 0 = rw found in
+    let begins : begins_in s last (said.Stream x f) (next_bytes t t.reading) ≡ beginnings.At 0 =
+    rw found in
     let begun : f ≡ with_begun s 0 f = rw found in
     subst (λ b. HearsBy b s d t u (said.Stream x f) (said.Stream x f)) (sym begins) (
       heard_over x d (drop 0 (next_bytes t t.reading)) both.1,

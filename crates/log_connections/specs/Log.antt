@@ -1,4 +1,5 @@
--- What a packet is to the log: its connection takes it, and that connection's listener hears it.
+-- What a packet does to the log: its connection takes it, and that connection's analysis processes
+-- it.
 use Rattle.std.specs.Prelude.{◌≡◌, Bool, true, false, ◌∷◌, Option, Some, None}
 use Rattle.connection_parts.specs.Part.{falls_to}
 use Rattle.connection_parts.specs.declared.part.Part.{Part}
@@ -27,16 +28,20 @@ is_logged None protocol one other = true
 is_logged (Some part) protocol one other = falls_to protocol one other part
 
 module _ {K : Type 0} where
-  -- The listener hears what a side's stream has next; all else of the connection stays, the other side's stream with it.
+  -- The next bytes of a side's stream are analyzed. Everything else in the connection stays, the
+  -- other side's stream included.
   abbrev pub HearsSide : Side → Connection (Heard K) → Connection (Heard K) → Type 0
   HearsSide Originator c c' =
-      HearsOn Originator (direction_of c'.listener.is_turned Originator) c.from_originator c'.from_originator c.listener.said c'.listener.said
+      HearsOn Originator (direction_of c'.listener.is_turned Originator) c.from_originator
+      c'.from_originator c.listener.said c'.listener.said
       × (c' ≡ record c { from_originator = c'.from_originator; listener = c'.listener })
   HearsSide Responder c c' =
-      HearsOn Responder (direction_of c'.listener.is_turned Responder) c.from_responder c'.from_responder c.listener.said c'.listener.said
+      HearsOn Responder (direction_of c'.listener.is_turned Responder) c.from_responder
+      c'.from_responder c.listener.said c'.listener.said
       × (c' ≡ record c { from_responder = c'.from_responder; listener = c'.listener })
 
-  -- The segment's own connection takes it, and its listener hears what its sender's stream has then. All others stay.
+  -- The segment's connection takes it, and the next bytes of its sender's stream are analyzed. All
+  -- other connections stay.
   pub record HearsSegment (s : Segment) (old new : Table (Heard K)) : Type 0 where
     pub put : Connection (Heard K)
     pub its : Connection (Heard K)
@@ -45,33 +50,36 @@ module _ {K : Type 0} where
     pub stands : new.live ≡ (five_tuple_of s, its) ∷ others (five_tuple_of s) old.live
     pub closed : new.closed ≡ closed_behind true s old
 
-  -- A segment that belongs to no connection changes none.
+  -- A segment without a connection changes none.
   abbrev pub Logs : Bool → Segment → Table (Heard K) → Table (Heard K) → Type 0
   Logs true s old new = HearsSegment s old new
   Logs false s old new = new ≡ old
 
-  -- The listener hears a datagram of its sender's, or the one of DTLS that it holds; all else of the exchange stays.
+  -- A datagram, or the DTLS datagram inside it, is analyzed. Everything else in the exchange stays.
   abbrev pub HearsFrom : Datagram → Connection (Heard K) → Connection (Heard K) → Type 0
   HearsFrom d c c' =
-      HearsDatagram (direction_of c.listener.is_turned (side_of c d.source)) (held_datagram d.payload.now) c.listener.said c'.listener.said
+      HearsDatagram (direction_of c.listener.is_turned (side_of c d.source))
+      (held_datagram d.payload.now) c.listener.said c'.listener.said
       × (c' ≡ record c { listener = c'.listener })
 
-  -- The datagram's own exchange takes it, and its listener hears it. All others stay.
+  -- The datagram's exchange takes and analyzes it. All others stay.
   pub record LogsDatagram (d : Datagram) (old new : Table (Heard K)) : Type 0 where
     pub put : Connection (Heard K)
     pub its : Connection (Heard K)
     pub takes : TakesDatagram d (at (five_tuple_of_datagram d) old.live) put
     pub hears : HearsFrom d put its
-    pub stands : new.live ≡ (five_tuple_of_datagram d, its) ∷ others (five_tuple_of_datagram d) old.live
+    pub stands : new.live ≡ (five_tuple_of_datagram d, its) ∷ others
+        (five_tuple_of_datagram d) old.live
     pub closed : new.closed ≡ old.closed
 
-  -- A segment that the connection between its ends heard is logged; of any other nothing changes.
+  -- A segment that its open connection analyzed is logged. For any other nothing changes.
   abbrev pub LogsOpen : Reception → Segment → Table (Heard K) → Table (Heard K) → Type 0
   LogsOpen (reception.Heard closed) s old new = HearsSegment s old new
   LogsOpen (reception.Told verdict) s old new = new ≡ old
   LogsOpen reception.NoneOpen s old new = new ≡ old
 
-  -- The same of a datagram; a damaged one is counted.
+  -- A datagram that its open exchange analyzed is logged, and a damaged one counted. For any other
+  -- nothing changes.
   abbrev pub LogsExchange : Delivery → Datagram → Table (Heard K) → Table (Heard K) → Type 0
   LogsExchange delivery.Heard d old new = LogsDatagram d old new
   LogsExchange delivery.Damaged d old new = DropsDatagram d true old new

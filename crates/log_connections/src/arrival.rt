@@ -1,30 +1,31 @@
-//! What a packet brings to a connection.
+//! What a packet brings to a connection: a TCP segment or a UDP datagram.
 use capture::{
     Address, TcpSegment, UdpDatagram, maximum_segment_size, option_of, timestamp, window_scale,
 };
 use connections::{Checksum, Datagram, End, FiveTuple, Options, Segment};
 use std::net::{IpAddr, Ipv4Addr, Ipv6Addr};
 
-/// The weight of the flag SYN (RFC 9293, section 3.1).
+/// The weight of the SYN flag (RFC 9293, section 3.1).
 const SYN: u8 = 2;
 
-/// The kind of the option by which an end takes selective acknowledgements (RFC 2018, section 2).
+/// The kind of SACK-Permitted, with which an end accepts selective acknowledgements (RFC 2018,
+/// section 2).
 const SACK_PERMITTED: u8 = 4;
 
-/// The kind of a byte between options (RFC 9293, section 3.2), and that of the sender's clock (RFC 7323, section 3.2).
+/// The kinds of No-Operation (RFC 9293, section 3.2) and of Timestamps (RFC 7323, section 3.2).
 const PADDING: u8 = 1;
 
 const TIMESTAMPS: u8 = 8;
 
-/// The kinds of the options by which a segment is signed (RFC 2385, section 3; RFC 5925, section 2.2).
+/// The kinds of the options that sign a segment (RFC 2385, section 3; RFC 5925, section 2.2).
 const MD5_SIGNATURE: u8 = 19;
 
 const AUTHENTICATION: u8 = 29;
 
-/// Which checksums of packets count.
+/// Which checksums count.
 #[derive(Clone, Copy, Debug, PartialEq, Eq)]
 pub enum Checksums {
-    /// Those of a sender of whose first packets one had a right one, or the sum of the pseudo-header.
+    /// Those of a sender with a correct or partial one among its first packets.
     Auto,
     /// All.
     Check,
@@ -35,14 +36,14 @@ pub enum Checksums {
 /// What a packet brings to a connection.
 #[derive(Clone, Copy)]
 pub enum Arrival<'a> {
-    /// A segment of TCP.
+    /// A TCP segment.
     Segment(Segment<'a>),
-    /// A datagram of UDP.
+    /// A UDP datagram.
     Datagram(Datagram<'a>),
 }
 
 impl<'a> Arrival<'a> {
-    /// When it was captured.
+    /// Returns the capture time, in nanoseconds since 1970-01-01 00:00 UTC.
     pub fn time(&self) -> u64 {
         match self {
             Arrival::Segment(segment) => segment.time,
@@ -50,7 +51,7 @@ impl<'a> Arrival<'a> {
         }
     }
 
-    /// Where it comes from.
+    /// Returns the sender.
     pub(crate) fn source(&self) -> End {
         match self {
             Arrival::Segment(segment) => segment.source,
@@ -58,7 +59,7 @@ impl<'a> Arrival<'a> {
         }
     }
 
-    /// Between which ends it goes.
+    /// Returns the five-tuple.
     pub(crate) fn between(&self) -> FiveTuple {
         match self {
             Arrival::Segment(segment) => segment.between(),
@@ -67,7 +68,7 @@ impl<'a> Arrival<'a> {
     }
 }
 
-/// An address.
+/// Converts an address.
 fn address(address: Address) -> IpAddr {
     match address {
         Address::V4(n) => IpAddr::V4(Ipv4Addr::from_bits(n)),
@@ -77,7 +78,7 @@ fn address(address: Address) -> IpAddr {
     }
 }
 
-/// An end, by its address and its port.
+/// Returns an end with this address and port.
 pub(crate) fn end(address_there: Address, port: u16) -> End {
     End {
         address: address(address_there),
@@ -85,7 +86,8 @@ pub(crate) fn end(address_there: Address, port: u16) -> End {
     }
 }
 
-/// The clock of a segment that has no other option, in the form that hosts send (RFC 7323, appendix A): most segments have it.
+/// Returns the timestamp of a segment without other options, in the form that hosts send (RFC 7323,
+/// appendix A). Most segments have it.
 fn clock_alone(options: &[u8]) -> Option<u32> {
     match options {
         [PADDING, PADDING, TIMESTAMPS, 10, a, b, c, d, _, _, _, _] => {
@@ -95,8 +97,8 @@ fn clock_alone(options: &[u8]) -> Option<u32> {
     }
 }
 
-/// What the options of a segment say, looked for one by one. What a SYN alone may say isn't asked of another (RFC 9293, section 3.7.1; RFC 7323, section 2.2;
-/// RFC 2018, section 2).
+/// Returns the options of a segment, each by a search. Those that only a SYN may have are looked up
+/// only in a SYN (RFC 9293, section 3.7.1; RFC 7323, section 2.2; RFC 2018, section 2).
 fn options_one_by_one(options: &[u8], is_syn: bool) -> Options {
     let clock = timestamp(options);
     let is_signed = option_of(options, MD5_SIGNATURE).is_some()
@@ -119,7 +121,7 @@ fn options_one_by_one(options: &[u8], is_syn: bool) -> Options {
     }
 }
 
-/// What the options of a segment say.
+/// Returns the options of a segment.
 #[inline(always)]
 fn options_of(options: &[u8], is_syn: bool) -> Options {
     if let (false, Some(clock)) = (is_syn, clock_alone(options)) {
@@ -131,7 +133,7 @@ fn options_of(options: &[u8], is_syn: bool) -> Options {
             is_signed: false,
         };
     }
-    // (field by field: in one piece they would pass through memory)
+    // (field by field: as a whole they would go through memory)
     let Options {
         scale,
         clock,
@@ -148,7 +150,7 @@ fn options_of(options: &[u8], is_syn: bool) -> Options {
     }
 }
 
-/// What the checksums of a packet are, as far as they count.
+/// Returns the result for a packet's checksums, as far as they count.
 pub(crate) fn checksum_of(datagram: &capture::Datagram<'_>, checksums: Checksums) -> Checksum {
     if checksums == Checksums::Ignore {
         return Checksum::Right;
@@ -161,7 +163,7 @@ pub(crate) fn checksum_of(datagram: &capture::Datagram<'_>, checksums: Checksums
     }
 }
 
-/// A segment with its ends and its time.
+/// Returns a segment with its ends and its time.
 #[inline(always)]
 pub(crate) fn segment_of<'a>(
     time: u64,
@@ -187,7 +189,7 @@ pub(crate) fn segment_of<'a>(
     }
 }
 
-/// A datagram with its ends and its time.
+/// Returns a datagram with its ends and its time.
 pub(crate) fn datagram_of<'a>(
     time: u64,
     network: u64,

@@ -1,4 +1,4 @@
-//! Who hears the events of a connection.
+//! The listeners to the events of a connection.
 use crate::heard::Keeper;
 use std::alloc::AllocError;
 use tls_analyzer::Witness;
@@ -6,8 +6,9 @@ use tls_flow::{Direction, HandshakeMessage};
 use tls_stream::Said;
 use tls_summary::KnownCertificates;
 
-/// Who keeps its pieces, where they are kept; and the certificates of all connections, which are lent along. The keeper is held, and not lent, since
-/// nothing says of a call that hears that it leaves what is lent in its place.
+/// The keeper of a connection's pieces, if it has one, and the certificates of all connections,
+/// which are borrowed. The keeper is owned, since no contract of the analyzers' calls says that a
+/// borrowed one stays in place.
 #[derive(Drop)]
 pub(crate) struct Audience<'a, K> {
     pub(crate) keeper: Option<Box<K>>,

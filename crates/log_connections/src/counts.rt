@@ -1,64 +1,64 @@
-//! What was read and found, and what was left out.
+//! Counts of what was read and found, and of what was left out.
 use crate::links::{LinkName, OtherLinks};
 use std::fmt::{self, Display, Formatter};
 use std::io;
 use tls_flow::Outcome;
 
-/// What was read and found in a capture, and what of it was left out, each by its reason.
+/// Counts of what was read and found in a capture, and of what was left out, by reason.
 #[derive(Drop)]
 pub struct Counts {
-    /// Packets.
+    /// All packets.
     pub packets: u64,
-    /// Connections of TLS.
+    /// TLS connections.
     pub tls: u64,
-    /// Connections of DTLS.
+    /// DTLS connections.
     pub dtls: u64,
-    /// Of both, those whose handshake a fatal alert broke off.
+    /// Connections of both kinds whose handshake was ended by a fatal alert.
     pub broken_off: u64,
-    /// Those whose handshake wasn't over at their end.
+    /// Connections that ended before their handshake did.
     pub waiting: u64,
-    /// Those with a message that isn't read.
+    /// Connections with a message that can't be parsed.
     pub unknown: u64,
-    /// Those whose messages are no handshake.
+    /// Connections whose messages are no handshake.
     pub no_handshake: u64,
-    /// Packets that weren't captured whole, or break a rule of a header.
+    /// Packets that were truncated, or have a malformed header.
     pub unread: u64,
-    /// Packets of link types that aren't read.
+    /// Packets of unsupported link types.
     pub(crate) other_links: OtherLinks,
-    /// Packets of a protocol that isn't read.
+    /// Packets of unsupported protocols.
     pub other_protocols: u64,
-    /// Packets that their receiver drops, since a checksum is wrong.
+    /// Packets that their receiver drops for a wrong checksum.
     pub damaged: u64,
-    /// Packets of connections that fall to another part than the one that is logged.
+    /// Packets of connections in another part than the logged one.
     pub other_parts: u64,
-    /// Fragments of datagrams that would have more than 65,535 bytes.
+    /// Fragments of datagrams that would exceed 65,535 bytes.
     pub too_long: u64,
-    /// Fragments that aren't the last, of a length that isn't a multiple of 8.
+    /// Fragments other than the last whose length isn't a multiple of 8.
     pub uneven: u64,
-    /// Fragments that say another end than others of their datagram, or stand behind its end.
+    /// Fragments whose end contradicts that of others, or that go past their datagram's end.
     pub other_end: u64,
-    /// Datagrams of which fragments were missing for 30 seconds.
+    /// Datagrams that were dropped with fragments missing for 30 seconds.
     pub late: u64,
-    /// Datagrams of which fragments were missing, and for which there was no more room.
+    /// Datagrams that were dropped with fragments missing, since there was no more room.
     pub crowded: u64,
-    /// Datagrams of which fragments were missing at the end.
+    /// Datagrams with fragments missing at the end of the capture.
     pub cut_short: u64,
-    /// Packets in more tunnels, one in another, than are followed.
+    /// Packets in more nested tunnels than are followed.
     pub in_too_many_tunnels: u64,
-    /// Segments of TCP with data that belong to no open connection.
+    /// TCP segments with data that belong to no open connection.
     pub stray_segments: u64,
     /// Connections that are neither TLS nor DTLS.
     pub other_connections: u64,
-    /// Connections of TLS in which bytes are missing, of one side or of both.
+    /// TLS connections with missing bytes, on one side or both.
     pub gaps: u64,
-    /// Connections that ended before their time, since memory ran short.
+    /// Connections that were ended early, when memory ran short.
     pub ended_early: u64,
 }
 
-/// How many there are of what, whose name stands in the singular, and why they were left out.
+/// A count, the noun in the singular, and why these were left out.
 type LeftOut = (u64, &'static str, &'static str);
 
-/// Why so many connections have no line, where nothing else explains it.
+/// Returns the reason for connections without a line, if nothing else explains them.
 fn neither(count: u64) -> &'static str {
     match count {
         1 => "that is neither TLS nor DTLS",
@@ -66,7 +66,7 @@ fn neither(count: u64) -> &'static str {
     }
 }
 
-/// So many of a thing, by its name in the singular.
+/// A count and its noun in the singular.
 #[derive(Drop)]
 struct Counted(u64, &'static str);
 
@@ -77,13 +77,13 @@ impl Display for Counted {
     }
 }
 
-/// The connections that were found, and how many of them ended otherwise than by a handshake.
+/// Displays the connections that were found, and how many handshakes failed, by outcome.
 #[derive(Drop)]
 struct Found<'a> {
     counts: &'a Counts,
 }
 
-/// Writes how many connections there are of TLS and of DTLS.
+/// Writes the counts of TLS and DTLS connections.
 fn write_kinds<W: fmt::Write>(f: &mut Formatter<W>, tls: u64, dtls: u64) -> fmt::Result {
     match (tls, dtls) {
         (0, 0) => f.write_str("no TLS connections"),
@@ -107,13 +107,13 @@ impl Display for Found<'_> {
     }
 }
 
-/// One more.
+/// Adds one to a count, which saturates at 2^64 - 1.
 pub fn add_one(count: &mut u64) {
     *count = count.saturating_add(1);
 }
 
 impl Counts {
-    /// Nothing was read.
+    /// Returns the counts before anything is read.
     pub fn new() -> Counts {
         Counts {
             packets: 0,
@@ -142,7 +142,7 @@ impl Counts {
         }
     }
 
-    /// Counts a connection of TLS, or of DTLS, whose handshake ended so.
+    /// Counts a TLS or DTLS connection, by the outcome of its handshake.
     pub fn add_found(&mut self, is_dtls: bool, outcome: Outcome) {
         add_one(if is_dtls {
             &mut self.dtls
@@ -158,14 +158,14 @@ impl Counts {
         }
     }
 
-    /// Counts a packet that can't be read, which came on that link.
+    /// Counts a packet that can't be parsed, by its link type if that is unsupported.
     pub(crate) fn add_unread(&mut self, link_type: u16) {
         if !self.other_links.add(link_type) {
             add_one(&mut self.unread);
         }
     }
 
-    /// How many handshakes didn't end well, by how they ended.
+    /// Returns the counts of handshakes without success, by outcome.
     fn without_success(&self) -> [(u64, &'static str); 4] {
         [
             (self.broken_off, "broken off"),
@@ -175,7 +175,8 @@ impl Counts {
         ]
     }
 
-    /// How many connections are told to be neither TLS nor DTLS: none where something else explains that there is no line of them.
+    /// Returns how many connections to report as neither TLS nor DTLS: none if something else
+    /// explains why there are no lines.
     fn unexplained(&self) -> u64 {
         if self.tls > 0 || self.dtls > 0 || self.damaged > 0 {
             0
@@ -184,7 +185,7 @@ impl Counts {
         }
     }
 
-    /// What was left out: how many, of what, and why.
+    /// Returns what was left out: the count, the noun and the reason.
     fn left_out(&self) -> [LeftOut; 15] {
         [
             (
@@ -253,7 +254,8 @@ impl Counts {
         ]
     }
 
-    /// Writes what was found, and a line for each reason for which something was left out.
+    /// Writes what was found to standard error, and a line for each reason why something was left
+    /// out.
     pub fn tell<R: Eprint>(&self, rt: &R, name: &str) -> io::Result<()> {
         eprintln!(rt;
             "{name}: {}, {}",

@@ -1,4 +1,4 @@
-//! Datagrams that came in fragments.
+//! Reassembly of fragmented datagrams.
 
 use crate::arrival::Arrival;
 use crate::counts::add_one;
@@ -12,17 +12,17 @@ use std::alloc::AllocError;
 use std::mem;
 use tunnels::{Inside, Tunnels, fragment_in, innermost_fragment, inside_of};
 
-/// A datagram that was put together from its fragments.
+/// A reassembled datagram.
 #[derive(Drop)]
 pub struct Joined {
     whole: Whole,
-    // When the last of its fragments was captured, and the tunnels that this came in.
+    // The capture time of its last fragment, and the tunnels around that.
     time: u64,
     tunnels: Tunnels,
 }
 
 impl Joined {
-    /// The datagram; `None` where what it holds can't be read.
+    /// Parses the datagram; `None` if its content is malformed.
     fn datagram(&self) -> Option<Datagram<'_>> {
         let whole = &self.whole;
         let read = parse_joined(
@@ -40,7 +40,8 @@ impl Joined {
 }
 
 impl<K: Keeper> Log<K> {
-    /// Adds a fragment, which came at that time in these tunnels, to its datagram, and hands that out where it is whole.
+    /// Adds a fragment, captured at `time` in these tunnels, to its datagram. Returns the datagram
+    /// once it is complete.
     fn join_fragment(
         &mut self,
         time: u64,
@@ -66,7 +67,8 @@ impl<K: Keeper> Log<K> {
         Ok(None)
     }
 
-    /// The datagram that is whole with a packet that brought no arrival, where that holds a fragment.
+    /// Adds the fragment in a packet without an arrival to its datagram. Returns the datagram once
+    /// it is complete, or `None` if the packet has no fragment.
     pub fn join(&mut self, packet: Packet<'_>) -> Result<Option<Joined>, AllocError> {
         if !mem::replace(&mut self.is_cut, false) {
             return Ok(None);
@@ -80,10 +82,10 @@ impl<K: Keeper> Log<K> {
         }
     }
 
-    /// The segment or the datagram that such a datagram holds, which a packet made whole; `None` where it holds none that can be read, which is counted, or
-    /// where it holds a fragment.
+    /// Returns the segment or datagram in a reassembled datagram, which `packet` completed. `None`
+    /// if its content can't be parsed, which is counted, or if it holds a fragment.
     ///
-    /// `AllocError` where networks are told apart, and one more could not be held.
+    /// `AllocError` if networks are told apart and there is no memory for another one.
     pub fn arrival_in<'a>(
         &mut self,
         packet: Packet<'_>,
@@ -98,7 +100,8 @@ impl<K: Keeper> Log<K> {
         self.arrival_inside(packet, &unwrapped.inside)
     }
 
-    /// The datagram that is whole with such a datagram, which brought no arrival, where that holds a fragment.
+    /// Adds the fragment in a reassembled datagram without an arrival to its own datagram. Returns
+    /// that once it is complete, or `None` if there is no fragment.
     pub fn join_inner(&mut self, joined: &Joined) -> Result<Option<Joined>, AllocError> {
         if !mem::replace(&mut self.is_cut, false) {
             return Ok(None);
@@ -116,7 +119,8 @@ impl<K: Keeper> Log<K> {
         }
     }
 
-    /// Counts bytes of its datagram's fragments that came twice and disagreed, with the sender of an arrival, if its connection is open.
+    /// Adds the count of bytes that disagreed in a datagram's fragments to the sender of an
+    /// arrival, if its connection is open. Returns whether it is.
     pub fn note_disagreeing(&mut self, arrival: &Arrival<'_>, joined: &Joined) -> bool {
         let count = joined.whole.disagreeing as u64;
         let source = arrival.source();
@@ -130,7 +134,7 @@ impl<K: Keeper> Log<K> {
         true
     }
 
-    /// Counts the datagrams that were let go, and those that still wait at the capture's end.
+    /// Counts the datagrams that were dropped, and those in reassembly at the end of the capture.
     pub(crate) fn count_cut(&mut self) {
         self.counts.late = self.fragments.late();
         self.counts.crowded = self.fragments.crowded();

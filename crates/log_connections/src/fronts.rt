@@ -1,4 +1,4 @@
-//! What stands in front of the TLS of a side.
+//! The search for the beginning of TLS in a side's stream.
 ghost use Rattle.std.specs.Prelude.{◌≡◌, not};
 ghost use Rattle.log_connections.specs.Fronts.{answers as answers_in, are_answered as answered, are_silent as silent, beginning as begins, begins_there, found as found_in, front_of, leaving, may_begin as may_begin_in, passing, is_sought as sought, is_waiting, with_begun, with_front};
 
@@ -6,68 +6,69 @@ use connections::Side;
 use ssl2_hello::{begins_ssl2_hello, parse_ssl2_client_hello};
 use tls_detection::{HEADER_LEN, HELLO_FRONT_LEN, begins_tls, place_behind};
 
-/// How many bytes may stand in front of TLS: behind more it isn't looked for.
+/// How many bytes may come before TLS. Behind more it isn't looked for.
 const PREAMBLE_LIMIT: u64 = 65_536;
 
-/// How many bytes may wait, since TLS may begin in them.
+/// How many bytes are held back because TLS may begin in them.
 const WAITING_LEN: usize = HELLO_FRONT_LEN - 1;
 
-/// How a side of a stream stands.
+/// The state of a side.
 #[derive(Clone, Copy, Debug, PartialEq, Eq)]
 pub(crate) enum Standing {
-    /// Its TLS wasn't found yet.
+    /// The beginning of TLS wasn't found yet.
     Sought,
-    /// It is heard.
+    /// It is analyzed.
     Heard,
     /// It doesn't speak TLS.
     Left,
 }
 
-/// What stands in front of one side's TLS.
+/// The search for TLS on one side.
 #[derive(Clone, Copy, Debug, PartialEq, Eq)]
 pub(crate) struct Front {
-    /// How many bytes were passed over.
+    /// How many bytes were skipped.
     passed: u64,
     standing: Standing,
 }
 
-/// The same of both sides.
+/// The search for TLS on both sides.
 #[derive(Clone, Copy, Debug, PartialEq, Eq)]
 pub(crate) struct Fronts {
     originator: Front,
     responder: Front,
 }
 
-/// Where the TLS of a side begins, by the bytes that come next of it.
+/// Where TLS begins on a side, by its next bytes.
 #[derive(Clone, Copy, Debug, PartialEq, Eq)]
 pub(crate) enum Beginning {
-    /// Too few came to tell.
+    /// Too few bytes came to decide.
     Waits,
-    /// Not in so many of them; those behind are too few to tell.
+    /// Not in this many bytes; those behind them are too few to decide.
     PassesOver(usize),
-    /// Behind so many.
+    /// Behind this many bytes.
     At(usize),
-    /// At once, with a ClientHello in SSL 2.0's form.
+    /// At once, with a ClientHello in the SSL 2.0 format.
     InSsl2,
-    /// Nowhere: it doesn't speak TLS.
+    /// Nowhere: the side doesn't speak TLS.
     Nowhere,
 }
 
 impl Front {
-    /// In front of a side of which nothing came.
+    /// The state of a side before any bytes.
     const NONE: Front = Front {
         passed: 0,
         standing: Standing::Sought,
     };
 
-    /// Whether its TLS wasn't found yet.
+    /// Returns whether the beginning of TLS wasn't found yet.
     fn is_sought(&self) -> bool
         ensures { result ≡ sought self.now }
     {
         matches!(self.standing, Standing::Sought)
     }
 
-    /// Whether it answers a side in front of whose TLS so many bytes stand: behind none it needn't.
+    /// Returns whether this side answers the other in TLS. It needn't if no bytes came before the
+    /// other's TLS.
     fn answers(&self, passed: u64) -> bool
         ensures { result ≡ answers_in passed self.now }
     {
@@ -75,7 +76,7 @@ impl Front {
     }
 }
 
-/// Where it begins at a place, if one was found.
+/// Returns where TLS begins, if a search found a position.
 fn found(place: Option<usize>, are_last: bool, front: Front, len: usize) -> Beginning
     ensures { result ≡ found_in place are_last front len }
 {
@@ -92,29 +93,32 @@ fn found(place: Option<usize>, are_last: bool, front: Front, len: usize) -> Begi
     }
 }
 
-/// Whether a side begins with TLS. 6 bytes tell which end it is.
+/// Returns whether a side begins with TLS. It takes 6 bytes to see whether it is the client or the
+/// server.
 fn begins_at_front(bytes: &[u8], are_last: bool) -> bool
     ensures { result ≡ begins_there bytes.now are_last }
 {
     (bytes.len() > HEADER_LEN || are_last) && begins_tls(bytes)
 }
 
-/// Whether it may begin at the first of these bytes, once more of them come: there are too few to tell, or a hello in SSL 2.0's form isn't whole.
+/// Returns whether TLS may begin at the first of these bytes once more come: there are too few to
+/// tell, or an SSL 2.0 hello isn't complete.
 fn may_begin(front: Front, bytes: &[u8]) -> bool
     ensures { result ≡ may_begin_in front bytes.now }
 {
     bytes.len() < HELLO_FRONT_LEN || front.passed == 0 && begins_ssl2_hello(bytes)
 }
 
-/// Whether nothing is told of a side yet: it said less than the header of a record in all, or more may come that tells.
+/// Returns whether it is too early to tell: the side sent less than a record header in all, or more
+/// bytes may come that tell.
 fn waits(front: Front, bytes: &[u8], are_last: bool) -> bool
     ensures { result ≡ is_waiting front bytes.now are_last }
 {
     front.passed == 0 && bytes.len() < HEADER_LEN || !are_last && may_begin(front, bytes)
 }
 
-/// Where the TLS of a side begins, by the bytes that come next of it, which are its last where they `are_last`. A side `answers` where the other's TLS
-/// began.
+/// Returns where a side's TLS begins, by its next bytes, which are its last if they `are_last`. A
+/// side `answers` if the other's TLS began.
 pub(crate) fn begins_at(answers: bool, are_last: bool, front: Front, bytes: &[u8]) -> Beginning
     ensures { result ≡ begins answers are_last front bytes.now }
 {
@@ -131,13 +135,13 @@ pub(crate) fn begins_at(answers: bool, are_last: bool, front: Front, bytes: &[u8
 }
 
 impl Fronts {
-    /// Of a connection of which nothing came.
+    /// The state of a connection before any bytes.
     pub(crate) const NONE: Fronts = Fronts {
         originator: Front::NONE,
         responder: Front::NONE,
     };
 
-    /// That of a side.
+    /// Returns the state of a side.
     pub(crate) fn of(&self, side: Side) -> Front
         ensures { result ≡ front_of side self.now }
     {
@@ -147,29 +151,29 @@ impl Fronts {
         }
     }
 
-    /// How many bytes of a side stand in front of its TLS.
+    /// Returns how many bytes came before a side's TLS.
     pub(crate) fn preamble(&self, side: Side) -> u64
         ensures { result ≡ (front_of side self.now).passed }
     {
         self.of(side).passed
     }
 
-    /// Whether a side is heard, or was left.
+    /// Returns whether a side is analyzed, or was found not to speak TLS.
     pub(crate) fn has_begun(&self, side: Side) -> bool
         ensures { result ≡ not (sought (front_of side self.now)) }
     {
         !self.of(side).is_sought()
     }
 
-    /// Whether neither side is heard yet.
+    /// Returns whether neither side is analyzed yet.
     pub(crate) fn are_silent(&self) -> bool
         ensures { result ≡ silent self.now }
     {
         self.originator.is_sought() && self.responder.is_sought()
     }
 
-    /// Whether each side in front of whose TLS other bytes stand is answered in TLS. A hello that nobody answers may be the content of another protocol, as
-    /// of a file.
+    /// Returns whether each side with other bytes before its TLS is answered in TLS. A lone hello
+    /// may be part of another protocol's content, such as a file.
     pub(crate) fn are_answered(&self) -> bool
         ensures { result ≡ answered self.now }
     {
@@ -186,7 +190,7 @@ impl Fronts {
         }
     }
 
-    /// Bytes of a side are passed over.
+    /// Skips bytes of a side.
     pub(crate) fn pass(&mut self, side: Side, n: usize)
         ensures { self.new ≡ passing side n self.old }
     {
@@ -195,7 +199,7 @@ impl Fronts {
         self.set(side, Front { passed, ..front });
     }
 
-    /// The side is heard behind them from here on, unless it was or was left before.
+    /// Begins to analyze the side behind `n` bytes, unless it was decided before.
     pub(crate) fn begin(&mut self, side: Side, n: usize)
         ensures { self.new ≡ with_begun side n self.old }
     {
@@ -207,7 +211,7 @@ impl Fronts {
         self.set(side, Front { passed, standing });
     }
 
-    /// The side doesn't speak TLS: nothing stands in front of it.
+    /// Marks the side as not speaking TLS, with no bytes before it.
     pub(crate) fn leave(&mut self, side: Side)
         ensures { self.new ≡ leaving side self.old }
     {

@@ -1,4 +1,4 @@
-//! What is heard of a connection, by what carries it.
+//! The TLS or DTLS analysis of a connection.
 ghost use Rattle.std.specs.Prelude.{◌≡◌, ◌||◌, OnOk, drop};
 ghost use Rattle.tls_detection.specs.Front.{held_datagram as held_datagram_of};
 ghost use Rattle.connections.specs.Stream.{is_cut_short};
@@ -16,19 +16,20 @@ use tls_flow::{Direction, Outcome, Stop};
 use tls_summary::{HandshakeSummary, KnownCertificates};
 use tunnels::{Tunnel, Tunnels};
 
-/// The types of the messages with which a handshake begins, of the client and of the server (RFC 8446, section 4).
+/// The types of the first handshake messages of client and server (RFC 8446, section 4).
 const CLIENT_HELLO: u8 = 1;
 
 const SERVER_HELLO: u8 = 2;
 
-/// What a connection takes besides what is known of it, in bytes, at most.
+/// An upper bound for a connection's memory besides its handshake summary, in bytes.
 pub const HEARD_COST: usize = 2048;
 
-/// What a keeper takes besides what it keeps, in bytes, at most.
+/// An upper bound for a keeper's memory besides what it keeps, in bytes.
 pub const KEEPER_COST: usize = 512;
 
-/// What the buffers of a conversation take at most: on each side twice as much as a message in parts, a record, what was handed out and is still to be moved
-/// over, and what comes at once behind a gap.
+/// An upper bound for the buffers of a conversation, in bytes. On each side this is twice the sum
+/// of a message in fragments, a record, the part that was processed but not yet moved out, and what
+/// arrives at once behind a gap.
 const MAX_BUFFERS: usize = 2_621_440;
 
 /// What a [`Keeper`] keeps of a connection.
@@ -44,54 +45,56 @@ pub enum Pieces {
     Chains,
 }
 
-/// Who keeps such pieces of a connection until they are taken: it hears each event that counts.
+/// Keeps the pieces of a connection until they are taken. It gets each event that counts.
 pub trait Keeper: Drop + Witness {
-    /// That of a connection of which nothing came.
+    /// Returns the keeper for a new connection.
     fn begin(alloc: Global, pieces: Pieces) -> Self;
 
-    /// How many bytes of memory it takes for what it keeps beyond a packet.
+    /// Returns the bytes of memory that it takes for what it keeps beyond a packet.
     fn capacity(&self) -> usize;
 }
 
-/// What both sides of a connection said.
+/// The analysis of both sides' bytes, by transport.
 #[derive(Drop)]
 enum Said {
-    /// Over TCP, as TLS, behind what stands in front of it.
+    /// TLS over TCP, and the search for its beginning.
     Stream(Analyzer, Fronts),
-    /// Over UDP, as DTLS.
+    /// DTLS over UDP.
     Datagrams(DatagramAnalyzer),
 }
 
-/// What goes with a connection: what its sides said.
+/// The analysis of a connection.
 #[derive(Drop)]
 pub struct Heard<K> {
     alloc: Global,
     protocol: Protocol,
     said: Said,
-    // Whether the originator is the server of TLS.
+    // Whether the originator is the TLS server.
     is_turned: bool,
-    // How many bytes of both streams were heard: the buffers of a conversation take no more than twice as many.
+    // How many bytes of both streams were analyzed. The buffers of a conversation take at most
+    // twice as many.
     heard: usize,
-    /// Whether it ended before its time, since it was longest without a packet as memory ran short.
+    /// Whether it was ended early, as the longest-idle connection when memory ran short.
     pub is_ended_early: bool,
-    // Who keeps the messages, where they are kept: in a place of its own, since most logs keep none.
+    // The keeper, if pieces are kept. Boxed, since most logs keep none.
     keeper: Option<Box<K>>,
-    // The tunnels of the first packet that came in some: in a place of their own, since most come in none.
+    // The tunnels of the first packet that was in any. Boxed, since most packets are in none.
     tunnels: Option<Box<Tunnels>>,
-    // Over TCP, the records of each side, encrypted ones too.
+    // Over TCP, the records of each side, encrypted ones included.
     from_originator: Records,
     from_responder: Records,
-    // Over UDP, those in the datagrams of each side.
+    // Over UDP, the records in the datagrams of each side.
     by_originator: DatagramRecords,
     by_responder: DatagramRecords,
 }
 
-/// What the buffers of a conversation take, at most, in which so many bytes were heard: their room grows twofold.
+/// Returns an upper bound for the buffers of a conversation of which this many bytes were analyzed.
+/// Their memory grows by doubling.
 fn buffers_of(heard: usize) -> usize {
     heard.saturating_mul(2).min(MAX_BUFFERS)
 }
 
-/// What is behind the first `n` bytes.
+/// Returns what is behind the first `n` bytes.
 #[tactic(auto, using(crate::proofs::FrontLemmas::behind_all))]
 fn behind(bytes: &[u8], n: usize) -> &[u8]
     ensures { result.now ≡ drop n bytes.now }
@@ -103,7 +106,8 @@ fn behind(bytes: &[u8], n: usize) -> &[u8]
     rest
 }
 
-/// Which way a side speaks, where the sides are turned or not.
+/// Returns the direction in which a side speaks. `is_turned` means that the originator is the
+/// server.
 fn direction_of(is_turned: bool, side: Side) -> Direction
     ensures { result ≡ direction_by is_turned side }
 {
@@ -156,7 +160,8 @@ impl<K: Keeper> Listener for Heard<K> {
 }
 
 impl<K: Keeper> Heard<K> {
-    /// Whether it is TLS or DTLS. TLS behind other bytes is where both sides speak it.
+    /// Returns whether it is TLS or DTLS. If other bytes came before TLS, both sides have to speak
+    /// it.
     pub fn is_spoken(&self) -> bool
         ensures { IsSpokenBy result self.now.said }
     {
@@ -166,7 +171,7 @@ impl<K: Keeper> Heard<K> {
         }
     }
 
-    /// What is known of it.
+    /// Returns the handshake summary.
     pub fn handshake(&self) -> &HandshakeSummary {
         match &self.said {
             Said::Stream(analyzer, _) => analyzer.handshake(),
@@ -174,7 +179,7 @@ impl<K: Keeper> Heard<K> {
         }
     }
 
-    /// A letter for each event, as Zeek's ssl_history has it.
+    /// Returns a letter for each event, as in Zeek's ssl_history.
     pub fn history(&self) -> &[u8] {
         match &self.said {
             Said::Stream(analyzer, _) => analyzer.history(),
@@ -182,7 +187,7 @@ impl<K: Keeper> Heard<K> {
         }
     }
 
-    /// How the handshake stands.
+    /// Returns the state of the handshake.
     pub fn outcome(&self) -> Outcome {
         match &self.said {
             Said::Stream(analyzer, _) => analyzer.outcome(),
@@ -190,7 +195,7 @@ impl<K: Keeper> Heard<K> {
         }
     }
 
-    /// The event that ended the handshake without success, if one did.
+    /// Returns the event that ended the handshake without success, if one did.
     pub fn stop(&self) -> Option<Stop> {
         match &self.said {
             Said::Stream(analyzer, _) => analyzer.stop(),
@@ -198,7 +203,7 @@ impl<K: Keeper> Heard<K> {
         }
     }
 
-    /// Whether the part of the handshake that can be read came to its end.
+    /// Returns whether the readable part of the handshake is complete.
     pub fn is_established(&self) -> bool {
         match &self.said {
             Said::Stream(analyzer, _) => analyzer.is_established(),
@@ -206,7 +211,7 @@ impl<K: Keeper> Heard<K> {
         }
     }
 
-    /// Whether a session was taken up.
+    /// Returns whether a session was resumed.
     pub fn is_resumed(&self) -> bool {
         match &self.said {
             Said::Stream(analyzer, _) => analyzer.is_resumed(),
@@ -214,7 +219,8 @@ impl<K: Keeper> Heard<K> {
         }
     }
 
-    /// Whether the first messages of a side weren't captured, as the numbers of those of DTLS tell.
+    /// Returns whether the first messages of a side weren't captured, by the message numbers of
+    /// DTLS.
     pub fn lacks_front(&self, side: Side) -> bool {
         match &self.said {
             Said::Stream(_, _) => false,
@@ -222,7 +228,7 @@ impl<K: Keeper> Heard<K> {
         }
     }
 
-    /// Whether a side's datagram begins another association of DTLS.
+    /// Returns whether a side's datagram begins another DTLS association.
     pub(crate) fn begins_another(&self, side: Side, payload: &[u8]) -> bool {
         match &self.said {
             Said::Stream(_, _) => false,
@@ -244,7 +250,7 @@ impl<K: Keeper> Heard<K> {
         Ok(())
     }
 
-    /// Notes the tunnels that a packet of it came in, unless an earlier one came in some.
+    /// Notes the tunnels of a packet, unless an earlier packet was in any.
     pub(crate) fn note_tunnels(&mut self, tunnels: &Tunnels) -> Result<(), AllocError>
         ensures { self.new.said ≡ self.old.said }
     {
@@ -254,7 +260,7 @@ impl<K: Keeper> Heard<K> {
         Ok(())
     }
 
-    /// The tunnels of the first packet that came in some, from outside in.
+    /// Returns the tunnels of the first packet that was in any, outermost first.
     pub fn tunnels(&self) -> &[Tunnel] {
         match &self.tunnels {
             Some(tunnels) => tunnels.as_slice(),
@@ -262,7 +268,7 @@ impl<K: Keeper> Heard<K> {
         }
     }
 
-    /// Who keeps the pieces, where they are kept.
+    /// Returns the keeper, if pieces are kept.
     pub fn keeper(&mut self) -> Option<&mut K> {
         match &mut self.keeper {
             Some(keeper) => Some(&mut **keeper),
@@ -270,7 +276,7 @@ impl<K: Keeper> Heard<K> {
         }
     }
 
-    /// What is kept of it, where something is.
+    /// Returns the keeper, if there is one.
     pub fn kept(&self) -> Option<&K> {
         match &self.keeper {
             Some(keeper) => Some(&**keeper),
@@ -278,7 +284,8 @@ impl<K: Keeper> Heard<K> {
         }
     }
 
-    /// How many records a side said: over TCP up to the first bytes that are missing, over UDP those of all its datagrams.
+    /// Returns how many records a side sent: over TCP up to the first missing bytes, over UDP those
+    /// of all its datagrams.
     pub fn records(&self, side: Side) -> u64 {
         match (self.protocol, side) {
             (Protocol::Tcp, Side::Originator) => self.from_originator.count(),
@@ -288,14 +295,15 @@ impl<K: Keeper> Heard<K> {
         }
     }
 
-    /// Which way a side speaks: the originator is the client, unless its first message is that of a server.
+    /// Returns the direction in which a side speaks: the originator is the client, unless its first
+    /// message is a server's.
     pub(crate) fn direction(&self, side: Side) -> Direction
         ensures { result ≡ direction_by self.now.is_turned side }
     {
         direction_of(self.is_turned, side)
     }
 
-    /// How many bytes of a side's stream stand in front of its TLS: of a stream of which none was found, 0.
+    /// Returns how many bytes came before a side's TLS; 0 if no TLS was found.
     pub fn preamble(&self, side: Side) -> u64
         ensures { result ≡ preamble_of side self.now.said }
     {
@@ -305,8 +313,9 @@ impl<K: Keeper> Heard<K> {
         }
     }
 
-    /// Sees which side is the client by the first bytes that are heard of the connection. A ServerHello tells where the opening wasn't captured: a
-    /// server that opens the connection waits for the client's hello.
+    /// Decides which side is the client, by the first analyzed bytes of the connection. A
+    /// ServerHello counts only if the opening wasn't captured: a server that opens the connection
+    /// waits for the client's hello.
     fn see_client(&mut self, side: Side, bytes: &[u8], is_opened: bool)
         ensures { self.new ≡ record self.old { is_turned = self.new.is_turned } }
     {
@@ -324,9 +333,10 @@ impl<K: Keeper> Heard<K> {
         };
     }
 
-    /// Counts the records in the bytes that a side says next.
+    /// Counts the records in a side's next bytes.
     pub(crate) fn count_records(&mut self, side: Side, bytes: &[u8])
-        ensures { self.new ≡ record self.old { from_originator = self.new.from_originator; from_responder = self.new.from_responder } }
+        ensures { self.new ≡ record self.old
+            { from_originator = self.new.from_originator; from_responder = self.new.from_responder } }
     {
         match side {
             Side::Originator => self.from_originator.add(bytes),
@@ -334,7 +344,7 @@ impl<K: Keeper> Heard<K> {
         }
     }
 
-    /// Hears bytes of a side, behind `n` that stand in front of its TLS.
+    /// Analyzes a side's bytes behind the `n` bytes before its TLS.
     #[tactic(auto, unfolding(crate::specs::Heard::HearsAt))]
     fn hear_at(
         &mut self,
@@ -344,7 +354,9 @@ impl<K: Keeper> Heard<K> {
         n: usize,
         known: &mut KnownCertificates,
     ) -> Result<(), AllocError>
-        ensures { OnOk result (HearsAt side (direction_by self.new.is_turned side) n stream.old stream.new self.old.said self.new.said) }
+        ensures { OnOk result
+            (HearsAt side (direction_by self.new.is_turned side) n stream.old stream.new
+            self.old.said self.new.said) }
     {
         let all = stream.available();
         let bytes = behind(all, n);
@@ -373,10 +385,13 @@ impl<K: Keeper> Heard<K> {
         Ok(())
     }
 
-    /// Hears the ClientHello in SSL 2.0's form with which a side begins. What is behind it is heard with what comes next.
+    /// Analyzes the SSL 2.0 ClientHello with which a side begins. What is behind it is analyzed
+    /// with the next bytes.
     #[tactic(auto, unfolding(crate::specs::Heard::HearsSsl2))]
     fn hear_ssl2(&mut self, stream: &mut Stream, side: Side) -> Result<(), AllocError>
-        ensures { OnOk result (HearsSsl2 side (direction_by self.new.is_turned side) stream.old stream.new self.old.said self.new.said) }
+        ensures { OnOk result
+            (HearsSsl2 side (direction_by self.new.is_turned side) stream.old stream.new
+            self.old.said self.new.said) }
     {
         let bytes = stream.available();
         let Ok((rest, hello)) = parse_ssl2_client_hello(bytes) else {
@@ -396,10 +411,12 @@ impl<K: Keeper> Heard<K> {
         Ok(())
     }
 
-    /// Hears a side as one that doesn't speak TLS, and reads its stream no further.
+    /// Analyzes a side as one that doesn't speak TLS, and stops reading its stream.
     #[tactic(auto, unfolding(crate::specs::Heard::HearsNone))]
     fn hear_none(&mut self, stream: &mut Stream, side: Side) -> Result<(), AllocError>
-        ensures { OnOk result (HearsNone side (direction_by self.new.is_turned side) stream.old stream.new self.old.said self.new.said) }
+        ensures { OnOk result
+            (HearsNone side (direction_by self.new.is_turned side) stream.old stream.new
+            self.old.said self.new.said) }
     {
         let direction = self.direction(side);
         let Said::Stream(analyzer, fronts) = &mut self.said else {
@@ -411,7 +428,7 @@ impl<K: Keeper> Heard<K> {
         Ok(())
     }
 
-    /// Passes over bytes of a side in front of its TLS.
+    /// Skips bytes of a side before its TLS.
     #[tactic(auto, unfolding(crate::specs::Heard::PassesOver))]
     fn pass_over(&mut self, stream: &mut Stream, side: Side, n: usize)
         ensures passed { PassesOver side n stream.old stream.new self.old.said self.new.said }
@@ -423,8 +440,8 @@ impl<K: Keeper> Heard<K> {
         }
     }
 
-    /// Where the TLS of a side begins in the bytes that come next of it; they are its last, or those in front of an urgent one, where they
-    /// `are_last`.
+    /// Returns where a side's TLS begins in its next bytes. They are its last, or the last before
+    /// an urgent byte, if they `are_last`.
     fn beginning(&self, bytes: &[u8], side: Side, are_last: bool) -> Beginning
         ensures { result ≡ begins_in side are_last self.now.said bytes.now }
     {
@@ -436,7 +453,7 @@ impl<K: Keeper> Heard<K> {
         }
     }
 
-    /// Whether a side is heard no further.
+    /// Returns whether a side is analyzed no further.
     fn is_over(&self, side: Side) -> bool
         ensures { result ≡ is_over_in side (direction_by self.now.is_turned side) self.now.said }
     {
@@ -448,9 +465,9 @@ impl<K: Keeper> Heard<K> {
         }
     }
 
-    /// Hears what a side's stream says next, from where its TLS begins; the bytes that come next are its last, where they `are_last`. Those in front
-    /// are passed over.
-    /// The opening of the connection was captured where it `is_opened`.
+    /// Analyzes the next bytes of a side's stream, from where its TLS begins, and skips those
+    /// before. They are its last if they `are_last`. The connection's opening was captured if it
+    /// `is_opened`.
     #[tactic(auto, using(crate::proofs::FrontLemmas::over_stays))]
     pub(crate) fn hear_stream(
         &mut self,
@@ -460,10 +477,12 @@ impl<K: Keeper> Heard<K> {
         are_last: bool,
         known: &mut KnownCertificates,
     ) -> Result<(), AllocError>
-        ensures { OnOk result (HearsStream side (are_last || is_cut_short stream.old stream.old.reading) (direction_by self.new.is_turned side)
+        ensures { OnOk result
+            (HearsStream side (are_last || is_cut_short stream.old stream.old.reading)
+            (direction_by self.new.is_turned side)
             stream.old stream.new self.old.said self.new.said) }
     {
-        // (most packets come when all of the handshake was heard)
+        // (most packets come after the whole handshake was analyzed)
         if stream.available().is_empty() && self.is_over(side) {
             stream.stop();
             return Ok(());
@@ -471,7 +490,7 @@ impl<K: Keeper> Heard<K> {
         self.hear_further(stream, side, is_opened, are_last, known)
     }
 
-    /// The same of a side that says something, or may be heard further.
+    /// Analyzes the next bytes of a side that has any, or may be analyzed further.
     #[tactic(auto, unfolding(crate::specs::Heard::HearsStream))]
     fn hear_further(
         &mut self,
@@ -481,7 +500,9 @@ impl<K: Keeper> Heard<K> {
         are_last: bool,
         known: &mut KnownCertificates,
     ) -> Result<(), AllocError>
-        ensures { OnOk result (HearsStream side (are_last || is_cut_short stream.old stream.old.reading) (direction_by self.new.is_turned side)
+        ensures { OnOk result
+            (HearsStream side (are_last || is_cut_short stream.old stream.old.reading)
+            (direction_by self.new.is_turned side)
             stream.old stream.new self.old.said self.new.said) }
     {
         let are_last = are_last || stream.is_cut();
@@ -497,14 +518,15 @@ impl<K: Keeper> Heard<K> {
         }
     }
 
-    /// Hears a side's datagram, or the one of DTLS that it holds.
+    /// Analyzes a side's datagram, or the DTLS datagram inside it.
     pub(crate) fn hear_datagram(
         &mut self,
         direction: Direction,
         payload: &[u8],
         known: &mut KnownCertificates,
     ) -> Result<(), AllocError>
-        ensures { OnOk result (HearsDatagram direction (held_datagram_of payload.now) self.old.said self.new.said) }
+        ensures { OnOk result
+            (HearsDatagram direction (held_datagram_of payload.now) self.old.said self.new.said) }
     {
         let payload = held_datagram(payload);
         let Said::Datagrams(analyzer) = &mut self.said else {
@@ -518,7 +540,8 @@ impl<K: Keeper> Heard<K> {
         let Audience { keeper, known: _ } = audience;
         self.keeper = keeper;
         is_heard?;
-        // (the version and the connection ids may stand in this datagram, in front of its encrypted records)
+        // (the version and the connection ids may be in this datagram, before its encrypted
+        // records)
         let id_len = analyzer.handshake().connection_id_len(direction);
         let is_13 = analyzer.is_13();
         match direction {

@@ -1,8 +1,13 @@
-//! What is heard of the connections of a capture, from its packets.
+//! Follows the TLS and DTLS connections of a capture, packet by packet.
 //!
-//! [`Log`] is a table of connections: each packet of TCP or UDP goes to its own, which hears what its sender says then ([`Heard`]). Who
-//! wants the messages or the certificates one by one gives a [`Keeper`], which hears with each connection that is TLS or DTLS. What was read and what was left
-//! out is counted ([`Counts`]).
+//! [`Log`] is a table of connections. Each TCP or UDP packet goes to its connection, whose analysis
+//! ([`Heard`]) then processes the sender's new bytes. For messages or certificates one by one, a
+//! [`Keeper`] collects them from each TLS or DTLS connection. [`Counts`] has what was read and what
+//! was left out.
+//!
+//! Promise: `Log` in `specs/` defines which connection a packet changes and which bytes its
+//! analysis gets, `Heard` what the analysis does with them, and `Fronts` where TLS begins in a
+//! stream. The counts, the keeper's pieces and the memory limits have no clauses, only tests.
 #![tactic(auto)]
 
 mod arrival;

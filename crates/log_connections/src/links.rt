@@ -1,13 +1,13 @@
-//! The link types of a capture that aren't read.
+//! Unsupported link types in a capture.
 use crate::counts::add_one;
 use capture::parse_link;
 use layouts::{Err, ErrorKind};
 use std::fmt::{self, Display, Formatter};
 
-/// So many of them are counted apart; packets of others count as those that can't be read.
+/// How many of them are counted separately. Packets of further ones count as malformed.
 const MOST: usize = 4;
 
-/// Names of link types that aren't read (LINKTYPE of tcpdump.org), in the order of their numbers.
+/// Names of unsupported link types (LINKTYPE of tcpdump.org), in the order of their numbers.
 static NAMES: [(u16, &str); 34] = [
     (6, "Token Ring"),
     (8, "SLIP"),
@@ -45,7 +45,7 @@ static NAMES: [(u16, &str); 34] = [
     (283, "IEEE 802.15.4"),
 ];
 
-/// A link type by its number, and its name where it has one here.
+/// Displays a link type by its number, and its name if it has one here.
 #[derive(Drop)]
 pub(crate) struct LinkName(pub(crate) u16);
 
@@ -58,7 +58,7 @@ impl Display for LinkName {
     }
 }
 
-/// Whether packets of that link type are read.
+/// Returns whether packets of this link type are supported.
 fn is_read(link_type: u16) -> bool {
     match parse_link(&[], link_type) {
         Err(Err::Error(e)) => e.code != ErrorKind::Switch,
@@ -66,21 +66,22 @@ fn is_read(link_type: u16) -> bool {
     }
 }
 
-/// Link types that aren't read, each with how many packets it has.
+/// Unsupported link types with their packet counts.
 #[derive(Clone, Copy)]
 pub(crate) struct OtherLinks {
     rows: [(u16, u64); MOST],
 }
 
 impl OtherLinks {
-    /// None.
+    /// Returns a table without packets.
     pub(crate) fn new() -> OtherLinks {
         OtherLinks {
             rows: [(0, 0); MOST],
         }
     }
 
-    /// Counts a packet of that link type: true. False where the type is read, or there is no room for one more.
+    /// Counts a packet of this link type. Returns false if the type is supported, or there is no
+    /// room for another one.
     pub(crate) fn add(&mut self, link_type: u16) -> bool {
         if is_read(link_type) {
             return false;
@@ -95,7 +96,7 @@ impl OtherLinks {
         false
     }
 
-    /// Each link type, with how many packets it has; without packets a row is of no type.
+    /// Returns each link type with its packet count. A row without packets is unused.
     pub(crate) fn rows(&self) -> [(u16, u64); MOST] {
         self.rows
     }

@@ -23,57 +23,58 @@ use tls_flow::Direction;
 use tls_summary::KnownCertificates;
 use tunnels::{Inside, Tunnels, innermost_into, plain_segment, vlan_tags};
 
-/// The log of one capture: its open connections.
+/// The log of one capture, with its open connections.
 #[derive(Drop)]
 pub struct Log<K> {
     pub(crate) alloc: Global,
     pub(crate) connections: Connections<Heard<K>>,
-    // The datagrams that came in fragments, and whether the packet that came last held one.
+    // The datagrams in reassembly, and whether the last packet held a fragment.
     pub(crate) fragments: Fragments,
     pub(crate) is_cut: bool,
-    // What is kept of connections until it is taken.
+    // The pieces of connections that are kept until they are taken.
     kept: Option<Pieces>,
-    // For how many bytes of memory connections may be accounted, and whether that of what arrived last is to be accounted anew.
+    // The memory limit for connections in bytes, and whether the accounted memory of the last
+    // arrival's connection may have changed.
     pub(crate) memory: usize,
     pub(crate) is_unsettled: bool,
-    // Memory that is let go where the system refuses more, so that connections can end.
+    // Memory that is freed when the system refuses more, so that connections can be ended.
     pub(crate) spare: Vec<u8>,
-    // The certificates that any connection heard last, whose digests aren't made again.
+    // The latest certificates of all connections, whose digests aren't computed again.
     pub(crate) known: KnownCertificates,
     checksums: Checksums,
-    // The part whose connections are logged, where not all are.
+    // The part whose connections are logged, if not all are.
     part: Option<Part>,
-    // The numbers of networks, where these are told apart.
+    // The numbers of networks, if these are told apart.
     networks: Option<Networks>,
-    // Those of the packet that came last.
+    // The tunnels of the last packet.
     pub(crate) tunnels: Tunnels,
-    /// What was read, and what was left out.
+    /// Counts of what was read, and of what was left out.
     pub counts: Counts,
 }
 
-/// What becomes of a segment.
+/// What happened to a segment.
 enum Reception {
-    /// Its connection heard it, and is over then or not.
+    /// Its connection analyzed it, and is closed or not.
     Heard(bool),
-    /// Its connection is this to it, and didn't change.
+    /// Its connection didn't change; this is its verdict.
     Told(Verdict),
-    /// None is open between its ends.
+    /// It has no open connection.
     NoneOpen,
 }
 
-/// What becomes of a datagram.
+/// What happened to a datagram.
 enum Delivery {
-    /// Its exchange heard it.
+    /// Its exchange analyzed it.
     Heard,
-    /// A checksum is wrong, and it was counted.
+    /// It was counted for a wrong checksum.
     Damaged,
-    /// It begins another exchange in the place of the one that is open.
+    /// It begins another exchange in place of the open one.
     BeginsAnother,
-    /// None is open between its ends.
+    /// It has no open exchange.
     NoneOpen,
 }
 
-/// Lets the listener hear the last bytes of both streams, of which it waited for more.
+/// Analyzes the last bytes of both streams, which were held back while more could come.
 fn hear_last<K: Keeper>(
     connection: &mut Connection<Heard<K>>,
     known: &mut KnownCertificates,
@@ -86,7 +87,7 @@ fn hear_last<K: Keeper>(
     heard.hear_stream(stream, Side::Responder, is_opened, true, known)
 }
 
-/// The same of a connection that was taken out.
+/// Analyzes the last bytes of a removed connection, and returns it.
 pub(crate) fn with_last<K: Keeper>(
     known: &mut KnownCertificates,
     taken: Option<Box<Connection<Heard<K>>>>,
@@ -100,7 +101,7 @@ pub(crate) fn with_last<K: Keeper>(
     }
 }
 
-/// Lets the listener hear what a side's stream says next, on both sides of an urgent byte.
+/// Analyzes the next bytes of a side's stream, on both sides of an urgent byte.
 #[inline(always)]
 fn hear_next<K: Keeper>(
     heard: &mut Heard<K>,
@@ -109,7 +110,9 @@ fn hear_next<K: Keeper>(
     is_opened: bool,
     known: &mut KnownCertificates,
 ) -> Result<(), AllocError>
-    ensures { OnOk result (HearsNext side (direction heard.new.is_turned side) stream.old stream.new heard.old.said heard.new.said) }
+    ensures { OnOk result
+        (HearsNext side (direction heard.new.is_turned side) stream.old stream.new heard.old.said
+        heard.new.said) }
 {
     heard.hear_stream(stream, side, is_opened, false, known)?;
     if stream.pass_urgent() {
@@ -118,7 +121,8 @@ fn hear_next<K: Keeper>(
     Ok(())
 }
 
-/// The same, and lets it count what the segment adds to a stream that it hears no further.
+/// Analyzes the next bytes of a side's stream. In a stream that is analyzed no further, counts the
+/// segment's records.
 #[inline(always)]
 fn hear_side<K: Keeper>(
     heard: &mut Heard<K>,
@@ -128,7 +132,9 @@ fn hear_side<K: Keeper>(
     segment: &Segment<'_>,
     known: &mut KnownCertificates,
 ) -> Result<(), AllocError>
-    ensures { OnOk result (HearsOn side (direction heard.new.is_turned side) stream.old stream.new heard.old.said heard.new.said) }
+    ensures { OnOk result
+        (HearsOn side (direction heard.new.is_turned side) stream.old stream.new heard.old.said
+        heard.new.said) }
 {
     hear_next(heard, stream, side, is_opened, known)?;
     if segment.has_data() {
@@ -137,7 +143,7 @@ fn hear_side<K: Keeper>(
     Ok(())
 }
 
-/// The same of the segment's sender, which keeps the pieces that it hears where they are to be taken.
+/// Analyzes the next bytes of the segment's sender. Keeps the pieces if they are to be taken.
 #[inline(always)]
 fn hear<K: Keeper>(
     connection: &mut Connection<Heard<K>>,
@@ -146,7 +152,8 @@ fn hear<K: Keeper>(
     tunnels: &Tunnels,
     known: &mut KnownCertificates,
 ) -> Result<(), AllocError>
-    ensures { OnOk result (HearsSide (side_of connection.old segment.now.source) connection.old connection.new) }
+    ensures { OnOk result
+        (HearsSide (side_of connection.old segment.now.source) connection.old connection.new) }
 {
     let (side, is_opened) = (connection.side_of(segment.source), connection.has_opening());
     let heard = &mut connection.listener;
@@ -166,7 +173,7 @@ fn hear<K: Keeper>(
     }
 }
 
-/// Lets the listener hear a datagram, and keep the pieces that it hears where they are to be taken.
+/// Analyzes a datagram. Keeps the pieces if they are to be taken.
 fn hear_from<K: Keeper>(
     exchange: &mut Connection<Heard<K>>,
     datagram: &Datagram<'_>,
@@ -187,8 +194,8 @@ fn hear_from<K: Keeper>(
 }
 
 impl<K: Keeper> Log<K> {
-    /// That of a capture of which nothing was read, with keys for the hashes of its table. It keeps such pieces of connections where they
-    /// are to be taken.
+    /// Returns the log of a capture of which nothing was read. `keys` keys the hashes of its
+    /// tables. Such pieces of connections as `kept` are kept until they are taken.
     pub fn new(
         alloc: Global,
         keys: RandomState,
@@ -212,23 +219,24 @@ impl<K: Keeper> Log<K> {
         })
     }
 
-    /// Lets these checksums count; at first it is [`Checksums::Auto`].
+    /// Sets which checksums count. The default is [`Checksums::Auto`].
     pub fn set_checksums(&mut self, checksums: Checksums) {
         self.checksums = checksums;
     }
 
-    /// Logs the connections of this part alone; at first all are logged.
+    /// Logs only the connections of this part. The default is all.
     pub fn set_part(&mut self, part: Part) {
         self.part = Some(part);
     }
 
-    /// Tells connections apart that have the same ends in several networks; at first they aren't. The keys are for the hashes of the table of networks.
+    /// Tells connections with the same ends in several networks apart. The default is not to.
+    /// `keys` keys the hashes of the table of networks.
     pub fn tell_networks_apart(&mut self, keys: RandomState) -> Result<(), AllocError> {
         self.networks = Some(Networks::new(self.alloc, keys)?);
         Ok(())
     }
 
-    /// The number of the network that the packet came in which came last; 0 where networks aren't told apart.
+    /// Returns the number of the last packet's network; 0 if networks aren't told apart.
     #[inline(always)]
     fn network(&mut self, packet: Packet<'_>) -> Result<u64, AllocError> {
         if self.networks.is_none() {
@@ -237,7 +245,7 @@ impl<K: Keeper> Log<K> {
         self.number_of_network(packet)
     }
 
-    /// The same where they are.
+    /// Returns the number of the last packet's network, when networks are told apart.
     fn number_of_network(&mut self, packet: Packet<'_>) -> Result<u64, AllocError> {
         match &mut self.networks {
             Some(networks) => networks.number(Network {
@@ -248,7 +256,7 @@ impl<K: Keeper> Log<K> {
         }
     }
 
-    /// Whether connections between these ends are logged; a packet of others is counted.
+    /// Returns whether connections between these ends are logged. Counts a packet of others.
     fn is_of_part(&mut self, protocol: Protocol, source: End, destination: End) -> bool
         ensures { result ≡ is_logged self.old.part protocol source destination }
     {
@@ -262,7 +270,8 @@ impl<K: Keeper> Log<K> {
         is_logged
     }
 
-    /// What arrives with a packet that holds this behind all headers; `None` where that is no datagram, which is counted.
+    /// Returns what arrives with a packet's innermost content. `None` if that is no datagram, which
+    /// is counted.
     #[inline(always)]
     pub(crate) fn arrival_inside<'a>(
         &mut self,
@@ -278,7 +287,7 @@ impl<K: Keeper> Log<K> {
         Ok(None)
     }
 
-    /// The segment that a packet holds, unless it is of another part, which is counted.
+    /// Returns a packet's TCP segment, or counts it if it belongs to another part.
     #[inline(always)]
     fn segment<'a>(
         &mut self,
@@ -297,7 +306,7 @@ impl<K: Keeper> Log<K> {
         Ok(Some(Arrival::Segment(segment)))
     }
 
-    /// The same of a datagram of UDP.
+    /// Returns a packet's UDP datagram, or counts it if it belongs to another part.
     fn user_datagram<'a>(
         &mut self,
         packet: Packet<'_>,
@@ -315,18 +324,20 @@ impl<K: Keeper> Log<K> {
         Ok(Some(Arrival::Datagram(datagram)))
     }
 
-    /// The segment or the datagram that a packet holds; `None` where it holds none that can be read, or one of another part, which is counted; or where
-    /// it holds a fragment, which is to be joined with others ([`Log::join`]).
+    /// Returns the TCP segment or UDP datagram of a packet. `None` if it has none that can be
+    /// parsed, or one of another part, both of which are counted; or if it holds a fragment, which
+    /// goes to [`Log::join`].
     ///
-    /// `AllocError` where networks are told apart, and one more could not be held.
+    /// `AllocError` if networks are told apart and there is no memory for another one.
     pub fn arrival<'a>(&mut self, packet: Packet<'a>) -> Result<Option<Arrival<'a>>, AllocError> {
         add_one(&mut self.counts.packets);
         let inside = innermost_into(packet.bytes, packet.link_type, &mut self.tunnels);
         self.arrival_inside(packet, &inside)
     }
 
-    /// The same as [`Log::arrival`], at once, of a segment that comes in no tunnel and whose connection is logged whatever it is, as most are. `None` of any
-    /// other packet, which isn't counted: [`Log::arrival`] tells what it holds.
+    /// Returns the TCP segment of a packet by a fast path for most packets: in no tunnel, with all
+    /// connections logged and networks not told apart. For any other packet it returns `None` and
+    /// counts nothing, and [`Log::arrival`] has the answer.
     #[inline(always)]
     pub fn plain_arrival<'a>(&mut self, packet: Packet<'a>) -> Option<Arrival<'a>> {
         if self.part.is_some() || self.networks.is_some() {
@@ -339,7 +350,8 @@ impl<K: Keeper> Log<K> {
             return None;
         };
         add_one(&mut self.counts.packets);
-        // (field by field: the checksum looks at a datagram in memory, and the segment is made of one in registers)
+        // (field by field: the checksum reads the datagram from memory, and the segment is built
+        // from one in registers)
         let looked_at = capture::Datagram { ..datagram };
         let source = end(datagram.source, tcp.source);
         let destination = end(datagram.destination, tcp.destination);
@@ -348,7 +360,7 @@ impl<K: Keeper> Log<K> {
         Some(Arrival::Segment(segment))
     }
 
-    /// What arrives with a packet that holds this datagram.
+    /// Returns what arrives with a packet that holds this datagram.
     #[inline(always)]
     fn arrival_of<'a>(
         &mut self,
@@ -364,7 +376,8 @@ impl<K: Keeper> Log<K> {
         Ok(None)
     }
 
-    /// Takes out a connection that is over before the arrival. To be called until there is none.
+    /// Removes and returns a connection that is over before the arrival. Call it until it returns
+    /// `None`.
     pub fn take_over(
         &mut self,
         arrival: &Arrival<'_>,
@@ -375,14 +388,15 @@ impl<K: Keeper> Log<K> {
         self.take_idle(arrival.time())
     }
 
-    /// The same, where there may be one.
+    /// Removes and returns an idle connection, when there may be one.
     fn take_idle(&mut self, time: u64) -> Result<Option<Box<Connection<Heard<K>>>>, AllocError> {
         with_last(&mut self.known, self.connections.take_idle(time))
     }
 
-    /// Puts what arrives into its connection, lets that hear what is there then, and takes the connection out where it is over.
+    /// Adds an arrival to its connection and analyzes the bytes that it completes. Removes and
+    /// returns a connection that is over then.
     ///
-    /// `AllocError` where it could not be held: [`Log::take_refused`] ends its connection then.
+    /// `AllocError` if there is no memory for it. [`Log::take_refused`] then ends its connection.
     pub fn accept(
         &mut self,
         arrival: &Arrival<'_>,
@@ -395,7 +409,8 @@ impl<K: Keeper> Log<K> {
         Ok(over)
     }
 
-    /// The same, and notes whether the connection is to be accounted anew.
+    /// Adds an arrival to its connection and analyzes it, and notes whether the accounted memory
+    /// may have changed.
     fn hear_arrival(
         &mut self,
         arrival: &Arrival<'_>,
@@ -406,12 +421,13 @@ impl<K: Keeper> Log<K> {
         }
     }
 
-    /// Puts the segment into its connection, and lets that hear what is there then: whether both its sides said their last, or `None`
-    /// where the segment belongs to no connection.
+    /// Adds the segment to its connection and analyzes the bytes that it completes. Returns whether
+    /// both sides closed the connection, or `None` if the segment belongs to none.
     fn hear_segment(&mut self, segment: &Segment<'_>) -> Result<Option<bool>, AllocError>
-        ensures { IfOk result (λ heard. Logs (is_some heard) segment.now self.old.connections self.new.connections) }
+        ensures { IfOk result
+            (λ heard. Logs (is_some heard) segment.now self.old.connections self.new.connections) }
     {
-        // (mostly there is one already, which is looked up once)
+        // (mostly there is a connection already, which is looked up once)
         if let Some(connection) = self.connections.get_first_mut(&segment.between()) {
             connection.accept(self.alloc, segment)?;
             hear(
@@ -427,9 +443,10 @@ impl<K: Keeper> Log<K> {
         self.hear_first(segment)
     }
 
-    /// The same where it may begin a connection.
+    /// Adds a segment that may begin a connection, and analyzes the bytes that it completes.
     fn hear_first(&mut self, segment: &Segment<'_>) -> Result<Option<bool>, AllocError>
-        ensures { IfOk result (λ heard. Logs (is_some heard) segment.now self.old.connections self.new.connections) }
+        ensures { IfOk result
+            (λ heard. Logs (is_some heard) segment.now self.old.connections self.new.connections) }
     {
         if !self.connections.accept(segment)? {
             return Ok(None);
@@ -450,7 +467,7 @@ impl<K: Keeper> Log<K> {
         }
     }
 
-    /// Hears a segment that waited, and whether both sides of its connection said their last then.
+    /// Analyzes a pending segment that its receiver took.
     fn hear_kept(&mut self, kept: &Kept) -> Result<(), AllocError> {
         self.connections.accept_kept(kept)?;
         let segment = kept.segment();
@@ -466,7 +483,7 @@ impl<K: Keeper> Log<K> {
         }
     }
 
-    /// Hears the segments that waited until the sender of this one acknowledged them.
+    /// Analyzes the pending segments that this segment acknowledges.
     fn hear_waiting(&mut self, segment: &Segment<'_>) -> Result<(), AllocError> {
         self.is_unsettled = true;
         'waiting: for _ in 0..MAX_WAITING {
@@ -479,7 +496,8 @@ impl<K: Keeper> Log<K> {
         Ok(())
     }
 
-    /// Puts a segment that its receiver takes into its connection, and takes that out where it is over then.
+    /// Adds a segment that its receiver takes to its connection, and removes and returns that if it
+    /// is closed then.
     fn take_segment(
         &mut self,
         segment: &Segment<'_>,
@@ -488,7 +506,8 @@ impl<K: Keeper> Log<K> {
         self.end_heard(segment, heard)
     }
 
-    /// Takes out the connection that heard a segment where it is over then; one that belongs to none is counted.
+    /// Removes and returns the connection of an analyzed segment if it is closed. A segment without
+    /// a connection is counted.
     fn end_heard(
         &mut self,
         segment: &Segment<'_>,
@@ -498,7 +517,7 @@ impl<K: Keeper> Log<K> {
             Some(true) => self.take_closed(segment),
             Some(false) => Ok(None),
             None => {
-                // (the last acknowledgement of a connection that is over loses nothing)
+                // (the last acknowledgement of a closed connection loses nothing)
                 if segment.checksum == Checksum::Refused {
                     add_one(&mut self.counts.damaged);
                 } else if segment.has_data() {
@@ -509,7 +528,7 @@ impl<K: Keeper> Log<K> {
         }
     }
 
-    /// Takes out the connection that a segment closed.
+    /// Removes and returns the connection that a segment closed.
     fn take_closed(
         &mut self,
         segment: &Segment<'_>,
@@ -517,7 +536,8 @@ impl<K: Keeper> Log<K> {
         with_last(&mut self.known, self.connections.take_closed(segment)?)
     }
 
-    /// Takes out the connection in whose place another begins with a segment, which hears that.
+    /// Removes and returns the connection that another one replaces, and analyzes the segment in
+    /// that.
     fn take_replaced(
         &mut self,
         segment: &Segment<'_>,
@@ -527,10 +547,12 @@ impl<K: Keeper> Log<K> {
         with_last(&mut self.known, over)
     }
 
-    /// Puts a segment that its receiver takes into the connection between its ends, where one is open and nothing is to be done before, and lets that
-    /// hear what is there then; else nothing changes. The connection is looked up once, and looks at the segment once.
+    /// Adds a segment that its receiver takes to its open connection, and analyzes the bytes that
+    /// it completes. If something has to be done first, nothing changes. The connection is looked
+    /// up once, and looks at the segment once.
     fn hear_open(&mut self, segment: &Segment<'_>) -> Result<Reception, AllocError>
-        ensures { IfOk result (λ reception. LogsOpen reception segment.now self.old.connections self.new.connections) }
+        ensures { IfOk result
+            (λ reception. LogsOpen reception segment.now self.old.connections self.new.connections) }
     {
         let five_tuple = segment.between();
         let Some(connection) = self.connections.get_mut(&five_tuple) else {
@@ -546,14 +568,15 @@ impl<K: Keeper> Log<K> {
             &self.tunnels,
             &mut self.known,
         )?;
-        // (without data it takes no more than before)
+        // (without data the memory doesn't grow)
         self.is_unsettled = segment.has_data() && !connection.is_settled();
         let is_closed = connection.is_closed();
         self.connections.promote(&five_tuple);
         Ok(Reception::Heard(is_closed))
     }
 
-    /// Puts a segment of TCP into its connection, by what its receiver does with it, and takes that out where it is over then.
+    /// Processes a TCP segment by what its receiver does with it. Removes and returns its
+    /// connection if it is closed then.
     fn accept_segment(
         &mut self,
         segment: &Segment<'_>,
@@ -569,7 +592,7 @@ impl<K: Keeper> Log<K> {
         }
     }
 
-    /// The same of one that isn't just taken, by what its connection is to it.
+    /// Processes a segment by its connection's verdict, when it isn't simply taken.
     fn accept_by(
         &mut self,
         segment: &Segment<'_>,
@@ -605,10 +628,12 @@ impl<K: Keeper> Log<K> {
         }
     }
 
-    /// Lets the exchange between a datagram's ends hear it, where one is open, the datagram isn't damaged, and it begins no other association of DTLS.
-    /// The exchange is looked up once.
+    /// Analyzes a datagram in its open exchange, unless it is damaged or begins another DTLS
+    /// association. The exchange is looked up once.
     fn hear_exchange(&mut self, datagram: &Datagram<'_>) -> Result<Delivery, AllocError>
-        ensures { IfOk result (λ delivery. LogsExchange delivery datagram.now self.old.connections self.new.connections) }
+        ensures { IfOk result
+            (λ delivery. LogsExchange delivery datagram.now self.old.connections
+            self.new.connections) }
     {
         let five_tuple = datagram.between();
         let Some(exchange) = self.connections.get_mut(&five_tuple) else {
@@ -635,7 +660,8 @@ impl<K: Keeper> Log<K> {
         Ok(Delivery::Heard)
     }
 
-    /// Lets the exchange between a datagram's ends hear it, and takes out the one in whose place another begins.
+    /// Analyzes a datagram in its exchange. Removes and returns the exchange that another one
+    /// replaces.
     fn accept_user_datagram(
         &mut self,
         datagram: &Datagram<'_>,
@@ -658,7 +684,7 @@ impl<K: Keeper> Log<K> {
         }
     }
 
-    /// Lets a datagram begin an exchange, unless a checksum is wrong: it is counted then.
+    /// Begins an exchange with a datagram, or counts the datagram if its checksum is wrong.
     fn begin_exchange(&mut self, datagram: &Datagram<'_>) -> Result<(), AllocError> {
         if datagram.checksum == Checksum::Refused {
             add_one(&mut self.counts.damaged);
@@ -667,9 +693,10 @@ impl<K: Keeper> Log<K> {
         self.accept_datagram(datagram)
     }
 
-    /// Lets the exchange of a datagram hear it, which the datagram begins where none is open.
+    /// Analyzes a datagram in its exchange, which it begins if there is none.
     fn accept_datagram(&mut self, datagram: &Datagram<'_>) -> Result<(), AllocError>
-        ensures { OnOk result (LogsDatagram datagram.now self.old.connections self.new.connections) }
+        ensures { OnOk result
+            (LogsDatagram datagram.now self.old.connections self.new.connections) }
     {
         self.connections.accept_datagram(datagram)?;
         match self.connections.get_mut(&datagram.between()) {
@@ -688,12 +715,13 @@ impl<K: Keeper> Log<K> {
         }
     }
 
-    /// The open connection that an arrival belongs to.
+    /// Returns the open connection of an arrival.
     pub fn connection(&mut self, arrival: &Arrival<'_>) -> Option<&mut Connection<Heard<K>>> {
         self.connections.get_mut(&arrival.between())
     }
 
-    /// Takes out a connection that is left. To be called at the capture's end, until there is none.
+    /// Removes and returns one of the remaining connections. At the end of the capture, call it
+    /// until it returns `None`.
     pub fn take_left(&mut self) -> Result<Option<Box<Connection<Heard<K>>>>, AllocError> {
         self.count_cut();
         with_last(&mut self.known, self.connections.take_left())

@@ -1,4 +1,4 @@
-//! Which connections end before their time, since memory runs short.
+//! Evicts connections when memory runs short.
 
 use crate::arrival::Arrival;
 use crate::counts::add_one;
@@ -7,16 +7,17 @@ use crate::log::{Log, with_last};
 use connections::Connection;
 use std::alloc::AllocError;
 
-/// So many bytes are spared for the ends of connections where the system refuses more: for a line of each, and what it is made of.
+/// The memory reserved for ending connections when the system refuses more, in bytes: enough for a
+/// line and its parts.
 pub(crate) const SPARE: usize = 1_048_576;
 
 impl<K: Keeper> Log<K> {
-    /// Lets connections be accounted for so many bytes of memory; at first there is no limit.
+    /// Sets the memory limit for connections in bytes. The default is none.
     pub fn set_memory(&mut self, memory: usize) {
         self.memory = memory;
     }
 
-    /// Lets a connection that was taken out end before its time, and counts it.
+    /// Ends a removed connection early, and counts it.
     fn end_early(
         &mut self,
         taken: Option<Box<Connection<Heard<K>>>>,
@@ -31,8 +32,8 @@ impl<K: Keeper> Log<K> {
         }
     }
 
-    /// Takes out the connection that was longest without a packet, where all are accounted for more than the limit. To be called behind each arrival
-    /// until there is none.
+    /// Removes and returns the longest-idle connection if all exceed the memory limit. Call it
+    /// after each arrival until it returns `None`.
     pub fn take_crowded(&mut self) -> Result<Option<Box<Connection<Heard<K>>>>, AllocError> {
         if !self.connections.is_crowded(self.memory) {
             return Ok(None);
@@ -41,7 +42,8 @@ impl<K: Keeper> Log<K> {
         self.end_early(taken)
     }
 
-    /// Takes out the connection of an arrival that could not be held. The memory that was spared is let go, until [`Log::spare`] asks for it again.
+    /// Removes and returns the connection of an arrival for which there was no memory. Frees the
+    /// reserve, until [`Log::spare`] allocates it again.
     pub fn take_refused(
         &mut self,
         arrival: &Arrival<'_>,
@@ -51,13 +53,13 @@ impl<K: Keeper> Log<K> {
         self.end_early(taken)
     }
 
-    /// Takes out the connection that was longest without a packet, where memory is refused.
+    /// Removes and returns the longest-idle connection, when the system refuses memory.
     pub fn take_oldest(&mut self) -> Result<Option<Box<Connection<Heard<K>>>>, AllocError> {
         let taken = self.connections.take_left();
         self.end_early(taken)
     }
 
-    /// Spares memory for the ends of connections again, where there is enough.
+    /// Allocates the reserve again, if there is enough memory.
     pub fn spare(&mut self) {
         if let Ok(spare) = Vec::with_capacity(self.alloc, SPARE) {
             self.spare = spare;

@@ -1,4 +1,5 @@
-//! Connections by the names of the Elastic Common Schema (elastic.co/docs/reference/ecs), as Filebeat sends them.
+//! Connections as events of the Elastic Common Schema (elastic.co/docs/reference/ecs), as Filebeat
+//! sends them.
 use crate::nested::{Nested, Path};
 use connections::{Protocol, Side};
 use log_fields::columns::Certified;
@@ -17,30 +18,30 @@ use std::alloc::{AllocError, Global};
 use std::net::IpAddr;
 use tls_flow::Outcome;
 
-/// The version of the schema whose names these are.
+/// The schema version of the names.
 const SCHEMA: &str = "8.11.0";
 
 /// The time zone of times: UTC.
 const ZONE: &str = "Z";
 
-/// What a name says.
+/// The source of a name's value.
 #[derive(Clone, Copy)]
 enum Said {
     /// A field of the connection's line.
     Same(Field),
-    /// What the certificate says.
+    /// A field of the certificate.
     Certified(Certified),
-    /// Digits that the certificate says, in upper case.
+    /// A hexadecimal field of the certificate, in upper case.
     Digits(Certified),
-    /// A number that the certificate says.
+    /// A field of the certificate, as a number.
     Number(Certified),
-    /// The names in its subjectAltName.
+    /// The names in the certificate's subjectAltName.
     AlternativeNames,
-    /// Its digest.
+    /// The certificate's SHA-256.
     Sha256,
-    /// A word that each event has.
+    /// A word that is the same in each event.
     Word(&'static str),
-    /// A list of one such word, or of two.
+    /// A list of words that is the same in each event.
     Words(&'static [&'static str]),
     Begin,
     End,
@@ -48,13 +49,13 @@ enum Said {
     Success,
     NetworkType,
     NetworkProtocol,
-    /// What both sides sent, counted.
+    /// The sum of a count of both sides.
     Both(Sent),
     Version,
     VersionProtocol,
 }
 
-/// Whose certificate a row tells of.
+/// Whose certificate a row describes.
 #[derive(Clone, Copy)]
 enum Owner {
     Nobody,
@@ -62,7 +63,7 @@ enum Owner {
     Server,
 }
 
-/// The names in an object, each with what it says.
+/// The names in an object, each with the source of its value.
 type Rows = &'static [(&'static str, Said)];
 
 const EVENT: Rows = &[
@@ -174,7 +175,7 @@ const SUBJECT: Rows = &[("distinguished_name", Said::Certified(Certified::Subjec
 
 const ISSUER: Rows = &[("distinguished_name", Said::Certified(Certified::Issuer))];
 
-/// What the schema has no names for.
+/// Fields for which the schema has no names.
 const OWN: Rows = &[
     ("ja4", Said::Same(Field::Print(Print::Ja4))),
     ("outcome", Said::Same(Field::Course(Course::Outcome))),
@@ -212,7 +213,7 @@ static OBJECTS: &[(Path, Owner, Rows)] = &[
     (&["tlslog"], Owner::Nobody, OWN),
 ];
 
-/// What a field of that certificate says.
+/// Returns a field of the owner's certificate.
 fn certified_cell<'a>(
     told: &mut Told<'a>,
     owner: Owner,
@@ -225,7 +226,7 @@ fn certified_cell<'a>(
     }
 }
 
-/// The same in upper case.
+/// Returns a hexadecimal field of the owner's certificate, in upper case.
 fn digits_cell<'a>(
     told: &mut Told<'_>,
     owner: Owner,
@@ -240,7 +241,7 @@ fn digits_cell<'a>(
     }
 }
 
-/// The same as a number, where the text is one.
+/// Returns a field of the owner's certificate as a number, if its text is one.
 fn number_cell<'a>(
     told: &mut Told<'_>,
     owner: Owner,
@@ -256,7 +257,7 @@ fn number_cell<'a>(
     }
 }
 
-/// The names in the client's certificate, kind by kind.
+/// The names in the client's certificate, by kind.
 static CLIENT_NAMES: [Field; 4] = [
     Field::ClientCertificate(Certified::DnsNames),
     Field::ClientCertificate(Certified::Addresses),
@@ -264,7 +265,7 @@ static CLIENT_NAMES: [Field; 4] = [
     Field::ClientCertificate(Certified::Uris),
 ];
 
-/// The names in the server's, kind by kind.
+/// The names in the server's certificate, by kind.
 static SERVER_NAMES: [Field; 4] = [
     Field::ServerCertificate(Certified::DnsNames),
     Field::ServerCertificate(Certified::Addresses),
@@ -272,7 +273,7 @@ static SERVER_NAMES: [Field; 4] = [
     Field::ServerCertificate(Certified::Uris),
 ];
 
-/// The names in that certificate.
+/// Returns the names in the owner's certificate.
 fn alternative_names_cell<'a>(
     told: &mut Told<'_>,
     owner: Owner,
@@ -284,7 +285,7 @@ fn alternative_names_cell<'a>(
     }
 }
 
-/// The SHA-256 of that certificate, in upper case.
+/// Returns the SHA-256 of the owner's certificate, in upper case.
 fn sha256_cell<'a>(told: &mut Told<'_>, owner: Owner) -> Result<Option<Cell<'a>>, AllocError> {
     let alloc = told.alloc;
     let prints = match owner {
@@ -301,7 +302,7 @@ fn sha256_cell<'a>(told: &mut Told<'_>, owner: Owner) -> Result<Option<Cell<'a>>
     }
 }
 
-/// A list of words.
+/// Returns a list of words.
 fn words_cell<'a>(alloc: Global, words: &[&str]) -> Result<Option<Cell<'a>>, AllocError> {
     let mut all = Vec::new(alloc);
     for word in words {
@@ -310,7 +311,8 @@ fn words_cell<'a>(alloc: Global, words: &[&str]) -> Result<Option<Cell<'a>>, All
     Ok(some_texts(Texts::Owned(all)))
 }
 
-/// Whether the connection came to what its sides wanted.
+/// Returns the event's outcome: success for a complete handshake, failure for one that was broken
+/// off.
 fn success_of(summary: &Summary<'_>) -> &'static str {
     match summary.outcome {
         Outcome::Full | Outcome::Resumed | Outcome::Tls13 { .. } => "success",
@@ -333,7 +335,7 @@ fn network_protocol(protocol: Protocol) -> &'static str {
     }
 }
 
-/// A count of one side.
+/// Returns a count of one side.
 fn count_of(told: &mut Told<'_>, side: Side, counted: Sent) -> Result<u64, AllocError> {
     match cell_of(told, &Field::Sent(side, counted))? {
         Some(Cell::Number(count)) => Ok(count),
@@ -341,27 +343,27 @@ fn count_of(told: &mut Told<'_>, side: Side, counted: Sent) -> Result<u64, Alloc
     }
 }
 
-/// The same of both.
+/// Returns the sum of a count of both sides.
 fn both_cell<'a>(told: &mut Told<'_>, counted: Sent) -> Result<Option<Cell<'a>>, AllocError> {
     let from_originator = count_of(told, Side::Originator, counted)?;
     let from_responder = count_of(told, Side::Responder, counted)?;
     Ok(Some(Cell::Number(from_originator.saturating_add(from_responder))))
 }
 
-/// The version without the protocol's name, or its number.
+/// Returns the version without the protocol's name, or its number.
 fn version_cell<'a>(told: &Told<'_>) -> Option<Cell<'a>> {
     let version = told.handshake.version()?;
     let name = ecs_version(version).map(|(_protocol, name)| name);
     Some(Cell::Text(name_or_number(name, version.0)))
 }
 
-/// The name of the protocol without the version.
+/// Returns the protocol's name without the version.
 fn version_protocol_cell<'a>(told: &Told<'_>) -> Option<Cell<'a>> {
     let version = told.handshake.version()?;
     some_name(ecs_version(version).map(|(protocol, _name)| protocol))
 }
 
-/// What a name says of the connection itself.
+/// Returns a value of the connection itself.
 fn summary_cell<'a>(
     alloc: Global,
     summary: &Summary<'_>,
@@ -382,7 +384,7 @@ fn summary_cell<'a>(
     }
 }
 
-/// What a name says of a connection, and of that certificate.
+/// Returns a name's value, for a connection and the owner's certificate.
 fn said_cell<'a>(
     told: &mut Told<'a>,
     owner: Owner,
@@ -409,7 +411,7 @@ fn said_cell<'a>(
     }
 }
 
-/// What the names in an object say.
+/// Returns the values of an object's names.
 fn object_row<'a>(told: &mut Told<'a>, owner: Owner, rows: Rows) -> Result<Row<'a>, AllocError> {
     let mut cells = Vec::with_capacity(told.alloc, rows.len())?;
     for (name, said) in rows {
@@ -418,7 +420,7 @@ fn object_row<'a>(told: &mut Told<'a>, owner: Owner, rows: Rows) -> Result<Row<'
     Ok(Row { cells })
 }
 
-/// The event of a connection, without a line break.
+/// Returns the event of a connection, without a line break.
 pub fn line(told: Told<'_>) -> Result<Vec<u8>, AllocError> {
     let alloc = told.alloc;
     let mut told = told;

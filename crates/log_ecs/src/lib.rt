@@ -1,4 +1,6 @@
-//! Connections by the names of the Elastic Common Schema: [`line`].
+//! Writes connections as events of the Elastic Common Schema: [`line`].
+//!
+//! This crate has no clauses, only tests.
 #![tactic(auto)]
 
 mod event;

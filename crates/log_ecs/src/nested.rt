@@ -1,20 +1,21 @@
-//! Rows as objects in one another.
+//! Rows as nested objects.
 use log_formats::cell::Row;
 use serde::{Described, Serialize, Serializer};
 
-/// The names of the objects that hold a value, from outside in.
+/// The names of the objects around a value, outermost first.
 pub type Path = &'static [&'static str];
 
-/// Rows, each in the object at its path. Paths that begin alike stand side by side, so that each object is begun once.
+/// Rows, each in the object at its path. Paths with the same beginning are adjacent, so that each
+/// object is opened once.
 #[derive(Drop)]
 pub struct Nested<'a> {
-    /// The rows, with their paths.
+    /// The rows with their paths.
     pub rows: Vec<(Path, Row<'a>)>,
 }
 
 impl Described for Nested<'_> {}
 
-/// With how many names both paths begin alike.
+/// Returns how many names both paths have in common at their beginning.
 fn shared_by(one: Path, other: Path) -> usize {
     let mut shared: usize = 0;
     for (name, its) in one.iter().zip(other.iter()) {
@@ -26,7 +27,7 @@ fn shared_by(one: Path, other: Path) -> usize {
     shared
 }
 
-/// Ends so many objects.
+/// Closes this many objects.
 fn end_objects<S: Serializer>(count: usize, out: &mut S) -> Result<(), S::Error> {
     for _ in 0..count {
         out.end_map()?;
@@ -34,7 +35,7 @@ fn end_objects<S: Serializer>(count: usize, out: &mut S) -> Result<(), S::Error>
     Ok(())
 }
 
-/// Ends the objects of one path, and begins those of another, as far as these aren't the same.
+/// Closes the objects of one path and opens those of another, except the common ones.
 fn go_to<S: Serializer>(from: Path, to: Path, out: &mut S) -> Result<(), S::Error> {
     let shared = shared_by(from, to);
     end_objects(from.len().saturating_sub(shared), out)?;
@@ -45,7 +46,7 @@ fn go_to<S: Serializer>(from: Path, to: Path, out: &mut S) -> Result<(), S::Erro
     Ok(())
 }
 
-/// Whether a row has a field that isn't missing.
+/// Returns whether a row has a field that isn't missing.
 fn has_field(row: &Row<'_>) -> bool {
     for (_name, cell) in &row.cells {
         if cell.is_some() {
@@ -55,7 +56,7 @@ fn has_field(row: &Row<'_>) -> bool {
     false
 }
 
-/// An object, in which what is missing is left out, and objects that would be empty.
+/// An object without missing fields and empty objects.
 impl Serialize for Nested<'_> {
     fn serialize<S: Serializer>(&self, out: &mut S) -> Result<(), S::Error> {
         let mut open: Path = &[];

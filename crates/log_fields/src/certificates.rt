@@ -1,4 +1,4 @@
-//! What a certificate says, as fields (RFC 5280, section 4.1). Nothing is verified.
+//! The fields of a certificate (RFC 5280, section 4.1). Nothing is verified.
 use crate::columns::Certified;
 use der::ObjectIdentifier;
 use layouts::{ErrorKind, Items};
@@ -18,7 +18,7 @@ use x509_text::{
     serial_number_text, time_text, version_number,
 };
 
-/// The certificate that bytes are, if it is read.
+/// Returns the certificate in these bytes, if they can be parsed.
 pub fn certificate_of(bytes: Option<&[u8]>) -> Option<Certificate<'_>> {
     match parse_certificate(bytes?) {
         Ok((_, certificate)) => Some(certificate),
@@ -26,7 +26,7 @@ pub fn certificate_of(bytes: Option<&[u8]>) -> Option<Certificate<'_>> {
     }
 }
 
-/// Why a certificate isn't read.
+/// Returns the name of the reason why a certificate can't be parsed.
 pub fn fault_name(fault: CertificateFault) -> &'static str {
     match fault {
         CertificateFault::Incomplete => "incomplete",
@@ -40,7 +40,8 @@ pub fn fault_name(fault: CertificateFault) -> &'static str {
     }
 }
 
-/// The names in its subjectAltName (RFC 5280, section 4.2.1.6): none where it has none, or it can't be read.
+/// Returns the names in the subjectAltName (RFC 5280, section 4.2.1.6): none if it is missing or
+/// malformed.
 fn alternative_names<'a>(certificate: &Certificate<'a>) -> Items<'a, GeneralNames> {
     let extensions = certificate.tbs_certificate.extensions;
     let Some(found) = first_extension(extensions, oid::SUBJECT_ALT_NAME) else {
@@ -52,7 +53,7 @@ fn alternative_names<'a>(certificate: &Certificate<'a>) -> Items<'a, GeneralName
     }
 }
 
-/// Whether a name is of the kind that a field lists.
+/// Returns whether a name is of the kind that a field lists.
 fn is_listed(name: &GeneralName<'_>, field: &Certified) -> bool {
     matches!(
         (field, name),
@@ -64,7 +65,7 @@ fn is_listed(name: &GeneralName<'_>, field: &Certified) -> bool {
     )
 }
 
-/// The names of one kind in its subjectAltName.
+/// Returns the names of one kind in the subjectAltName.
 fn names_cell<'c>(
     alloc: Global,
     certificate: &Certificate<'_>,
@@ -79,7 +80,7 @@ fn names_cell<'c>(
     Ok(some_texts(Texts::Owned(all)))
 }
 
-/// Its basicConstraints (RFC 5280, section 4.2.1.9), if it has them and they can be read.
+/// Returns the basicConstraints (RFC 5280, section 4.2.1.9), unless they are missing or malformed.
 fn constraints<'a>(certificate: &Certificate<'a>) -> Option<BasicConstraints<'a>> {
     let extensions = certificate.tbs_certificate.extensions;
     let found = first_extension(extensions, oid::BASIC_CONSTRAINTS)?;
@@ -89,7 +90,8 @@ fn constraints<'a>(certificate: &Certificate<'a>) -> Option<BasicConstraints<'a>
     }
 }
 
-/// How many certificates may stand between it and the last one; nothing where there is no limit, or one that no chain can reach.
+/// Returns how many certificates may come between this one and the last; `None` if there is no
+/// limit, or one that no chain can reach.
 fn path_length<'c>(certificate: &Certificate<'_>) -> Option<Cell<'c>> {
     match constraints(certificate)?.path_len_constraint {
         Some([n]) => Some(Cell::Number(u64::from(*n))),
@@ -97,13 +99,13 @@ fn path_length<'c>(certificate: &Certificate<'_>) -> Option<Cell<'c>> {
     }
 }
 
-/// Whether it may sign others; nothing where it doesn't say so.
+/// Returns whether it may sign others; `None` without basicConstraints.
 fn may_be_ca<'c>(certificate: &Certificate<'_>) -> Option<Cell<'c>> {
     let constraints = constraints(certificate)?;
     Some(Cell::Mark(constraints.ca))
 }
 
-/// The same, where what isn't said is false.
+/// Returns whether it may sign others; false without basicConstraints.
 fn is_ca(certificate: &Certificate<'_>) -> bool {
     match constraints(certificate) {
         Some(constraints) => constraints.ca,
@@ -111,7 +113,7 @@ fn is_ca(certificate: &Certificate<'_>) -> bool {
     }
 }
 
-/// The bits of a KeyUsage that are set, by their names.
+/// Returns the names of a KeyUsage's set bits.
 fn usage_cell<'c>(alloc: Global, usage: KeyUsage) -> Result<Option<Cell<'c>>, AllocError> {
     let mut all = Vec::new(alloc);
     for (usage, is_set) in key_usage_bits(usage) {
@@ -122,7 +124,7 @@ fn usage_cell<'c>(alloc: Global, usage: KeyUsage) -> Result<Option<Cell<'c>>, Al
     Ok(some_texts(Texts::Owned(all)))
 }
 
-/// What its key may be used for (RFC 5280, section 4.2.1.3).
+/// Returns the names of its key's uses (RFC 5280, section 4.2.1.3).
 fn key_usage<'c>(
     alloc: Global,
     certificate: &Certificate<'_>,
@@ -137,7 +139,7 @@ fn key_usage<'c>(
     }
 }
 
-/// The name of a purpose, or its numbers with dots.
+/// Returns the name of a purpose, or its dotted numbers.
 fn purpose_text(alloc: Global, id: ObjectIdentifier<'_>) -> Result<String, AllocError> {
     match object_short_name(id) {
         Some(name) => String::from_str(alloc, name),
@@ -145,7 +147,7 @@ fn purpose_text(alloc: Global, id: ObjectIdentifier<'_>) -> Result<String, Alloc
     }
 }
 
-/// The purposes of its key (RFC 5280, section 4.2.1.12), by their names, or dotted.
+/// Returns the purposes of its key (RFC 5280, section 4.2.1.12), as names or dotted numbers.
 fn purposes<'c>(
     alloc: Global,
     certificate: &Certificate<'_>,
@@ -164,7 +166,7 @@ fn purposes<'c>(
     Ok(some_texts(Texts::Owned(all)))
 }
 
-/// A time; nothing where the calendar doesn't have it.
+/// Returns a time; `None` if the calendar doesn't have it.
 fn time_cell<'c>(alloc: Global, seconds: i64) -> Result<Option<Cell<'c>>, AllocError> {
     match time_text(alloc, seconds)? {
         Some(text) => Ok(Some(Cell::Text(Text::Owned(text)))),
@@ -172,7 +174,7 @@ fn time_cell<'c>(alloc: Global, seconds: i64) -> Result<Option<Cell<'c>>, AllocE
     }
 }
 
-/// What one field says of its key.
+/// Returns the value of a field of its key.
 fn key_cell<'c>(
     alloc: Global,
     info: SubjectPublicKeyInfo<'_>,
@@ -196,7 +198,7 @@ fn key_cell<'c>(
     }
 }
 
-/// What one field says of a certificate; nothing where it is missing.
+/// Returns the value of a field of a certificate; `None` if it is missing.
 pub fn certified_cell<'c>(
     alloc: Global,
     certificate: &Certificate<'_>,

@@ -2,7 +2,7 @@
 use crate::fields::End;
 use log_formats::column::{Column, Type};
 
-/// What a certificate says (RFC 5280, section 4.1).
+/// A field of a certificate (RFC 5280, section 4.1).
 #[derive(Clone, Copy)]
 pub enum Certified {
     Version,
@@ -55,9 +55,12 @@ pub enum Detail {
     Fault,
 }
 
-/// A table of fields. In front of each row stands what docs/TLSLOG.md, docs/tlslog.1 and bindings/python have of it, which `docs/fields --write` puts there: what it is,
-/// and in lines of their own, as far as there is one, the sections of RFCs behind `RFC: `, the field of Zeek's behind `Zeek: `, and when a line doesn't have it
-/// behind `absent: `. Where `as above` stands, the row above tells it.
+/// A table of fields. The comment before each row is its text in docs/TLSLOG.md, docs/tlslog.1 and
+/// bindings/python; `docs/fields --write` puts it there.
+///
+/// The text comes first. On lines of their own may follow: the sections of RFCs, behind `RFC: `;
+/// Zeek's field, behind `Zeek: `; and when a line doesn't have the field, behind `absent: `. `as
+/// above` stands for the text of the row before.
 macro_rules! columns {
     ($($(#[doc = $text:literal])+ $name:literal: $kind:ident = $field:expr;)*) => {
         &[$(($name, Type::$kind, $field)),*]
@@ -84,19 +87,19 @@ pub static PARTS: &[Column<Part>] = columns! {
     "side": Text = Part::Side;
     /// the number of messages of that side before it
     "place": Count = Part::Place;
-    /// the type of its record: 20 a ChangeCipherSpec, 21 an alert, 22 a handshake message, 24 a heartbeat
-    /// RFC: 8446, 5.1; 6520, 3
+    /// the type of its record: 20 a ChangeCipherSpec, 21 an alert, 22 a handshake message, 24 a
+    /// heartbeat RFC: 8446, 5.1; 6520, 3
     "content_type": Count = Part::ContentType;
-    /// the name of the handshake message, as `client_hello`; else `change_cipher_spec`, `alert`, `heartbeat`
-    /// RFC: 8446, B.3; 5246, A.4
-    /// absent: the handshake type has no name
+    /// the name of the handshake message, as `client_hello`; else `change_cipher_spec`, `alert`,
+    /// `heartbeat` RFC: 8446, B.3; 5246, A.4 absent: the handshake type has no name
     "name": Text = Part::Name;
     /// its fields, by the names in its RFC
     /// RFC: see below
     "message": Fields = Part::Message;
 };
 
-/// The fields of a certificate's line, in their order. The names are those of Zeek's x509.log where Zeek has the thing.
+/// The fields of a certificate's line, in their order. They have the names in Zeek's x509.log where
+/// that has the field.
 pub static DETAILS: &[Column<Detail>] = columns! {
     /// the time of the packet that completed the message
     /// Zeek: `ts`

@@ -1,4 +1,4 @@
-//! What the fields of a connection's line say.
+//! The values of a connection's fields.
 use crate::certificates::certified_cell;
 use crate::columns::Certified;
 use crate::fields::{Carried, Course, End, FIELDS, Field, Named, Sent, rows};
@@ -21,19 +21,19 @@ use tls_flow::{Direction, Stop};
 use tunnels::Tunnel;
 use x509::Certificate;
 
-/// Nanoseconds as microseconds, to which lines tell times.
+/// Converts nanoseconds to microseconds, the precision of times in lines.
 pub fn microseconds(nanoseconds: u64) -> u64 {
     nanoseconds / 1000
 }
 
-/// Nanoseconds as seconds, to the microsecond.
+/// Returns nanoseconds as seconds, to the microsecond.
 fn seconds<'a>(nanoseconds: u64) -> Cell<'a> {
     Cell::Seconds(Seconds {
         microseconds: microseconds(nanoseconds),
     })
 }
 
-/// The identifier of a connection, by its ends and its first packet.
+/// Returns the identifier of a connection, by its ends and its first packet.
 fn uid_cell<'a>(moment: Moment<'_>) -> Result<Option<Cell<'a>>, AllocError> {
     let summary = moment.summary;
     some_text(uid(
@@ -45,7 +45,7 @@ fn uid_cell<'a>(moment: Moment<'_>) -> Result<Option<Cell<'a>>, AllocError> {
     ))
 }
 
-/// The Community ID of a connection.
+/// Returns the Community ID of a connection.
 fn community_id_cell<'a>(moment: Moment<'_>) -> Result<Option<Cell<'a>>, AllocError> {
     let summary = moment.summary;
     some_text(community_id(
@@ -56,7 +56,7 @@ fn community_id_cell<'a>(moment: Moment<'_>) -> Result<Option<Cell<'a>>, AllocEr
     ))
 }
 
-/// What carries a connection, as Zeek writes it.
+/// Returns Zeek's name of a transport protocol.
 fn proto_name(protocol: Protocol) -> &'static str {
     match protocol {
         Protocol::Tcp => "tcp",
@@ -64,23 +64,24 @@ fn proto_name(protocol: Protocol) -> &'static str {
     }
 }
 
-/// The address of an end.
+/// Returns the address of an end.
 fn address_cell<'a>(end: connections::End) -> Option<Cell<'a>> {
     Some(Cell::Text(Text::Address(end.address)))
 }
 
-/// The port of an end.
+/// Returns the port of an end.
 fn port_cell<'a>(end: connections::End) -> Option<Cell<'a>> {
     Some(Cell::Number(u64::from(end.port)))
 }
 
-/// How long a connection took.
+/// Returns the duration of a connection.
 fn duration_cell<'a>(summary: &Summary<'_>) -> Option<Cell<'a>> {
     let duration = summary.last_time.saturating_sub(summary.first_time);
     Some(seconds(duration))
 }
 
-/// Who talks, over what, and when: a connection's first packet, or a message that came at this time.
+/// Passes a field to `to`: the ends and the time, of a connection's first packet or of a message
+/// completed later.
 fn tell_end<'a, T: TakesCell<'a>>(
     moment: Moment<'_>,
     field: &End,
@@ -89,7 +90,7 @@ fn tell_end<'a, T: TakesCell<'a>>(
     rows!(tells [End moment field to take_told])
 }
 
-/// The same as a cell.
+/// Returns a field as a cell: the ends and the time.
 pub fn end_cell(moment: Moment<'_>, field: &End) -> Result<Option<Cell<'static>>, AllocError> {
     let mut kept: KeptCell<'static> = KeptCell { cell: None };
     tell_end(moment, field, &mut kept)?;
@@ -106,14 +107,14 @@ fn stop_cell<'a>(stop: Option<Stop>) -> Option<Cell<'a>> {
     }))
 }
 
-/// An alert by its name, where there was one.
+/// Returns the name of an alert, if there was one.
 fn some_alert<'a>(alert: Option<TlsAlertDescription>) -> Option<Cell<'a>> {
     let alert = alert?;
     let text = name_or_number(alert.registered_name(), u16::from(alert.0));
     Some(Cell::Text(text))
 }
 
-/// What was chosen, asked for and said, by name.
+/// Passes a field to `to`: what was chosen, asked for and sent, by name.
 fn tell_named<'a, T: TakesCell<'a>>(
     told: &Told<'a>,
     field: &Named,
@@ -122,7 +123,7 @@ fn tell_named<'a, T: TakesCell<'a>>(
     rows!(tells [Named told field to take_told])
 }
 
-/// The letters of a connection's events; nothing where none was heard.
+/// Returns the letters of a connection's events; `None` if there are none.
 fn history_cell(letters: &[u8]) -> Option<Cell<'_>> {
     if letters.is_empty() {
         return None;
@@ -130,7 +131,7 @@ fn history_cell(letters: &[u8]) -> Option<Cell<'_>> {
     Some(Cell::Text(Text::Escaped(letters)))
 }
 
-/// What a connection came to.
+/// Passes a field to `to`: the course of a connection.
 fn tell_course<'a, T: TakesCell<'a>>(
     told: &Told<'a>,
     field: &Course,
@@ -139,7 +140,7 @@ fn tell_course<'a, T: TakesCell<'a>>(
     rows!(tells [Course told field to take])
 }
 
-/// A count, where there is something to count.
+/// Returns a count; `None` instead of 0.
 fn some_count<'a>(count: u64) -> Option<Cell<'a>> {
     if count == 0 {
         return None;
@@ -147,7 +148,7 @@ fn some_count<'a>(count: u64) -> Option<Cell<'a>> {
     Some(Cell::Number(count))
 }
 
-/// Why the other side took nothing of packets, each reason once; nothing where there are none.
+/// Returns why the other side dropped packets, each reason once; `None` if it dropped none.
 fn reasons_cell<'a>(alloc: Global, dropped: &Dropped) -> Result<Option<Cell<'a>>, AllocError> {
     if dropped.packets == 0 {
         return Ok(None);
@@ -161,7 +162,7 @@ fn reasons_cell<'a>(alloc: Global, dropped: &Dropped) -> Result<Option<Cell<'a>>
     Ok(Some(Cell::Texts(Texts::Owned(reasons))))
 }
 
-/// How many bytes a side sent: over TCP by the numbers of its segments.
+/// Returns how many bytes a side sent: over TCP by the sequence numbers of its segments.
 fn bytes_of(sender: Sender<'_>) -> u64 {
     match sender.protocol {
         Protocol::Tcp => sender.party.stream.length(),
@@ -169,7 +170,7 @@ fn bytes_of(sender: Sender<'_>) -> u64 {
     }
 }
 
-/// What a side sent.
+/// Passes a field to `to`: what a side sent.
 fn tell_sent<'a, T: TakesCell<'a>>(
     sender: Sender<'_>,
     field: &Sent,
@@ -178,7 +179,7 @@ fn tell_sent<'a, T: TakesCell<'a>>(
     rows!(tells [Sent sender field to take_told])
 }
 
-/// The tunnels that a connection came in; nothing where it came in none.
+/// Returns the tunnels around a connection; `None` if there are none.
 fn tunnels_cell<'a>(alloc: Global, tunnels: &[Tunnel]) -> Result<Option<Cell<'a>>, AllocError> {
     let mut names = Vec::new(alloc);
     for tunnel in tunnels {
@@ -190,7 +191,8 @@ fn tunnels_cell<'a>(alloc: Global, tunnels: &[Tunnel]) -> Result<Option<Cell<'a>
     Ok(some_texts(Texts::Owned(names)))
 }
 
-/// The identifiers of the tunnels, 0 of one that has none; nothing where it came in none.
+/// Returns the identifiers of the tunnels, with 0 for a tunnel without one; `None` if there are no
+/// tunnels.
 fn tunnel_ids_cell<'a>(alloc: Global, tunnels: &[Tunnel]) -> Result<Option<Cell<'a>>, AllocError> {
     let mut ids = Vec::new(alloc);
     for tunnel in tunnels {
@@ -199,7 +201,7 @@ fn tunnel_ids_cell<'a>(alloc: Global, tunnels: &[Tunnel]) -> Result<Option<Cell<
     Ok(some_numbers(Numbers::Owned(ids)))
 }
 
-/// What a connection came in.
+/// Passes a field to `to`: the tunnels around a connection.
 fn tell_carried<'a, T: TakesCell<'a>>(
     told: &Told<'a>,
     field: &Carried,
@@ -208,7 +210,7 @@ fn tell_carried<'a, T: TakesCell<'a>>(
     rows!(tells [Carried told field to take_told])
 }
 
-/// What one field says of a certificate, if there is one.
+/// Returns a field of a certificate, if there is one.
 fn own_cell<'a>(
     alloc: Global,
     certificate: Option<&Certificate<'_>>,
@@ -220,7 +222,7 @@ fn own_cell<'a>(
     }
 }
 
-/// Has what one field says of a connection taken.
+/// Computes a field of a connection and passes it to `to`.
 pub fn tell<'a, T: TakesCell<'a>>(
     told: &mut Told<'a>,
     field: &Field,
@@ -245,14 +247,14 @@ pub fn tell<'a, T: TakesCell<'a>>(
     }
 }
 
-/// What one field says of a connection; nothing where it is missing.
+/// Returns the value of a connection's field; `None` if it is missing.
 pub fn cell_of<'a>(told: &mut Told<'a>, field: &Field) -> Result<Option<Cell<'a>>, AllocError> {
     let mut kept = KeptCell { cell: None };
     tell(told, field, &mut kept)?;
     Ok(kept.cell)
 }
 
-/// The line of a connection, with the fields at these places of [`FIELDS`].
+/// Returns the line of a connection, with the fields at these places of [`FIELDS`].
 pub fn row_of<'a>(told: &mut Told<'a>, places: &[usize]) -> Result<Row<'a>, AllocError> {
     let mut cells = Vec::with_capacity(told.alloc, places.len())?;
     for place in places {

@@ -1,9 +1,9 @@
-//! The fields of a connection's line: which there are, what is told of each, and what says it.
+//! The fields of a connection's line: their names, types and texts, and what computes them.
 use crate::columns::Certified;
 use connections::Side;
 use log_formats::column::{Column, Type};
 
-/// Who talks, over what, and when.
+/// The ends of a connection and its time.
 #[derive(Clone, Copy)]
 pub enum End {
     Time,
@@ -17,7 +17,7 @@ pub enum End {
     Duration,
 }
 
-/// What was chosen, asked for and said, by name.
+/// What was chosen, asked for and sent, by name.
 #[derive(Clone, Copy)]
 pub enum Named {
     Version,
@@ -29,7 +29,7 @@ pub enum Named {
     LastAlert,
 }
 
-/// What a connection came to.
+/// The course of a connection.
 #[derive(Clone, Copy)]
 pub enum Course {
     Resumed,
@@ -42,7 +42,7 @@ pub enum Course {
     Retried,
 }
 
-/// What the client offers, by its ClientHello.
+/// What the client offers in its ClientHello.
 #[derive(Clone, Copy)]
 pub enum Offer {
     Version,
@@ -66,7 +66,7 @@ pub enum Offer {
     Ssl2Hello,
 }
 
-/// What the server answers, by its ServerHello.
+/// What the server answers in its ServerHello.
 #[derive(Clone, Copy)]
 pub enum Answer {
     Version,
@@ -79,7 +79,7 @@ pub enum Answer {
     Status,
 }
 
-/// The certificates that are read.
+/// The certificate chains.
 #[derive(Clone, Copy)]
 pub enum Chain {
     ServerCount,
@@ -95,7 +95,7 @@ pub enum Chain {
     ClientFaults,
 }
 
-/// Fingerprints of hellos.
+/// The fingerprints of hellos.
 #[derive(Clone, Copy)]
 pub enum Print {
     Ja3,
@@ -105,7 +105,7 @@ pub enum Print {
     Ja4,
 }
 
-/// What a side sent, counted.
+/// What a side sent.
 #[derive(Clone, Copy)]
 pub enum Sent {
     Packets,
@@ -118,7 +118,7 @@ pub enum Sent {
     Preamble,
 }
 
-/// What a connection came in.
+/// The tunnels around a connection.
 #[derive(Clone, Copy)]
 pub enum Carried {
     Tunnels,
@@ -141,34 +141,43 @@ pub enum Field {
     Carried(Carried),
 }
 
-/// The fields of a connection's line, told once, in their order: they are handed to the macro that is named, behind the words. The names are those of Zeek's logs where
-/// Zeek has the thing. They stand in blocks, each behind the group that has the variants of its rows. A row has the field's name (of what each side has, that of the
-/// originator's and that of the responder's), what it is, its variant, and what says it: an expression on what the function of the group is given, whose names that
-/// function's file has. What a certificate says stands in certificates.rt. In front of each row stands its text, as [`columns`](crate::columns) has it.
+/// Hands the table of a connection's fields, in the order of a line, to the macro `$then`. They
+/// have the names in Zeek's logs where these have the field.
+///
+/// The rows are in blocks, each behind the enum that has the variants of its rows. A row has the
+/// field's name, or those of both sides; its type; its variant; and the closure that computes it.
+/// The closure's argument depends on the group, and its names are those of the file with the
+/// group's function. The fields of certificates are computed in certificates.rt. The comment before
+/// each row is its text, as [`columns`](crate::columns) explains.
 macro_rules! rows {
     ($then:ident $($words:tt)*) => {
         $crate::fields::$then! {
             $($words)*
             End {
-                /// the time of the first packet: seconds since 1970-01-01 00:00 UTC, to the microsecond
-                /// Zeek: `ts`
+                /// the time of the first packet: seconds since 1970-01-01 00:00 UTC, to the
+                /// microsecond Zeek: `ts`
                 "ts": Time = Time => |moment| Ok(Some(seconds(moment.time)));
                 /// the connection's identifier ("Identifiers", below)
                 /// Zeek: `uid`, which is random
                 "uid": Text = Uid => |moment| uid_cell(moment);
-                /// address and port of the originator (which opened the connection) and of the responder; over UDP the originator is the sender of the first
-                /// datagram
-                /// Zeek: the same
-                "id.orig_h": Address = Originator => |moment| Ok(address_cell(moment.summary.originator.end));
+                /// address and port of the originator (which opened the connection) and of the
+                /// responder; over UDP the originator is the sender of the first datagram Zeek: the
+                /// same
+                "id.orig_h": Address =
+                    Originator => |moment| Ok(address_cell(moment.summary.originator.end));
                 /// as above
-                "id.orig_p": Port = OriginatorPort => |moment| Ok(port_cell(moment.summary.originator.end));
+                "id.orig_p": Port =
+                    OriginatorPort => |moment| Ok(port_cell(moment.summary.originator.end));
                 /// as above
-                "id.resp_h": Address = Responder => |moment| Ok(address_cell(moment.summary.responder.end));
+                "id.resp_h": Address =
+                    Responder => |moment| Ok(address_cell(moment.summary.responder.end));
                 /// as above
-                "id.resp_p": Port = ResponderPort => |moment| Ok(port_cell(moment.summary.responder.end));
+                "id.resp_p": Port =
+                    ResponderPort => |moment| Ok(port_cell(moment.summary.responder.end));
                 /// `tcp`, `udp`
                 /// Zeek: `proto`
-                "proto": Enum = Protocol => |moment| Ok(Some(name_cell(proto_name(moment.summary.protocol))));
+                "proto": Enum =
+                    Protocol => |moment| Ok(Some(name_cell(proto_name(moment.summary.protocol))));
                 /// the Community ID, which other tools print too ("Identifiers", below)
                 /// Zeek: `community_id` of a package
                 "community_id": Text = CommunityId => |moment| community_id_cell(moment);
@@ -182,39 +191,38 @@ macro_rules! rows {
                 /// Zeek: `version`
                 /// absent: no ServerHello
                 "version": Text = Version => |told| Ok(some_version(told.handshake.version()));
-                /// the cipher suite that the server chose, by its name in IANA's registry, or else its number
-                /// RFC: 8446, 4.1.3
-                /// Zeek: `cipher`
-                /// absent: no ServerHello
-                "cipher": Text = Cipher => |told| Ok(told.suites.some_text(told.handshake.cipher()));
-                /// the group of the key exchange, from the server's key share or its ServerKeyExchange
-                /// RFC: 8446, 4.2.8; 8422, 5.4
-                /// Zeek: `curve`
-                /// absent: no such exchange
+                /// the cipher suite that the server chose, by its name in IANA's registry, or else
+                /// its number RFC: 8446, 4.1.3 Zeek: `cipher` absent: no ServerHello
+                "cipher": Text =
+                    Cipher => |told| Ok(told.suites.some_text(told.handshake.cipher()));
+                /// the group of the key exchange, from the server's key share or its
+                /// ServerKeyExchange RFC: 8446, 4.2.8; 8422, 5.4 Zeek: `curve` absent: no such
+                /// exchange
                 "curve": Text = Curve => |told| Ok(some_group(told.handshake.curve()));
-                /// the host name that the client asked for: the first name of type host_name in its server_name
-                /// RFC: 6066, 3
-                /// Zeek: `server_name`
-                /// absent: it asked for none
-                "server_name": Text = ServerName => |told| Ok(some_escaped(told.handshake.server_name()));
-                /// the names of other types there, in order, each prefixed by the number of its type: `["1:name"]`. No RFC defines such a type
-                /// RFC: 6066, 3
-                /// absent: there are none
-                "other_server_names": Texts = OtherServerNames => |told| other_names_cell(told.alloc, told.handshake);
+                /// the host name that the client asked for: the first name of type host_name in its
+                /// server_name RFC: 6066, 3 Zeek: `server_name` absent: it asked for none
+                "server_name": Text =
+                    ServerName => |told| Ok(some_escaped(told.handshake.server_name()));
+                /// the names of other types there, in order, each prefixed by the number of its
+                /// type: `["1:name"]`. No RFC defines such a type RFC: 6066, 3 absent: there are
+                /// none
+                "other_server_names": Texts =
+                    OtherServerNames => |told| other_names_cell(told.alloc, told.handshake);
                 /// the application protocol that the server chose
                 /// RFC: 7301, 3.2
                 /// Zeek: `next_protocol`
                 /// absent: none chosen; TLS 1.3
-                "next_protocol": Text = NextProtocol => |told| Ok(some_escaped(told.handshake.next_protocol()));
+                "next_protocol": Text =
+                    NextProtocol => |told| Ok(some_escaped(told.handshake.next_protocol()));
             }
             Course {
-                /// `true`: an abbreviated handshake, or in TLS 1.3 a ServerHello with pre_shared_key
-                /// RFC: 5246, 7.3; 8446, 2.2
-                /// Zeek: `resumed`
+                /// `true`: an abbreviated handshake, or in TLS 1.3 a ServerHello with
+                /// pre_shared_key RFC: 5246, 7.3; 8446, 2.2 Zeek: `resumed`
                 "resumed": Mark = Resumed => |told| Some(Cell::Mark(told.summary.is_resumed));
-                /// `true`: the readable part of the handshake is complete; in TLS 1.3 that is with the ServerHello
-                /// Zeek: `established`, which in TLS 1.3 waits for data
-                "established": Mark = Established => |told| Some(Cell::Mark(told.summary.is_established));
+                /// `true`: the readable part of the handshake is complete; in TLS 1.3 that is with
+                /// the ServerHello Zeek: `established`, which in TLS 1.3 waits for data
+                "established": Mark =
+                    Established => |told| Some(Cell::Mark(told.summary.is_established));
             }
             Named {
                 /// the last unencrypted alert
@@ -224,42 +232,49 @@ macro_rules! rows {
                 "last_alert": Text = LastAlert => |told| Ok(some_alert(told.handshake.last_alert));
             }
             Course {
-                /// the state of the handshake: `full`, `resumed`, `tls13`, `broken_off`, `waiting`, `unknown`, `no_handshake` ("Outcomes", below)
-                "outcome": Text = Outcome => |told| Some(name_cell(outcome_name(told.summary.outcome)));
-                /// the message that ended the handshake without success: `message` (its kind), `sender`, and `messages_before` (how many messages came before it)
-                /// absent: it didn't end so
+                /// the state of the handshake: `full`, `resumed`, `tls13`, `broken_off`, `waiting`,
+                /// `unknown`, `no_handshake` ("Outcomes", below)
+                "outcome": Text =
+                    Outcome => |told| Some(name_cell(outcome_name(told.summary.outcome)));
+                /// the message that ended the handshake without success: `message` (its kind),
+                /// `sender`, and `messages_before` (how many messages came before it) absent: it
+                /// didn't end so
                 "stop": Fields = Stop => |told| stop_cell(told.summary.stop);
-                /// the sides with missing bytes before others that were captured: `orig`, `resp`, `both`; of a side that is no longer read, up to that point
-                /// Zeek: `missed_bytes` counts them
-                /// absent: no bytes are missing
+                /// the sides with missing bytes before others that were captured: `orig`, `resp`,
+                /// `both`; of a side that is no longer read, up to that point Zeek: `missed_bytes`
+                /// counts them absent: no bytes are missing
                 "gap": Text = Gap => |told| some_name(told.summary.gap());
-                /// `true`: memory ran short (`--memory`) when no other connection was longer without a packet, so the line was printed then. What came later is another
-                /// connection
-                /// absent: it ended otherwise
+                /// `true`: memory ran short (`--memory`) when no other connection was longer
+                /// without a packet, so the line was printed then. What came later is another
+                /// connection absent: it ended otherwise
                 "ended_early": Mark = EndedEarly => |told| some_mark(told.summary.is_ended_early);
-                /// a letter for each unencrypted message, alert and ChangeCipherSpec, and over TCP each heartbeat and record of data, in order, the client's in
-                /// upper case: `H` hello_request, `C` client_hello, `S` server_hello, `V` hello_verify_request, `T` new_session_ticket, `E` end_of_early_data,
-                /// `J` hello_retry_request, `O` encrypted_extensions, `X` certificate, `K` server_key_exchange, `R` certificate_request, `N` server_hello_done,
-                /// `Y` certificate_verify, `G` client_key_exchange, `F` finished, `W` certificate_url, `U` certificate_status, `A` supplemental_data, `P`
-                /// key_update, `M` message_hash, `Z` another message, `I` change_cipher_spec, `L` alert, `B` heartbeat, `D` application data; the first 100
-                /// RFC: 5246, 7.4; 8446, 4
-                /// Zeek: the same
-                /// absent: there was none
+                /// a letter for each unencrypted message, alert and ChangeCipherSpec, and over TCP
+                /// each heartbeat and record of data, in order, the client's in upper case: `H`
+                /// hello_request, `C` client_hello, `S` server_hello, `V` hello_verify_request, `T`
+                /// new_session_ticket, `E` end_of_early_data,
+                /// `J` hello_retry_request, `O` encrypted_extensions, `X` certificate, `K`
+                /// server_key_exchange, `R` certificate_request, `N` server_hello_done,
+                /// `Y` certificate_verify, `G` client_key_exchange, `F` finished, `W`
+                /// certificate_url, `U` certificate_status, `A` supplemental_data, `P` key_update,
+                /// `M` message_hash, `Z` another message, `I` change_cipher_spec, `L` alert, `B`
+                /// heartbeat, `D` application data; the first 100 RFC: 5246, 7.4; 8446, 4 Zeek: the
+                /// same absent: there was none
                 "ssl_history": Text = History => |told| history_cell(told.summary.history);
             }
             Sent {
-                /// the packets of each side that the other took, or had already, up to the connection's end; the last acknowledgement counts
-                /// Zeek: the same
-                "orig_pkts", "resp_pkts": Count = Packets => |sender| Ok(Some(Cell::Number(sender.party.sent.packets)));
-                /// the payload bytes of each side: over TCP by sequence numbers, so missing bytes count and retransmitted ones don't; over UDP those of its
-                /// datagrams
-                /// RFC: 9293, 3.4; 768
-                /// Zeek: the same
-                "orig_bytes", "resp_bytes": Count = Bytes => |sender| Ok(Some(Cell::Number(bytes_of(sender))));
-                /// the records of each side, encrypted ones too. Over TCP those whose header was captured, up to the first missing bytes; once a side is no
-                /// longer read, up to the first bytes out of order. Over UDP the DTLS records that are whole at the front of its datagrams, retransmitted ones
-                /// too
-                /// RFC: 8446, 5.1; 6347, 4.1
+                /// the packets of each side that the other took, or had already, up to the
+                /// connection's end; the last acknowledgement counts Zeek: the same
+                "orig_pkts", "resp_pkts": Count =
+                    Packets => |sender| Ok(Some(Cell::Number(sender.party.sent.packets)));
+                /// the payload bytes of each side: over TCP by sequence numbers, so missing bytes
+                /// count and retransmitted ones don't; over UDP those of its datagrams RFC: 9293,
+                /// 3.4; 768 Zeek: the same
+                "orig_bytes", "resp_bytes": Count =
+                    Bytes => |sender| Ok(Some(Cell::Number(bytes_of(sender))));
+                /// the records of each side, encrypted ones too. Over TCP those whose header was
+                /// captured, up to the first missing bytes; once a side is no longer read, up to
+                /// the first bytes out of order. Over UDP the DTLS records that are whole at the
+                /// front of its datagrams, retransmitted ones too RFC: 8446, 5.1; 6347, 4.1
                 "orig_records", "resp_records": Count = Records =>
                     |sender| Ok(Some(Cell::Number(sender.party.records)));
             }
@@ -270,51 +285,51 @@ macro_rules! rows {
                 "retried": Mark = Retried => |told| some_mark(told.handshake.is_retried);
             }
             Sent {
-                /// the retransmitted bytes: those at sequence numbers that were captured before, up to the first missing bytes
-                /// RFC: 9293, 3.4
-                /// Zeek: `T` in `history`
-                /// absent: there were none; DTLS
+                /// the retransmitted bytes: those at sequence numbers that were captured before, up
+                /// to the first missing bytes RFC: 9293, 3.4 Zeek: `T` in `history` absent: there
+                /// were none; DTLS
                 "orig_repeated_bytes", "resp_repeated_bytes": Count = Repeated =>
                     |sender| Ok(some_count(sender.party.stream.repeated()));
-                /// how many of these differ from the bytes that came first, which are the ones that count. It is known of bytes that were waiting for earlier
-                /// ones, and of the last 16,384 that the other end hasn't acknowledged, as long as the stream is read. Bytes that came in two fragments of a datagram of
-                /// IP and differ count, too
+                /// how many of these differ from the bytes that came first, which are the ones that
+                /// count. It is known of bytes that were waiting for earlier ones, and of the last
+                /// 16,384 that the other end hasn't acknowledged, as long as the stream is read.
+                /// Bytes that came in two fragments of a datagram of IP and differ count, too
                 /// absent: none is known
                 "orig_disagreeing_bytes", "resp_disagreeing_bytes": Count = Disagreeing =>
                     |sender| Ok(some_count(sender.party.stream.disagreeing()));
-                /// the packets of each side of which the other took nothing (docs/CAPTURES.md, "Which packets count"). No other field tells of them
-                /// RFC: 9293, 3.10.7.4; 5961; 7323, 5
-                /// absent: there were none
+                /// the packets of each side of which the other took nothing (docs/CAPTURES.md,
+                /// "Which packets count"). No other field tells of them RFC: 9293, 3.10.7.4; 5961;
+                /// 7323, 5 absent: there were none
                 "orig_dropped_pkts", "resp_dropped_pkts": Count = Dropped =>
                     |sender| Ok(some_count(sender.party.dropped.packets));
-                /// why, each reason once: `checksum`, `no_ack`, `ack`, `window`, `paws`, `signature`, `syn`, `rst`, `fin`
-                /// RFC: the same
-                /// Zeek: `C` in `history` for checksums
-                /// absent: there were none
+                /// why, each reason once: `checksum`, `no_ack`, `ack`, `window`, `paws`,
+                /// `signature`, `syn`, `rst`, `fin` RFC: the same Zeek: `C` in `history` for
+                /// checksums absent: there were none
                 "orig_dropped_for", "resp_dropped_for": Texts = DroppedFor =>
                     |sender| reasons_cell(sender.alloc, &sender.party.dropped);
-                /// how many bytes of each side stand in front of its TLS: those of STARTTLS, of a proxy, or of another protocol (docs/CAPTURES.md, "Where TLS
-                /// begins")
-                /// absent: there are none; DTLS
+                /// how many bytes of each side stand in front of its TLS: those of STARTTLS, of a
+                /// proxy, or of another protocol (docs/CAPTURES.md, "Where TLS begins") absent:
+                /// there are none; DTLS
                 "orig_preamble_bytes", "resp_preamble_bytes": Count = Preamble =>
                     |sender| Ok(some_count(sender.party.preamble));
             }
             Carried {
-                /// the tunnels that the connection came in, from outside in: `ipv4`, `ipv6`, `gre`, `erspan`, `mpls`, `pbb`, `vxlan`, `geneve`, `gtp`, `teredo`
-                /// (docs/CAPTURES.md, "Tunnels")
-                /// Zeek: `tunnel_parents` has ids
-                /// absent: it came in none
+                /// the tunnels that the connection came in, from outside in: `ipv4`, `ipv6`, `gre`,
+                /// `erspan`, `mpls`, `pbb`, `vxlan`, `geneve`, `gtp`, `teredo` (docs/CAPTURES.md,
+                /// "Tunnels") Zeek: `tunnel_parents` has ids absent: it came in none
                 "tunnels": Texts = Tunnels => |told| tunnels_cell(told.alloc, told.summary.tunnels);
-                /// the number of each of these, 0 where it has none: key, session, label, service, network or endpoint
-                /// absent: it came in none
-                "tunnel_ids": Counts = TunnelIds => |told| tunnel_ids_cell(told.alloc, told.summary.tunnels);
+                /// the number of each of these, 0 where it has none: key, session, label, service,
+                /// network or endpoint absent: it came in none
+                "tunnel_ids": Counts =
+                    TunnelIds => |told| tunnel_ids_cell(told.alloc, told.summary.tunnels);
             }
             Offer {
                 /// the version field of the ClientHello, `TLSv12` in TLS 1.3
                 /// RFC: 8446, 4.1.2
                 /// Zeek: the same; with `--format zeek` a number, as there
                 /// absent: no ClientHello (as for all of the client's fields)
-                "client_version": Version = Version => |told| some_version(told.handshake.client_version());
+                "client_version": Version =
+                    Version => |told| some_version(told.handshake.client_version());
                 /// the versions that it offers in supported_versions
                 /// RFC: 8446, 4.2.1
                 /// Zeek: the same
@@ -324,12 +339,13 @@ macro_rules! rows {
                 /// the session id, in hexadecimal
                 /// RFC: 5246, 7.4.1.2
                 /// absent: it is empty
-                "client_session_id": Text = SessionId => |told| some_digits(told.handshake.client_session_id());
-                /// the cipher suites that it offers, in its order, as `cipher`; of a hello in the form of SSL 2.0 its CipherSpecs: those of TLS as these, others by
-                /// 6 digits, as `0x010080`
-                /// RFC: 8446, 4.1.2; 5246, E.2
-                /// Zeek: `client_ciphers`
-                "client_ciphers": Texts = Ciphers => |told| some_texts(client_suites(told.suites, told.handshake));
+                "client_session_id": Text =
+                    SessionId => |told| some_digits(told.handshake.client_session_id());
+                /// the cipher suites that it offers, in its order, as `cipher`; of a hello in the
+                /// form of SSL 2.0 its CipherSpecs: those of TLS as these, others by 6 digits, as
+                /// `0x010080` RFC: 8446, 4.1.2; 5246, E.2 Zeek: `client_ciphers`
+                "client_ciphers": Texts =
+                    Ciphers => |told| some_texts(client_suites(told.suites, told.handshake));
                 /// its compression methods, by number
                 /// RFC: 3749, 2
                 /// Zeek: the same; with `--format zeek` by name, as there
@@ -345,7 +361,8 @@ macro_rules! rows {
                 /// RFC: 8446, 4.2.7
                 /// Zeek: the same
                 /// absent: no such extension
-                "client_curves": Texts = Groups => |told| some_texts(Texts::Groups(told.handshake.client_groups()));
+                "client_curves": Texts =
+                    Groups => |told| some_texts(Texts::Groups(told.handshake.client_groups()));
                 /// the point formats that it offers, by number: 0 is uncompressed
                 /// RFC: 8422, 5.1.2
                 /// Zeek: the same; with `--format zeek` by name, as there
@@ -379,9 +396,11 @@ macro_rules! rows {
                 /// `true`: it has the extension pre_shared_key, early_data
                 /// RFC: 8446, 4.2.11, 4.2.10
                 /// absent: it doesn't
-                "offers_psk": Mark = Psk => |told| some_mark(told.handshake.offers_pre_shared_key());
+                "offers_psk": Mark =
+                    Psk => |told| some_mark(told.handshake.offers_pre_shared_key());
                 /// as above
-                "offers_early_data": Mark = EarlyData => |told| some_mark(told.handshake.offers_early_data());
+                "offers_early_data": Mark =
+                    EarlyData => |told| some_mark(told.handshake.offers_early_data());
                 /// `true`: its session_ticket holds a ticket
                 /// RFC: 5077, 3.2
                 /// absent: it doesn't
@@ -393,27 +412,31 @@ macro_rules! rows {
                 /// `true`: it has the extension encrypted_client_hello
                 /// RFC: 9849, 5
                 /// absent: it doesn't
-                "ech": Mark = EncryptedClientHello => |told| some_mark(told.handshake.offers_encrypted_client_hello());
+                "ech": Mark =
+                    EncryptedClientHello => |told|
+                    some_mark(told.handshake.offers_encrypted_client_hello());
                 /// `true`: it has the extension delegated_credential
                 /// RFC: 9345, 4.1.1
                 /// absent: it doesn't
                 "delegated_credential": Mark = DelegatedCredentials =>
                     |told| some_mark(told.handshake.offers_delegated_credentials());
-                /// `true`: the ClientHello has the form of SSL 2.0. It has no extensions, and neither JA3 nor JA4
-                /// RFC: 5246, E.2
-                /// absent: it has another form
-                "ssl2_hello": Mark = Ssl2Hello => |told| some_mark(told.handshake.ssl2_cipher_specs.is_some());
+                /// `true`: the ClientHello has the form of SSL 2.0. It has no extensions, and
+                /// neither JA3 nor JA4 RFC: 5246, E.2 absent: it has another form
+                "ssl2_hello": Mark =
+                    Ssl2Hello => |told| some_mark(told.handshake.ssl2_cipher_specs.is_some());
             }
             Answer {
                 /// the version field of the ServerHello
                 /// RFC: 8446, 4.1.3
                 /// Zeek: the same; with `--format zeek` a number, as there
                 /// absent: no ServerHello (as for all of the server's fields)
-                "server_version": Version = Version => |told| some_version(told.handshake.server_version());
+                "server_version": Version =
+                    Version => |told| some_version(told.handshake.server_version());
                 /// the session id, in hexadecimal
                 /// RFC: 5246, 7.4.1.3
                 /// absent: it is empty
-                "server_session_id": Text = SessionId => |told| some_digits(told.handshake.server_session_id());
+                "server_session_id": Text =
+                    SessionId => |told| some_digits(told.handshake.server_session_id());
                 /// the compression method, by number
                 /// RFC: 3749, 2
                 /// Zeek: the same; with `--format zeek` by name, as there
@@ -428,7 +451,8 @@ macro_rules! rows {
                 /// RFC: 8446, 4.2.8
                 /// Zeek: the same
                 /// absent: it has none
-                "server_key_share_group": Text = KeyShareGroup => |told| some_group(told.handshake.server_key_share());
+                "server_key_share_group": Text =
+                    KeyShareGroup => |told| some_group(told.handshake.server_key_share());
                 /// the number of signed certificate timestamps in the ServerHello
                 /// RFC: 6962, 3.3.1
                 /// absent: none; TLS 1.3
@@ -447,21 +471,26 @@ macro_rules! rows {
                 /// the number of certificates that the server sent
                 /// RFC: 5246, 7.4.2
                 /// absent: no Certificate; TLS 1.3
-                "cert_count": Count = ServerCount => |told| Ok(count_cell(&told.handshake.server_certificates));
+                "cert_count": Count =
+                    ServerCount => |told| Ok(count_cell(&told.handshake.server_certificates));
                 /// the length in bytes and the SHA-256 of each, the server's own first
                 /// Zeek: `cert_chain_fps`
                 /// absent: as above
-                "cert_lengths": Counts = ServerLengths => |told| lengths_cell(told.alloc, server_chain(told));
+                "cert_lengths": Counts =
+                    ServerLengths => |told| lengths_cell(told.alloc, server_chain(told));
                 /// as above
-                "cert_chain_fps": Texts = ServerPrints => |told| prints_cell(told.alloc, server_chain(told));
+                "cert_chain_fps": Texts =
+                    ServerPrints => |told| prints_cell(told.alloc, server_chain(told));
                 /// `true`: the server sent a CertificateRequest
                 /// RFC: 5246, 7.4.4
                 /// absent: it didn't; TLS 1.3
-                "client_cert_requested": Mark = Requested => |told| Ok(some_mark(told.handshake.requests_certificate));
+                "client_cert_requested": Mark =
+                    Requested => |told| Ok(some_mark(told.handshake.requests_certificate));
                 /// the number of certificates that the client sent; 0 if it was asked and has none
                 /// RFC: 5246, 7.4.6
                 /// absent: no Certificate; TLS 1.3
-                "client_cert_count": Count = ClientCount => |told| Ok(count_cell(&told.handshake.client_certificates));
+                "client_cert_count": Count =
+                    ClientCount => |told| Ok(count_cell(&told.handshake.client_certificates));
                 /// the length in bytes and the SHA-256 of each
                 /// Zeek: `client_cert_chain_fps`
                 /// absent: it sent none
@@ -472,10 +501,9 @@ macro_rules! rows {
                     |told| prints_cell(told.alloc, client_chain(told));
             }
             ServerCertificate {
-                /// the names of the server's own certificate, as RFC 4514 writes them ("What certificates say", below)
-                /// RFC: 5280, 4.1.2.6, 4.1.2.4
-                /// Zeek: the same, of the script for x509.log
-                /// absent: none is read (as for the next eleven)
+                /// the names of the server's own certificate, as RFC 4514 writes them ("What
+                /// certificates say", below) RFC: 5280, 4.1.2.6, 4.1.2.4 Zeek: the same, of the
+                /// script for x509.log absent: none is read (as for the next eleven)
                 "subject": Text = Subject;
                 /// as above
                 "issuer": Text = Issuer;
@@ -496,10 +524,10 @@ macro_rules! rows {
                 "san_dns": Texts = DnsNames;
                 /// as above
                 "san_ip": Addresses = Addresses;
-                /// its public key: `rsa`, `ecdsa`, `dsa`, `ed25519`, `ed448` or `unknown`; the bits of its modulus or its curve; the curve
-                /// RFC: 3279, 2.3; 5480, 2; 8410, 3
-                /// Zeek: `certificate.key_type`, `key_length`, `curve`
-                /// absent: the key can't be read, or has no such thing
+                /// its public key: `rsa`, `ecdsa`, `dsa`, `ed25519`, `ed448` or `unknown`; the bits
+                /// of its modulus or its curve; the curve RFC: 3279, 2.3; 5480, 2; 8410, 3 Zeek:
+                /// `certificate.key_type`, `key_length`, `curve` absent: the key can't be read, or
+                /// has no such thing
                 "key_type": Text = KeyType;
                 /// as above
                 "key_length": Count = KeyLength;
@@ -518,19 +546,17 @@ macro_rules! rows {
                 "self_issued": Mark = SelfIssued;
             }
             Chain {
-                /// whether the host that the client asked for is one of its DNS names ("What certificates say", below)
-                /// RFC: 9525, 6.3
-                /// Zeek: the same
-                /// absent: no `server_name`
-                "sni_matches_cert": Mark = NameMatches => |told| Ok(match_cell(told.handshake, told.server.certificate()));
-                /// whether the server's chain is valid: `tlslog` validates no certificate, so this is unset, for readers of Zeek's logs
-                /// Zeek: the same
-                /// absent: always
+                /// whether the host that the client asked for is one of its DNS names ("What
+                /// certificates say", below) RFC: 9525, 6.3 Zeek: the same absent: no `server_name`
+                "sni_matches_cert": Mark =
+                    NameMatches => |told| Ok(match_cell(told.handshake, told.server.certificate()));
+                /// whether the server's chain is valid: `tlslog` validates no certificate, so this
+                /// is unset, for readers of Zeek's logs Zeek: the same absent: always
                 "validation_status": Text = Validation => |_told| Ok(None);
-                /// the server's certificates that aren't read, each by its place in the chain (the server's own has 0) and why, as `0:verify`
-                /// RFC: 5280, 4.1
-                /// absent: all are read
-                "cert_error": Texts = ServerFaults => |told| faults_cell(told.alloc, server_chain(told));
+                /// the server's certificates that aren't read, each by its place in the chain (the
+                /// server's own has 0) and why, as `0:verify` RFC: 5280, 4.1 absent: all are read
+                "cert_error": Texts =
+                    ServerFaults => |told| faults_cell(told.alloc, server_chain(told));
             }
             ClientCertificate {
                 /// the names of the client's own certificate
@@ -543,12 +569,12 @@ macro_rules! rows {
             }
             Chain {
                 /// the same as `cert_error` of the client's
-                "client_cert_error": Texts = ClientFaults => |told| faults_cell(told.alloc, client_chain(told));
+                "client_cert_error": Texts =
+                    ClientFaults => |told| faults_cell(told.alloc, client_chain(told));
             }
             Print {
-                /// the JA3 of the ClientHello, and the text of which it is the MD5 ("Fingerprints", below)
-                /// Zeek: `ja3` of a package
-                /// absent: no ClientHello
+                /// the JA3 of the ClientHello, and the text of which it is the MD5 ("Fingerprints",
+                /// below) Zeek: `ja3` of a package absent: no ClientHello
                 "ja3": Text = Ja3 => |told| ja3_cell(told);
                 /// as above
                 "ja3_string": Text = Ja3Text => |told| Ok(text_cell(ja3_text(told)?));
@@ -567,7 +593,7 @@ macro_rules! rows {
     };
 }
 
-/// The field of a variant: of what each side has, that of this side.
+/// Expands to the field of a variant, for one side if each side has it.
 macro_rules! field {
     (Sent $side:ident $variant:ident) => {
         Field::Sent(Side::$side, Sent::$variant)
@@ -583,11 +609,12 @@ macro_rules! field {
     };
 }
 
-/// The columns of the rows.
+/// Expands to the columns of the rows.
 macro_rules! columns {
     ($($group:ident { $(
         $(#[doc = $text:literal])+
-        $name:literal $(, $responders:literal)?: $kind:ident = $variant:ident $(=> |$given:ident| $cell:expr)?;
+        $name:literal $(, $responders:literal)?: $kind:ident =
+            $variant:ident $(=> |$given:ident| $cell:expr)?;
     )* })*) => {
         &[$($(
             ($name, Type::$kind, field!($group Originator $variant)),
@@ -596,34 +623,44 @@ macro_rules! columns {
     };
 }
 
-/// Has what the rows of a group say of its variant `field`, by what its function is given, taken by `to`: by that method, which takes what these rows say.
+/// Expands to a match on the variant `$field` of a group. The row's closure computes its value from
+/// `$given`, and the method `$take` of `$to` takes it.
 macro_rules! tells {
-    // the rows of the group's blocks are gathered
-    ([End $given:ident $field:ident $to:ident $take:ident $($row:tt)*] End { $($more:tt)* } $($rest:tt)*) => {
+    // gathers the rows of the group's blocks
+    ([End $given:ident $field:ident $to:ident $take:ident $($row:tt)*] End { $($more:tt)* }
+        $($rest:tt)*) => {
         $crate::fields::tells!([End $given $field $to $take $($row)* $($more)*] $($rest)*)
     };
-    ([Named $given:ident $field:ident $to:ident $take:ident $($row:tt)*] Named { $($more:tt)* } $($rest:tt)*) => {
+    ([Named $given:ident $field:ident $to:ident $take:ident $($row:tt)*] Named { $($more:tt)* }
+        $($rest:tt)*) => {
         $crate::fields::tells!([Named $given $field $to $take $($row)* $($more)*] $($rest)*)
     };
-    ([Course $given:ident $field:ident $to:ident $take:ident $($row:tt)*] Course { $($more:tt)* } $($rest:tt)*) => {
+    ([Course $given:ident $field:ident $to:ident $take:ident $($row:tt)*] Course { $($more:tt)* }
+        $($rest:tt)*) => {
         $crate::fields::tells!([Course $given $field $to $take $($row)* $($more)*] $($rest)*)
     };
-    ([Offer $given:ident $field:ident $to:ident $take:ident $($row:tt)*] Offer { $($more:tt)* } $($rest:tt)*) => {
+    ([Offer $given:ident $field:ident $to:ident $take:ident $($row:tt)*] Offer { $($more:tt)* }
+        $($rest:tt)*) => {
         $crate::fields::tells!([Offer $given $field $to $take $($row)* $($more)*] $($rest)*)
     };
-    ([Answer $given:ident $field:ident $to:ident $take:ident $($row:tt)*] Answer { $($more:tt)* } $($rest:tt)*) => {
+    ([Answer $given:ident $field:ident $to:ident $take:ident $($row:tt)*] Answer { $($more:tt)* }
+        $($rest:tt)*) => {
         $crate::fields::tells!([Answer $given $field $to $take $($row)* $($more)*] $($rest)*)
     };
-    ([Chain $given:ident $field:ident $to:ident $take:ident $($row:tt)*] Chain { $($more:tt)* } $($rest:tt)*) => {
+    ([Chain $given:ident $field:ident $to:ident $take:ident $($row:tt)*] Chain { $($more:tt)* }
+        $($rest:tt)*) => {
         $crate::fields::tells!([Chain $given $field $to $take $($row)* $($more)*] $($rest)*)
     };
-    ([Print $given:ident $field:ident $to:ident $take:ident $($row:tt)*] Print { $($more:tt)* } $($rest:tt)*) => {
+    ([Print $given:ident $field:ident $to:ident $take:ident $($row:tt)*] Print { $($more:tt)* }
+        $($rest:tt)*) => {
         $crate::fields::tells!([Print $given $field $to $take $($row)* $($more)*] $($rest)*)
     };
-    ([Sent $given:ident $field:ident $to:ident $take:ident $($row:tt)*] Sent { $($more:tt)* } $($rest:tt)*) => {
+    ([Sent $given:ident $field:ident $to:ident $take:ident $($row:tt)*] Sent { $($more:tt)* }
+        $($rest:tt)*) => {
         $crate::fields::tells!([Sent $given $field $to $take $($row)* $($more)*] $($rest)*)
     };
-    ([Carried $given:ident $field:ident $to:ident $take:ident $($row:tt)*] Carried { $($more:tt)* } $($rest:tt)*) => {
+    ([Carried $given:ident $field:ident $to:ident $take:ident $($row:tt)*] Carried { $($more:tt)* }
+        $($rest:tt)*) => {
         $crate::fields::tells!([Carried $given $field $to $take $($row)* $($more)*] $($rest)*)
     };
     ([$($gathered:tt)*] $other:ident $block:tt $($rest:tt)*) => {
@@ -632,7 +669,8 @@ macro_rules! tells {
     // no block is left
     ([$group:ident $given:ident $field:ident $to:ident $take:ident $(
         $(#[doc = $text:literal])+
-        $name:literal $(, $responders:literal)?: $kind:ident = $variant:ident => |$told:ident| $cell:expr;
+        $name:literal $(, $responders:literal)?: $kind:ident =
+            $variant:ident => |$told:ident| $cell:expr;
     )*]) => {
         match $field {
             $($crate::fields::$group::$variant => {

@@ -1,4 +1,4 @@
-//! What both hellos and the certificates say, as fields.
+//! The fields of hellos and of certificate chains.
 use crate::certificates::fault_name;
 use crate::fields::{Answer, Chain, Offer, rows};
 use crate::told::Told;
@@ -11,7 +11,8 @@ use tls_summary::{CertificateSummary, HandshakeSummary};
 use x509::Certificate;
 use x509_text::matches_host;
 
-/// The names of the server that are no host's, each behind the number of its type, as `1:name`.
+/// Returns the server names of types other than host_name, each behind the number of its type, such
+/// as `1:name`.
 pub fn other_names_cell<'a>(
     alloc: Global,
     handshake: &'a HandshakeSummary,
@@ -23,7 +24,7 @@ pub fn other_names_cell<'a>(
     Ok(some_texts(Texts::Owned(all)))
 }
 
-/// The cipher suites that the client offers, or the CipherSpecs of a hello in SSL 2.0's form.
+/// Returns the cipher suites that the client offers, or the CipherSpecs of an SSL 2.0 hello.
 fn client_suites<'a>(suites: &'a Suites, handshake: &'a HandshakeSummary) -> Texts<'a> {
     match handshake.client_cipher_specs() {
         Some(specs) => Texts::Specs(suites, specs),
@@ -31,7 +32,7 @@ fn client_suites<'a>(suites: &'a Suites, handshake: &'a HandshakeSummary) -> Tex
     }
 }
 
-/// What the client offers.
+/// Passes a field to `to`: what the client offers.
 pub fn tell_offer<'a, T: TakesCell<'a>>(
     told: &Told<'a>,
     field: &Offer,
@@ -40,7 +41,7 @@ pub fn tell_offer<'a, T: TakesCell<'a>>(
     rows!(tells [Offer told field to take])
 }
 
-/// The code of the compression method that the server chose.
+/// Returns the code of the compression method that the server chose.
 fn compression<'a>(handshake: &HandshakeSummary) -> Option<Cell<'a>> {
     match handshake.server_compression() {
         Some(method) => Some(Cell::Number(u64::from(method.0))),
@@ -48,7 +49,7 @@ fn compression<'a>(handshake: &HandshakeSummary) -> Option<Cell<'a>> {
     }
 }
 
-/// How many signed certificate timestamps the ServerHello has.
+/// Returns the number of signed certificate timestamps in the ServerHello.
 fn timestamps<'a>(handshake: &HandshakeSummary) -> Option<Cell<'a>> {
     let mut count = 0u64;
     for _one in handshake.server_timestamps() {
@@ -60,7 +61,7 @@ fn timestamps<'a>(handshake: &HandshakeSummary) -> Option<Cell<'a>> {
     Some(Cell::Number(count))
 }
 
-/// What the server answers.
+/// Passes a field to `to`: what the server answers.
 pub fn tell_answer<'a, T: TakesCell<'a>>(
     told: &Told<'a>,
     field: &Answer,
@@ -69,7 +70,7 @@ pub fn tell_answer<'a, T: TakesCell<'a>>(
     rows!(tells [Answer told field to take])
 }
 
-/// How many certificates a chain has; nothing where there was none.
+/// Returns the number of certificates in a chain; `None` without a chain.
 fn count_cell<'a>(chain: &Option<Vec<CertificateSummary>>) -> Option<Cell<'a>> {
     match chain {
         Some(chain) => Some(Cell::Number(chain.len() as u64)),
@@ -77,7 +78,7 @@ fn count_cell<'a>(chain: &Option<Vec<CertificateSummary>>) -> Option<Cell<'a>> {
     }
 }
 
-/// The certificates of a chain; none where there was no chain.
+/// Returns the certificates of a chain; none without a chain.
 fn certificates(chain: &Option<Vec<CertificateSummary>>) -> &[CertificateSummary] {
     match chain {
         Some(chain) => chain.as_slice(),
@@ -85,17 +86,17 @@ fn certificates(chain: &Option<Vec<CertificateSummary>>) -> &[CertificateSummary
     }
 }
 
-/// The certificates that the server sent.
+/// Returns the certificates that the server sent.
 fn server_chain<'a>(told: &Told<'a>) -> &'a [CertificateSummary] {
     certificates(&told.handshake.server_certificates)
 }
 
-/// The same of the client.
+/// Returns the certificates that the client sent.
 fn client_chain<'a>(told: &Told<'a>) -> &'a [CertificateSummary] {
     certificates(&told.handshake.client_certificates)
 }
 
-/// The lengths of the certificates of a chain; nothing where there are none.
+/// Returns the lengths of a chain's certificates; `None` if there are none.
 fn lengths_cell<'a>(
     alloc: Global,
     chain: &[CertificateSummary],
@@ -107,7 +108,7 @@ fn lengths_cell<'a>(
     Ok(some_numbers(Numbers::Owned(lengths)))
 }
 
-/// The fingerprints of the certificates of a chain; nothing where there are none.
+/// Returns the fingerprints of a chain's certificates; `None` if there are none.
 fn prints_cell<'a>(
     alloc: Global,
     chain: &[CertificateSummary],
@@ -119,7 +120,8 @@ fn prints_cell<'a>(
     Ok(some_texts(Texts::Digests(prints)))
 }
 
-/// Which certificates of a chain aren't read, and why, as `0:verify`; nothing where all are.
+/// Returns which certificates of a chain can't be parsed, and why, such as `0:verify`; `None` if
+/// all can.
 fn faults_cell<'a>(
     alloc: Global,
     chain: &[CertificateSummary],
@@ -134,8 +136,8 @@ fn faults_cell<'a>(
     Ok(some_texts(Texts::Owned(all)))
 }
 
-/// Whether the host that was asked for is one of the names of the server's own certificate (RFC 9525, section 6.3); nothing where there is no such host, or no
-/// such certificate.
+/// Returns whether the host that the client asked for is a name in the server's certificate (RFC
+/// 9525, section 6.3); `None` without such a host or certificate.
 fn match_cell<'a>(
     handshake: &HandshakeSummary,
     certificate: Option<&Certificate<'_>>,
@@ -146,7 +148,8 @@ fn match_cell<'a>(
     }
 }
 
-/// The certificates of both sides. The lengths and fingerprints of an empty chain are missing.
+/// Passes a field to `to`: the certificates of both sides. An empty chain has no lengths and no
+/// fingerprints.
 pub fn tell_chain<'a, T: TakesCell<'a>>(
     told: &mut Told<'a>,
     field: &Chain,

@@ -1,7 +1,11 @@
-//! The fields of a log of TLS connections: which there are, and the value of each.
+//! The fields of a log of TLS connections, and how each is computed.
 //!
-//! [`FIELDS`](fields::FIELDS) are those of a connection, whose values come from its [`Summary`](summary::Summary) by [`tell`](connection::tell). [`PARTS`](columns::PARTS)
-//! are those of a message, and [`DETAILS`](columns::DETAILS) those of a certificate. The names of fields are those of Zeek's logs.
+//! [`FIELDS`](fields::FIELDS) are those of a connection: [`tell`](connection::tell) computes them
+//! from its [`Summary`](summary::Summary). [`PARTS`](columns::PARTS) are those of a message, and
+//! [`DETAILS`](columns::DETAILS) those of a certificate. Fields have the names in Zeek's logs where
+//! these have them.
+//!
+//! This crate has no clauses, only tests.
 #![tactic(auto)]
 
 pub mod certificates;

@@ -1,4 +1,4 @@
-//! Several lists of a line as one.
+//! Several lists of a line joined into one.
 use crate::connection::cell_of;
 use crate::fields::Field;
 use crate::told::Told;
@@ -6,7 +6,7 @@ use log_formats::cell::Cell;
 use log_formats::lists::{Texts, some_texts};
 use std::alloc::AllocError;
 
-/// Adds the texts of a field that is a list.
+/// Appends the texts of a field that is a list.
 fn add_listed(told: &mut Told<'_>, field: &Field, all: &mut Vec<String>) -> Result<(), AllocError> {
     if let Some(Cell::Texts(Texts::Owned(texts))) = cell_of(told, field)? {
         'texts: for text in texts {
@@ -16,7 +16,7 @@ fn add_listed(told: &mut Told<'_>, field: &Field, all: &mut Vec<String>) -> Resu
     Ok(())
 }
 
-/// The texts of these fields, which are lists, one behind the other; nothing where there are none.
+/// Returns the texts of several list fields as one list; `None` if there are none.
 pub fn listed_cell<'a>(
     told: &mut Told<'_>,
     fields: &[Field],

@@ -3,7 +3,7 @@ use connections::Reason;
 use tls_flow::{Direction, Kind, Outcome};
 use tunnels::TunnelKind;
 
-/// How a handshake ended.
+/// Returns the name of a handshake's outcome.
 pub fn outcome_name(outcome: Outcome) -> &'static str {
     match outcome {
         Outcome::Waiting => "waiting",
@@ -16,7 +16,7 @@ pub fn outcome_name(outcome: Outcome) -> &'static str {
     }
 }
 
-/// Who sent a message.
+/// Returns the name of a message's sender.
 pub fn sender_name(direction: Direction) -> &'static str {
     match direction {
         Direction::ToServer => "client",
@@ -24,7 +24,7 @@ pub fn sender_name(direction: Direction) -> &'static str {
     }
 }
 
-/// A kind of message.
+/// Returns the name of a kind of message.
 pub fn kind_name(kind: Kind) -> &'static str {
     match kind {
         Kind::HelloRequest => "hello_request",
@@ -49,7 +49,7 @@ pub fn kind_name(kind: Kind) -> &'static str {
     }
 }
 
-/// A tunnel by the header that begins it.
+/// Returns the name of a tunnel's protocol.
 pub fn tunnel_name(kind: TunnelKind) -> &'static str {
     match kind {
         TunnelKind::Ipv4 => "ipv4",
@@ -65,7 +65,7 @@ pub fn tunnel_name(kind: TunnelKind) -> &'static str {
     }
 }
 
-/// Why a receiver takes nothing of a packet, in the order in which reasons are printed.
+/// Why a receiver drops a packet, in the order in which the reasons are printed.
 pub static REASONS: [Reason; 9] = [
     Reason::Checksum,
     Reason::NoAck,
@@ -78,7 +78,7 @@ pub static REASONS: [Reason; 9] = [
     Reason::Fin,
 ];
 
-/// A reason by its name.
+/// Returns the name of a reason.
 pub fn reason_name(reason: Reason) -> &'static str {
     match reason {
         Reason::Checksum => "checksum",

@@ -1,4 +1,4 @@
-//! Fingerprints of hellos, as fields.
+//! The fingerprints of hellos.
 use crate::fields::{Print, rows};
 use crate::told::Told;
 use connections::Protocol;
@@ -16,7 +16,7 @@ fn slice_of(bytes: &Option<Vec<u8>>) -> Option<&[u8]> {
     }
 }
 
-/// What the client's fingerprints are made of. A hello in SSL 2.0's form has none.
+/// Returns the fields of the client's fingerprints. An SSL 2.0 hello has none.
 fn client_parts(handshake: &HandshakeSummary) -> Option<ClientHelloParts<'_>> {
     if handshake.ssl2_cipher_specs.is_some() {
         return None;
@@ -31,7 +31,7 @@ fn client_parts(handshake: &HandshakeSummary) -> Option<ClientHelloParts<'_>> {
     }
 }
 
-/// The same of the server's.
+/// Returns the fields of the server's fingerprints.
 fn server_parts(handshake: &HandshakeSummary) -> Option<ServerHelloParts<'_>> {
     match &handshake.server {
         Some(server) => Some(ServerHelloParts {
@@ -43,7 +43,7 @@ fn server_parts(handshake: &HandshakeSummary) -> Option<ServerHelloParts<'_>> {
     }
 }
 
-/// What the hello came over.
+/// Returns the hello's transport.
 fn transport(protocol: Protocol) -> Transport {
     match protocol {
         Protocol::Tcp => Transport::Tcp,
@@ -51,7 +51,7 @@ fn transport(protocol: Protocol) -> Transport {
     }
 }
 
-/// The text of JA3, or that which was kept; `None` where there was no ClientHello.
+/// Returns the text of JA3; `None` without a ClientHello.
 fn ja3_text(told: &Told<'_>) -> Result<Option<String>, AllocError> {
     let Some(client) = client_parts(told.handshake) else {
         return Ok(None);
@@ -62,7 +62,7 @@ fn ja3_text(told: &Told<'_>) -> Result<Option<String>, AllocError> {
     }
 }
 
-/// The same of JA3S, and of the ServerHello.
+/// Returns the text of JA3S, which may be kept from the field before; `None` without a ServerHello.
 fn ja3s_text(told: &mut Told<'_>) -> Result<Option<String>, AllocError> {
     if told.kept.ja3s.is_some() {
         return Ok(told.kept.ja3s.take());
@@ -73,7 +73,7 @@ fn ja3s_text(told: &mut Told<'_>) -> Result<Option<String>, AllocError> {
     }
 }
 
-/// The digest of a text of JA3S.
+/// Returns the digest of a JA3S text.
 fn digest_of(told: &Told<'_>, text: &str) -> Result<String, AllocError> {
     match told.digests.try_borrow_mut() {
         Ok(mut known) => known.ja3_digest(told.alloc, text),
@@ -81,7 +81,7 @@ fn digest_of(told: &Told<'_>, text: &str) -> Result<String, AllocError> {
     }
 }
 
-/// JA3; nothing where there was no ClientHello.
+/// Returns JA3; `None` without a ClientHello.
 fn ja3_cell<'a>(told: &Told<'_>) -> Result<Option<Cell<'a>>, AllocError> {
     let Some(client) = client_parts(told.handshake) else {
         return Ok(None);
@@ -92,7 +92,7 @@ fn ja3_cell<'a>(told: &Told<'_>) -> Result<Option<Cell<'a>>, AllocError> {
     }
 }
 
-/// JA3S. Its text is kept.
+/// Returns JA3S, and keeps its text for the next field; `None` without a ServerHello.
 fn ja3s_cell<'a>(told: &mut Told<'a>) -> Result<Option<Cell<'a>>, AllocError> {
     let Some(text) = ja3s_text(told)? else {
         return Ok(None);
@@ -102,12 +102,12 @@ fn ja3s_cell<'a>(told: &mut Told<'a>) -> Result<Option<Cell<'a>>, AllocError> {
     some_text(digest)
 }
 
-/// A text as it is; nothing where there is none.
+/// Returns a text unchanged, if there is one.
 fn text_cell<'a>(text: Option<String>) -> Option<Cell<'a>> {
     Some(Cell::Text(Text::Owned(text?)))
 }
 
-/// JA4; nothing where there was no ClientHello.
+/// Returns JA4; `None` without a ClientHello.
 fn ja4_cell<'a>(told: &Told<'_>) -> Result<Option<Cell<'a>>, AllocError> {
     let transport = transport(told.summary.protocol);
     let Some(client) = client_parts(told.handshake) else {
@@ -119,7 +119,7 @@ fn ja4_cell<'a>(told: &Told<'_>) -> Result<Option<Cell<'a>>, AllocError> {
     }
 }
 
-/// A fingerprint; nothing where there was no such hello.
+/// Passes a fingerprint to `to`; it is missing without the hello.
 pub fn tell_print<'a, T: TakesCell<'a>>(
     told: &mut Told<'a>,
     field: &Print,

@@ -5,7 +5,8 @@ use log_formats::text::Text;
 use std::alloc::{AllocError, Global};
 use x509_text::time_text;
 
-/// A time in nanoseconds since 1970-01-01 00:00 UTC, as 2026-11-26T17:00:00.000000 with the time zone behind it; nothing where the calendar doesn't have it.
+/// Returns a time in nanoseconds since 1970-01-01 00:00 UTC as 2026-11-26T17:00:00.000000 with the
+/// time zone behind it; `None` if the calendar doesn't have it.
 pub fn stamp_cell(
     alloc: Global,
     time: u64,

@@ -1,4 +1,4 @@
-//! What the fields of a connection's line are told from.
+//! What the fields of a connection's line are computed from.
 use crate::certificates::certificate_of;
 use crate::summary::{Party, Summary};
 use connections::{Protocol, Side};
@@ -9,10 +9,10 @@ use tls_fingerprints::KnownDigests;
 use tls_summary::HandshakeSummary;
 use x509::Certificate;
 
-/// A connection's first packet, or what was whole at a later time.
+/// A connection at its first packet, or when a message or certificate was completed.
 #[derive(Clone, Copy)]
 pub struct Moment<'a> {
-    /// Where texts are put together.
+    /// The allocator of texts.
     pub alloc: Global,
     /// The connection.
     pub summary: &'a Summary<'a>,
@@ -20,39 +20,40 @@ pub struct Moment<'a> {
     pub time: u64,
 }
 
-/// One side of a connection, as what it sent is told.
+/// One side of a connection, for the fields of what it sent.
 #[derive(Clone, Copy)]
 pub struct Sender<'a> {
-    /// Where texts are put together.
+    /// The allocator of texts.
     pub alloc: Global,
-    /// What carries the connection.
+    /// The transport protocol.
     pub protocol: Protocol,
     /// The side.
     pub party: &'a Party<'a>,
 }
 
-/// The text of JA3S, from the field of its digest to that of the text itself.
+/// The text of JA3S, kept from the field of its digest to that of the text.
 #[derive(Drop)]
 pub struct KeptTexts {
     pub ja3s: Option<String>,
 }
 
-/// A side's own certificate. It is read where the first field asks for it: most lines have what was written of it before.
+/// A side's own certificate. It is parsed when the first field needs it: for most lines its text is
+/// cached.
 #[derive(Drop)]
 pub enum Own<'a> {
-    /// Its bytes, if it was sent.
+    /// The bytes, if it was sent.
     Unread(Option<&'a [u8]>),
-    /// The certificate, if it was sent and is read.
+    /// The certificate, if it was sent and can be parsed.
     Read(Option<Certificate<'a>>),
 }
 
 impl<'a> Own<'a> {
-    /// That of these bytes.
+    /// Returns the certificate in these bytes, unparsed.
     fn new(bytes: Option<&'a [u8]>) -> Own<'a> {
         Own::Unread(bytes)
     }
 
-    /// The certificate, if it was sent and is read.
+    /// Returns the certificate, if it was sent and can be parsed.
     pub fn certificate(&mut self) -> Option<&Certificate<'a>> {
         if let Own::Unread(bytes) = self {
             *self = Own::Read(certificate_of(*bytes));
@@ -64,29 +65,29 @@ impl<'a> Own<'a> {
     }
 }
 
-/// A connection, the certificates of both sides' own, and texts that further fields may have.
+/// A connection, both sides' own certificates, and texts that later fields reuse.
 #[derive(Drop)]
 pub struct Told<'a> {
-    /// Where texts are put together.
+    /// The allocator of texts.
     pub alloc: Global,
     /// The names of cipher suites.
     pub suites: &'a Suites,
-    /// Digests that were made for lines in front.
+    /// A cache of digests from earlier lines.
     pub digests: &'a RefCell<KnownDigests>,
     /// The connection.
     pub summary: &'a Summary<'a>,
-    /// What both sides' messages say.
+    /// The handshake of both sides.
     pub handshake: &'a HandshakeSummary,
     /// The server's own certificate.
     pub server: Own<'a>,
-    /// The client's own.
+    /// The client's own certificate.
     pub client: Own<'a>,
-    /// Texts that were made.
+    /// Texts kept for later fields.
     pub kept: KeptTexts,
 }
 
 impl<'a> Told<'a> {
-    /// That connection, as it is told by these names, with digests that were made before.
+    /// Returns a connection, with these names of suites and this cache of digests.
     pub fn new(
         alloc: Global,
         suites: &'a Suites,
@@ -106,7 +107,7 @@ impl<'a> Told<'a> {
         }
     }
 
-    /// Its first packet.
+    /// Returns the connection at its first packet.
     pub fn first_moment(&self) -> Moment<'a> {
         Moment {
             alloc: self.alloc,
@@ -115,7 +116,7 @@ impl<'a> Told<'a> {
         }
     }
 
-    /// That side of it.
+    /// Returns a side of it.
     pub fn sender(&self, side: Side) -> Sender<'a> {
         Sender {
             alloc: self.alloc,

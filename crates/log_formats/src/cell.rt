@@ -1,14 +1,14 @@
-//! What stands in a line.
+//! The value of a field.
 use crate::lists::{Numbers, Texts};
 use crate::text::Text;
 use serde::{Described, Serialize, Serializer};
 use std::alloc::AllocError;
 use std::num::nearest_u64_to_f64;
 
-/// A time or a length of time. JSON has it in seconds.
+/// A time or a duration. JSON has it in seconds.
 #[derive(Clone, Copy)]
 pub struct Seconds {
-    /// Its microseconds.
+    /// The microseconds.
     pub microseconds: u64,
 }
 
@@ -28,7 +28,7 @@ pub struct StopCell {
     pub message: &'static str,
     /// Whether the client sent it.
     pub is_clients: bool,
-    /// How many messages of both sides stand in front of it.
+    /// How many messages of both sides came before it.
     pub messages_before: u64,
 }
 
@@ -56,18 +56,19 @@ pub struct PrintCell {
     pub string: String,
 }
 
-/// What a field says. It is small, since each call hands it on by value: what is in a connection is lent, and what is large and held here is boxed.
+/// The value of a field. It is small, since it is passed by value: what belongs to a connection is
+/// borrowed, and large owned values are boxed.
 #[derive(Drop)]
 pub enum Cell<'a> {
     /// Text.
     Text(Text<'a>),
     /// A number.
     Number(u64),
-    /// A number that may be below 0.
+    /// A signed number.
     Whole(i64),
-    /// Seconds.
+    /// A time or a duration.
     Seconds(Seconds),
-    /// Whether it is so.
+    /// A boolean.
     Mark(bool),
     /// A list of texts.
     Texts(Texts<'a>),
@@ -77,23 +78,24 @@ pub enum Cell<'a> {
     Stop(StopCell),
     /// A fingerprint and its text.
     Print(Box<PrintCell>),
-    /// An object that stands as JSON already: a message, by its fields.
+    /// An object that is JSON already: a message's fields.
     Json(String),
 }
 
-/// Who takes what a field says. A cell is made and taken in one place, and isn't handed on by value between them.
+/// A consumer of a field's value. A cell is made and taken in one place, so that it isn't passed by
+/// value in between.
 pub trait TakesCell<'a> {
-    /// Takes it; `None` where the field is missing.
+    /// Takes the value; `None` if the field is missing.
     fn take(&mut self, cell: Option<Cell<'a>>) -> Result<(), AllocError>;
 
-    /// The same, where it could be told.
+    /// Takes the value, or returns the error of computing it.
     fn take_told(&mut self, cell: Result<Option<Cell<'a>>, AllocError>) -> Result<(), AllocError>;
 }
 
-/// What a field says, kept.
+/// A consumer that keeps the value.
 #[derive(Drop)]
 pub struct KeptCell<'a> {
-    /// `None` where the field is missing.
+    /// `None` if the field is missing.
     pub cell: Option<Cell<'a>>,
 }
 
@@ -125,23 +127,23 @@ impl Serialize for Cell<'_> {
             Cell::Numbers(numbers) => numbers.serialize(out),
             Cell::Stop(stop) => stop.serialize(out),
             Cell::Print(print) => print.serialize(out),
-            // Only `json_row` writes it as it stands.
+            // Only `json_row` writes it unescaped.
             Cell::Json(text) => out.str(text.as_str()),
         }
     }
 }
 
-/// Names of fields, each with what it says; `None` where the field is missing.
+/// The named values of a line; `None` for a missing field.
 #[derive(Drop)]
 pub struct Row<'a> {
-    /// They stand in the order of the line.
+    /// The values in the order of the line.
     pub cells: Vec<(&'static str, Option<Cell<'a>>)>,
 }
 
 impl Described for Row<'_> {}
 
 impl Row<'_> {
-    /// Sends each field that isn't missing.
+    /// Serializes each field that isn't missing.
     pub fn serialize_fields<S: Serializer>(&self, out: &mut S) -> Result<(), S::Error> {
         for (name, cell) in &self.cells {
             if let Some(cell) = cell {
@@ -153,7 +155,7 @@ impl Row<'_> {
     }
 }
 
-/// An object, in which what is missing is left out.
+/// An object without the missing fields.
 impl Serialize for Row<'_> {
     fn serialize<S: Serializer>(&self, out: &mut S) -> Result<(), S::Error> {
         out.begin_map(None)?;

@@ -1,6 +1,6 @@
-//! What a field of a line is.
+//! The types of a line's fields.
 
-/// What a field is, and how a log of Zeek's has it, as docs/TLSLOG.md says.
+/// A field's type, with its text in docs/TLSLOG.md, and its type in Zeek's logs.
 #[derive(Clone, Copy)]
 pub enum Type {
     /// seconds since 1970-01-01 00:00 UTC, with 6 digits behind the point
@@ -25,7 +25,8 @@ pub enum Type {
     Method,
     /// the names of methods, as that of one, with `,` between them
     Methods,
-    /// `uncompressed`, `ansiX962_compressed_prime`, `ansiX962_compressed_char2`, or `unknown-` and the number, with `,` between them
+    /// `uncompressed`, `ansiX962_compressed_prime`, `ansiX962_compressed_char2`, or `unknown-` and
+    /// the number, with `,` between them
     PointFormats,
     /// `psk_ke`, `psk_dhe_ke`, or `unknown-` and the number, with `,` between them
     Modes,
@@ -39,5 +40,5 @@ pub enum Type {
     Fields,
 }
 
-/// A field: its name, what it is, and what says it.
+/// A field: its name, its type, and what computes it.
 pub type Column<T> = (&'static str, Type, T);

@@ -1,4 +1,4 @@
-//! Lines of comma-separated values (RFC 4180).
+//! Comma-separated values (RFC 4180).
 use crate::cell::{Cell, Row};
 use crate::column::Column;
 use crate::objects::json_text;
@@ -6,7 +6,7 @@ use crate::text::add_text;
 use csv::WriterBuilder;
 use std::alloc::{AllocError, Global};
 
-/// What failed for memory alone.
+/// Converts an error that can only be a lack of memory.
 fn in_memory<T, E: Drop>(made: Result<T, E>) -> Result<T, AllocError> {
     match made {
         Ok(value) => Ok(value),
@@ -17,13 +17,13 @@ fn in_memory<T, E: Drop>(made: Result<T, E>) -> Result<T, AllocError> {
 /// How texts are written that a spreadsheet takes for formulas.
 #[derive(Clone, Copy, Debug, PartialEq, Eq)]
 pub enum Formulas {
-    /// With `'` in front, so that a spreadsheet shows them.
+    /// With a `'` in front, so that a spreadsheet shows them.
     Marked,
-    /// As they are.
+    /// Unchanged.
     Raw,
 }
 
-/// Whether a spreadsheet takes a text for a formula.
+/// Returns whether a spreadsheet takes a text for a formula.
 fn is_formula(text: &str) -> bool {
     matches!(
         text.as_bytes().first(),
@@ -31,7 +31,7 @@ fn is_formula(text: &str) -> bool {
     )
 }
 
-/// A text as a cell of a spreadsheet.
+/// Returns a text as a spreadsheet's cell.
 fn cell_text(alloc: Global, text: String, formulas: Formulas) -> Result<String, AllocError> {
     if formulas == Formulas::Raw || !is_formula(text.as_str()) {
         return Ok(text);
@@ -41,7 +41,7 @@ fn cell_text(alloc: Global, text: String, formulas: Formulas) -> Result<String, 
     Ok(marked)
 }
 
-/// A cell as comma-separated values have it: nothing, text as it stands, or else JSON.
+/// Returns a cell as a comma-separated value: empty if it is missing, text unchanged, or else JSON.
 fn field_text(
     alloc: Global,
     cell: &Option<Cell<'_>>,
@@ -55,7 +55,7 @@ fn field_text(
     }
 }
 
-/// A record of comma-separated values, without its line break.
+/// Returns a record of comma-separated values, without its line break.
 fn record(alloc: Global, fields: &[String]) -> Result<Vec<u8>, AllocError> {
     let mut writer = WriterBuilder::new().from_writer(Vec::new(alloc));
     for field in fields {
@@ -67,7 +67,7 @@ fn record(alloc: Global, fields: &[String]) -> Result<Vec<u8>, AllocError> {
     Ok(line)
 }
 
-/// A record of comma-separated values, of a row.
+/// Returns a row as a record of comma-separated values, without its line break.
 pub fn line(alloc: Global, row: &Row<'_>, formulas: Formulas) -> Result<Vec<u8>, AllocError> {
     let mut fields = Vec::new(alloc);
     for (_name, cell) in &row.cells {
@@ -90,7 +90,7 @@ fn names_of<T>(
     Ok(names)
 }
 
-/// The line of the names of the fields at these places.
+/// Returns the line with the names of the fields at these places.
 pub fn header<T>(
     alloc: Global,
     table: &[Column<T>],

@@ -1,34 +1,36 @@
-//! Parts of lines of JSON as they were written before. Hellos of one program have the same lists, and the certificate of a server comes again and again.
+//! A cache of parts of JSON lines. The hellos of one program have the same lists, and a server's
+//! certificate comes again and again.
 use crate::lists::Texts;
 use layouts::{InPlace, Items};
 use std::alloc::{AllocError, Global};
 use tls_base::{NamedGroup, TlsCipherSuiteID, TlsExtensionType, TlsVersion};
 use tls_ext::{ExtensionType, KeyShareEntry};
 
-/// So many certificates are kept at most: a network's servers have no more, for the most part.
+/// The most certificates in the cache: mostly a network has no more servers.
 const MOST: usize = 64;
 
-/// Lists of a kind are kept in so many sets, by a sum of their numbers, so that a list is compared with few others, however alike peers make theirs.
+/// The number of sets for the lists of a kind. A list's set follows from a sum of its numbers, so
+/// that it is compared with few others, however alike peers make theirs.
 const SETS: u32 = 16;
 
-/// So many are kept in a set at most.
+/// The most lists in a set.
 const MOST_IN_SET: usize = 4;
 
-/// No list is kept that has more numbers, so that hellos can't take much memory by theirs.
+/// The most numbers in a cached list, so that hellos can't take much memory with theirs.
 const MOST_NUMBERS: usize = 128;
 
-/// Nothing is kept of a certificate that has more bytes.
+/// The longest certificate in the cache, in bytes.
 const LONGEST_CERTIFICATE: usize = 4096;
 
-/// No text of a list is kept that has more: the names of 100 cipher suites have some 4,000.
+/// The longest text of a cached list, in bytes. The names of 100 cipher suites have about 4,000.
 const LONGEST_LIST: usize = 4096;
 
-/// No text of a certificate is kept that has more.
+/// The longest text of a cached certificate, in bytes.
 const LONGEST: usize = 2048;
 
-/// What stands in a list as a number of 2 bytes, maybe with more behind it.
+/// An item of a list that begins with a number of 2 bytes.
 trait Coded<'a>: InPlace<'a> {
-    /// The number.
+    /// Returns the number.
     fn code(one: &Self::Read) -> u16;
 }
 
@@ -74,7 +76,7 @@ impl<'a> Coded<'a> for u8 {
     }
 }
 
-/// A list of numbers in the field at a place, and what is written of that.
+/// A list of numbers in the field at a place, and its text.
 #[derive(Drop)]
 struct KnownList {
     place: usize,
@@ -83,7 +85,7 @@ struct KnownList {
 }
 
 impl KnownList {
-    /// Whether it is of that place, and the list has just these.
+    /// Returns whether it is for this place and has exactly these numbers.
     fn is_of<'a, T: Coded<'a>>(&self, place: usize, list: Items<'a, T>) -> bool {
         if self.place != place {
             return false;
@@ -99,31 +101,31 @@ impl KnownList {
     }
 }
 
-/// In which set a list is kept.
+/// Returns the set of a list.
 fn set_of<'a, T: Coded<'a>>(list: Items<'a, T>) -> usize {
     let mut sum = 0u32;
     for one in list {
         sum = sum.wrapping_mul(31).wrapping_add(u32::from(T::code(&one)));
     }
-    // Both halves count, since numbers of a kind may be alike in their last bits.
+    // (both halves count, since numbers of a kind may agree in their last bits)
     ((sum ^ (sum >> 16)) % SETS) as usize
 }
 
-/// Lists of one kind, in sets. Where there are as many in one as are kept, the next one stands alone there.
+/// Lists of one kind, in sets. A list that finds its set full replaces all the lists in it.
 #[derive(Drop)]
 struct KnownLists {
     sets: Vec<Vec<KnownList>>,
 }
 
 impl KnownLists {
-    /// None yet.
+    /// Returns an empty cache.
     fn new(alloc: Global) -> KnownLists {
         KnownLists {
             sets: Vec::new(alloc),
         }
     }
 
-    /// What is written of a list at that place, if that is known.
+    /// Returns the text of a list at this place, if it is cached.
     fn text<'a, T: Coded<'a>>(&self, place: usize, list: Items<'a, T>) -> Option<&[u8]> {
         for one in self.sets.get(set_of(list))? {
             if one.is_of(place, list) {
@@ -133,7 +135,7 @@ impl KnownLists {
         None
     }
 
-    /// Keeps what is written of a list at that place, if both are short enough.
+    /// Caches the text of a list at this place, if both are short enough.
     fn keep<'a, T: Coded<'a>>(
         &mut self,
         alloc: Global,
@@ -167,7 +169,7 @@ impl KnownLists {
     }
 }
 
-/// Some fields of a certificate, and what is written of them.
+/// A certificate and the text of some of its fields.
 #[derive(Drop)]
 struct KnownCertificate {
     places: Vec<usize>,
@@ -175,7 +177,7 @@ struct KnownCertificate {
     text: Vec<u8>,
 }
 
-/// What was written of the last lists and certificates.
+/// The texts of the latest lists and certificates.
 #[derive(Drop)]
 pub struct KnownTexts {
     versions: KnownLists,
@@ -188,7 +190,7 @@ pub struct KnownTexts {
 }
 
 impl KnownTexts {
-    /// None yet.
+    /// Returns an empty cache.
     pub fn new(alloc: Global) -> KnownTexts {
         KnownTexts {
             versions: KnownLists::new(alloc),
@@ -201,7 +203,8 @@ impl KnownTexts {
         }
     }
 
-    /// What is written of the field at that place with this list, if that is known. Only lists of numbers are kept.
+    /// Returns the text of the field at this place with this list, if it is cached. Only lists of
+    /// numbers are.
     pub fn list(&self, place: usize, texts: &Texts<'_>) -> Option<&[u8]> {
         match texts {
             Texts::Versions(list) => self.versions.text(place, *list),
@@ -214,7 +217,7 @@ impl KnownTexts {
         }
     }
 
-    /// Keeps what is written of the field at that place with this list of numbers.
+    /// Caches the text of the field at this place with this list of numbers.
     pub fn keep_list(
         &mut self,
         alloc: Global,
@@ -233,12 +236,12 @@ impl KnownTexts {
         }
     }
 
-    /// What is written of the field at that place with these codes, if that is known.
+    /// Returns the text of the field at this place with these codes, if it is cached.
     pub fn codes(&self, place: usize, codes: &[u8]) -> Option<&[u8]> {
         self.codes.text(place, Items::<u8>::new(codes))
     }
 
-    /// Keeps that.
+    /// Caches the text of the field at this place with these codes.
     pub fn keep_codes(
         &mut self,
         alloc: Global,
@@ -249,7 +252,7 @@ impl KnownTexts {
         self.codes.keep(alloc, place, Items::<u8>::new(codes), text)
     }
 
-    /// What is written of a certificate's fields at these places, if that is known.
+    /// Returns the text of a certificate's fields at these places, if it is cached.
     pub fn certificate(&self, places: &[usize], certificate: &[u8]) -> Option<&[u8]> {
         for one in &self.certificates {
             if one.certificate.as_slice() == certificate && one.places.as_slice() == places {
@@ -259,7 +262,8 @@ impl KnownTexts {
         None
     }
 
-    /// Keeps that, if it is short enough. Where there are as many as are kept, it stands alone.
+    /// Caches the text of a certificate's fields, if both are short enough. A full cache of
+    /// certificates is emptied first.
     pub fn keep_certificate(
         &mut self,
         alloc: Global,
@@ -283,7 +287,7 @@ impl KnownTexts {
     }
 }
 
-/// Key shares, as they stand.
+/// Returns the key shares in these bytes.
 fn shares(bytes: &[u8]) -> Items<'_, KeyShareEntry<'_>> {
     Items::new(bytes)
 }

@@ -1,8 +1,11 @@
-//! How the values of a log are written: as JSON, as comma-separated values, or as Zeek writes its logs.
+//! Writes the values of a log as JSON, as comma-separated values, or as Zeek writes its logs.
 //!
-//! A [`Cell`](cell::Cell) is the value of one field, and a [`Row`](cell::Row) the named values of a line. A cell borrows what it shows ([`Text`](text::Text),
-//! [`Texts`](lists::Texts)): its text is put together where it is written. [`Object`](objects::Object) builds an object of JSON field by field, and
-//! [`KnownTexts`](known_texts::KnownTexts) keeps fields that were written before.
+//! A [`Cell`](cell::Cell) is the value of one field, and a [`Row`](cell::Row) the named values of a
+//! line. A cell borrows what it shows ([`Text`](text::Text), [`Texts`](lists::Texts)): its text is
+//! formatted when it is written. [`Object`](objects::Object) builds a JSON object field by field,
+//! and [`KnownTexts`](known_texts::KnownTexts) caches fields that were written before.
+//!
+//! This crate has no clauses, only tests.
 #![tactic(auto)]
 
 pub mod cell;

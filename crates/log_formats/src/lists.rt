@@ -1,4 +1,4 @@
-//! Lists in a line. They are walked where they are written.
+//! Lists in a line. Their items are parsed when they are written.
 use crate::cell::Cell;
 use crate::suites::Suites;
 use crate::text::{Text, extension, group};
@@ -8,53 +8,53 @@ use ssl2_hello::CipherSpec;
 use tls_base::{NamedGroup, TlsCipherSuiteID, TlsVersion};
 use tls_ext::{ExtensionType, KeyShareEntry};
 
-/// A list of texts, by what they are made of.
+/// A list of texts, by its source.
 #[derive(Drop)]
 pub enum Texts<'a> {
-    /// Texts, held here.
+    /// Owned texts.
     Owned(Vec<String>),
-    /// Versions.
+    /// TLS versions.
     Versions(Items<'a, TlsVersion>),
-    /// Types of extensions.
+    /// Extension types.
     Types(Items<'a, ExtensionType>),
     /// Groups.
     Groups(Items<'a, NamedGroup>),
     /// Signature schemes.
     Schemes(Items<'a, u16>),
-    /// Names of protocols.
+    /// Protocol names.
     Protocols(Items<'a, Counted1>),
-    /// Key shares, as they stand, by their groups.
+    /// The groups of unparsed key shares.
     Shares(&'a [u8]),
-    /// Cipher suites, by these names.
+    /// Cipher suites, with these names.
     Suites(&'a Suites, Items<'a, TlsCipherSuiteID>),
-    /// CipherSpecs of SSL 2.0, by these names.
+    /// SSL 2.0 CipherSpecs, with these names.
     Specs(&'a Suites, Items<'a, CipherSpec>),
     /// Digests, in hexadecimal.
     Digests(Vec<[u8; 32]>),
 }
 
-/// Whether none of these items is read.
+/// Returns whether a list has no items.
 fn has_none<'a, T: InPlace<'a>>(list: Items<'a, T>) -> bool {
     let mut walk = list;
     walk.next().is_none()
 }
 
-/// The same of key shares.
+/// Returns whether there are no key shares.
 fn has_no_share(bytes: &[u8]) -> bool {
     let mut walk: Items<KeyShareEntry> = Items::new(bytes);
     walk.next().is_none()
 }
 
-/// Who takes the texts of a list, one after the other.
+/// A consumer of a list's texts, one after the other.
 pub trait TakesTexts {
-    /// Why no further one is taken.
+    /// Why it takes no more texts.
     type Error;
 
-    /// Takes the next.
+    /// Takes the next text.
     fn take_text(&mut self, text: &Text<'_>) -> Result<(), Self::Error>;
 }
 
-/// Hands on groups.
+/// Passes the names of groups to the consumer.
 fn hand_groups<T: TakesTexts>(list: Items<'_, NamedGroup>, taker: &mut T) -> Result<(), T::Error> {
     for one in list {
         taker.take_text(&group(one))?;
@@ -127,7 +127,7 @@ fn hand_specs<T: TakesTexts>(
 }
 
 impl Texts<'_> {
-    /// Whether there are none.
+    /// Returns whether the list is empty.
     pub fn is_empty(&self) -> bool {
         match self {
             Texts::Owned(all) => all.is_empty(),
@@ -143,7 +143,7 @@ impl Texts<'_> {
         }
     }
 
-    /// Whether they are told by numbers of 2 bytes alone.
+    /// Returns whether the list is determined by numbers of 2 bytes alone.
     pub fn are_numbers(&self) -> bool {
         matches!(
             self,
@@ -156,7 +156,7 @@ impl Texts<'_> {
         )
     }
 
-    /// Hands them on, one after the other.
+    /// Passes the texts to the consumer, one after the other.
     pub fn hand<T: TakesTexts>(&self, taker: &mut T) -> Result<(), T::Error> {
         match self {
             Texts::Owned(all) => {
@@ -183,7 +183,7 @@ impl Texts<'_> {
     }
 }
 
-/// Sends each text as one of a sequence.
+/// Serializes each text as an element of a sequence.
 #[derive(Drop)]
 struct Sends<'a, S> {
     out: &'a mut S,
@@ -197,7 +197,7 @@ impl<S: Serializer> TakesTexts for Sends<'_, S> {
     }
 }
 
-/// A list of texts; nothing where it is empty.
+/// Returns a list of texts as a value; `None` if it is empty.
 pub fn some_texts(texts: Texts<'_>) -> Option<Cell<'_>> {
     if texts.is_empty() {
         return None;
@@ -215,17 +215,17 @@ impl Serialize for Texts<'_> {
     }
 }
 
-/// A list of numbers, by what has them.
+/// A list of numbers, by its source.
 #[derive(Drop)]
 pub enum Numbers<'a> {
     /// Codes of one byte.
     Codes(&'a [u8]),
-    /// Numbers, held here.
+    /// Owned numbers.
     Owned(Vec<u64>),
 }
 
 impl Numbers<'_> {
-    /// The number at that place; `None` behind the last.
+    /// Returns the number at this index; `None` behind the last.
     pub fn get(&self, place: usize) -> Option<u64> {
         match self {
             Numbers::Codes(codes) => Some(u64::from(*codes.get(place)?)),
@@ -233,7 +233,7 @@ impl Numbers<'_> {
         }
     }
 
-    /// How many there are.
+    /// Returns how many numbers there are.
     pub fn len(&self) -> usize {
         match self {
             Numbers::Codes(codes) => codes.len(),
@@ -242,7 +242,7 @@ impl Numbers<'_> {
     }
 }
 
-/// A list of numbers; nothing where it is empty.
+/// Returns a list of numbers as a value; `None` if it is empty.
 pub fn some_numbers(numbers: Numbers<'_>) -> Option<Cell<'_>> {
     if numbers.len() == 0 {
         return None;

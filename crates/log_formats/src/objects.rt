@@ -6,15 +6,16 @@ use std::alloc::{AllocError, Global};
 use std::fmt::{Display, Write};
 use std::mem;
 
-/// Most lines of JSON are no longer than so many bytes.
+/// The length of most JSON lines is below this, in bytes.
 pub const LINE_LEN: usize = 4096;
 
-/// Why a value isn't written.
+/// Why a value can't be written.
 #[derive(Clone, Copy)]
 enum Refusal {
     /// Memory ran out.
     OutOfMemory,
-    /// It is of a kind that no line has: a number of 128 bits, an object within another's braces, or one with keys that are no names.
+    /// It is of a kind that no line has: a number of 128 bits, an object inside another's braces,
+    /// or one whose keys aren't names.
     NotOfLines,
 }
 
@@ -24,16 +25,17 @@ impl From<AllocError> for Refusal {
     }
 }
 
-/// Writes values of lines as JSON, as `serde_json` does. Its refusal is small, since each call hands it on by value.
+/// Writes the values of lines as JSON, as `serde_json` does. The error is small, since it is passed
+/// by value.
 #[derive(Drop)]
 struct Json {
     out: Writer,
-    // Room for a text that is put together.
+    // A buffer in which texts are formatted.
     room: String,
 }
 
 impl Json {
-    /// A name in that case: the key of a field, or a text.
+    /// Writes a name in this case: a field's key, or a text.
     fn name(
         &mut self,
         name: &str,
@@ -184,7 +186,7 @@ impl Serializer for Json {
     }
 }
 
-/// What failed for memory alone: a line has no value of another kind.
+/// Converts the error: lines have only values that can be written, so it is a lack of memory.
 fn in_memory<T: Drop>(written: Result<T, Refusal>) -> Result<T, AllocError> {
     match written {
         Ok(value) => Ok(value),
@@ -193,12 +195,12 @@ fn in_memory<T: Drop>(written: Result<T, Refusal>) -> Result<T, AllocError> {
 }
 
 impl Json {
-    /// One that wrote nothing, in which so many bytes have room at first.
+    /// Returns a writer that has written nothing, with this capacity in bytes.
     fn new(alloc: Global, room: usize) -> Result<Json, AllocError> {
         Json::over(alloc, Vec::new(alloc), room)
     }
 
-    /// The same in that memory, in place of what it holds.
+    /// Returns a writer that reuses this memory, with this capacity in bytes.
     fn over(alloc: Global, memory: Vec<u8>, room: usize) -> Result<Json, AllocError> {
         let mut memory = memory;
         memory.clear();
@@ -209,34 +211,35 @@ impl Json {
         })
     }
 
-    /// What was written.
+    /// Returns what was written.
     fn into_bytes(self) -> Vec<u8> {
         let Json { out, .. } = self;
         out.into_inner()
     }
 
-    /// What was written, of which nothing is left here.
+    /// Returns what was written, and starts anew.
     fn take_bytes(&mut self, alloc: Global) -> Vec<u8> {
         let out = mem::replace(&mut self.out, Writer::new(Vec::new(alloc)));
         out.into_inner()
     }
 
-    /// Goes on behind these bytes, without a comma.
+    /// Continues behind these bytes, without a comma.
     fn go_on(&mut self, bytes: Vec<u8>) {
         self.out = Writer::new(bytes);
     }
 }
 
-/// An object whose fields are added one by one.
+/// A JSON object whose fields are added one by one.
 #[derive(Drop)]
 pub struct Object {
     json: Json,
-    // All that was written, with a comma at its end, while fields come that stand as JSON already.
+    // Everything written so far, with a comma at the end, while fields are added that are JSON
+    // already.
     front: Option<Vec<u8>>,
 }
 
 impl Object {
-    /// One without fields, in that memory, in place of what it holds. So many bytes have room at first.
+    /// Returns an object without fields that reuses this memory, with this capacity in bytes.
     pub fn over(alloc: Global, memory: Vec<u8>, room: usize) -> Result<Object, AllocError> {
         let mut json = Json::over(alloc, memory, room)?;
         in_memory(json.begin_map(None))?;
@@ -253,14 +256,14 @@ impl Object {
         in_memory(value.serialize(&mut self.json))
     }
 
-    /// Goes on behind what stands as JSON.
+    /// Continues behind fields that are JSON already.
     fn go_on(&mut self) {
         if let Some(front) = self.front.take() {
             self.json.go_on(front);
         }
     }
 
-    /// All that was written, taken out, with a comma at its end if there are fields.
+    /// Takes everything written so far, with a comma at the end if there are fields.
     fn take_front(&mut self, alloc: Global) -> Result<Vec<u8>, AllocError> {
         if let Some(front) = self.front.take() {
             return Ok(front);
@@ -272,7 +275,7 @@ impl Object {
         Ok(front)
     }
 
-    /// Adds fields that stand as JSON already, with a comma between each two.
+    /// Adds fields that are JSON already, separated by commas.
     pub fn add_fields(&mut self, alloc: Global, fields: &[u8]) -> Result<(), AllocError> {
         if fields.is_empty() {
             return Ok(());
@@ -284,7 +287,7 @@ impl Object {
         Ok(())
     }
 
-    /// Adds a field whose value stands as JSON already.
+    /// Adds a field whose value is JSON already.
     pub fn add_json(&mut self, alloc: Global, name: &str, value: &str) -> Result<(), AllocError> {
         if self.front.is_some() {
             self.go_on();
@@ -297,7 +300,7 @@ impl Object {
         Ok(())
     }
 
-    /// What was written, without a comma at its end: no value ends in one.
+    /// Returns what was written, without a comma at the end. No value ends in one.
     fn into_front(self) -> Vec<u8> {
         let Object { json, front } = self;
         let mut bytes = match front {
@@ -310,14 +313,14 @@ impl Object {
         bytes
     }
 
-    /// The object as JSON.
+    /// Returns the object as JSON.
     pub fn into_bytes(self) -> Result<Vec<u8>, AllocError> {
         let mut bytes = self.into_front();
         bytes.push(b'}')?;
         Ok(bytes)
     }
 
-    /// Its fields as JSON, without the braces.
+    /// Returns the fields as JSON, without the braces.
     pub fn into_fields(self) -> Vec<u8> {
         let mut bytes = self.into_front();
         if !bytes.is_empty() {
@@ -327,7 +330,7 @@ impl Object {
     }
 }
 
-/// A value as JSON, in which so many bytes have room at first.
+/// Returns a value as JSON bytes, with this initial capacity.
 pub fn json_bytes<T: Serialize>(
     alloc: Global,
     value: &T,
@@ -338,7 +341,7 @@ pub fn json_bytes<T: Serialize>(
     Ok(json.into_bytes())
 }
 
-/// The object of a row's fields, in which what is missing is left out.
+/// Returns a row as a JSON object, without the missing fields.
 pub fn json_row(alloc: Global, row: &Row<'_>) -> Result<Vec<u8>, AllocError> {
     let mut line = Object::over(alloc, Vec::new(alloc), LINE_LEN)?;
     for (name, cell) in &row.cells {
@@ -351,7 +354,7 @@ pub fn json_row(alloc: Global, row: &Row<'_>) -> Result<Vec<u8>, AllocError> {
     line.into_bytes()
 }
 
-/// A value as text of JSON, in which so many bytes have room at first.
+/// Returns a value as JSON text, with this initial capacity.
 pub fn json_text<T: Serialize>(
     alloc: Global,
     value: &T,

@@ -6,23 +6,24 @@ use std::alloc::{AllocError, Global};
 use std::collections::BTreeMap;
 use tls_base::TlsCipherSuiteID;
 
-/// How suites are written that a list has no name for.
+/// How cipher suites are written that have no name in a list.
 #[derive(Clone, Copy, Debug, PartialEq, Eq)]
 pub enum OtherSuites {
-    /// By the names of IANA's registry; those that have none there by their numbers.
+    /// By their names in IANA's registry, or by their numbers if they have none there.
     Named,
     /// By their numbers.
     Numbered,
 }
 
-/// Names of cipher suites: those of a list, by their numbers, and how all others are written.
+/// The names of cipher suites: a list of names by number, and how all others are written.
 #[derive(Drop)]
 pub struct Suites {
     names: BTreeMap<u16, String>,
     others: OtherSuites,
 }
 
-/// The number and the name that a line begins with, as in `c02f:TLS_ECDHE_RSA_WITH_AES_128_GCM_SHA256:..`.
+/// Parses the number and name at the front of a line, as in
+/// `c02f:TLS_ECDHE_RSA_WITH_AES_128_GCM_SHA256:..`.
 fn named(line: &str) -> Option<(u16, &str)> {
     let (digits, rest) = line.split_once(':')?;
     let Ok(number) = u16::from_str_radix(digits, 16) else {
@@ -35,7 +36,7 @@ fn named(line: &str) -> Option<(u16, &str)> {
 }
 
 impl Suites {
-    /// No list: all are written in this way.
+    /// Returns names without a list: all suites are written in this way.
     pub fn new(alloc: Global, others: OtherSuites) -> Suites {
         Suites {
             names: BTreeMap::new(alloc),
@@ -43,8 +44,9 @@ impl Suites {
         }
     }
 
-    /// Those of a list with a line for each: its number in hexadecimal, and its name, each with `:` behind. Empty lines and those that begin
-    /// with `#` say nothing. `None` where a line has another form.
+    /// Parses a list with a line for each suite: its number in hexadecimal and its name, each with
+    /// a `:` behind. Empty lines and those that begin with `#` are skipped. `None` if another line
+    /// has another form.
     pub fn read(
         alloc: Global,
         others: OtherSuites,
@@ -59,7 +61,7 @@ impl Suites {
         Ok(Some(suites))
     }
 
-    /// Adds what a line says; `false` where it has another form.
+    /// Adds a line's name. Returns false if the line has another form.
     fn add(&mut self, alloc: Global, line: &str) -> Result<bool, AllocError> {
         if line.is_empty() || line.starts_with('#') {
             return Ok(true);
@@ -74,12 +76,12 @@ impl Suites {
         }
     }
 
-    /// Whether suites without a name in the list are written by their numbers.
+    /// Returns whether suites without a name in the list are written by number.
     pub fn are_numbered(&self) -> bool {
         matches!(self.others, OtherSuites::Numbered)
     }
 
-    /// A suite by its name, or else its number.
+    /// Returns a suite's name, or else its number.
     pub fn text(&self, suite: TlsCipherSuiteID) -> Text<'_> {
         match self.names.get(&suite.0) {
             Some(name) => Text::Plain(name.as_str()),
@@ -90,7 +92,7 @@ impl Suites {
         }
     }
 
-    /// A suite, where there is one.
+    /// Returns a suite's name or number, if there is a suite.
     pub fn some_text(&self, suite: Option<TlsCipherSuiteID>) -> Option<Cell<'_>> {
         match suite {
             Some(suite) => Some(Cell::Text(self.text(suite))),
@@ -98,7 +100,7 @@ impl Suites {
         }
     }
 
-    /// A CipherSpec: the suite of TLS that it is, or else its number of 6 digits.
+    /// Returns a CipherSpec's name: that of its TLS suite, or else its number in 6 digits.
     pub fn spec_text(&self, spec: CipherSpec) -> Text<'_> {
         match spec.suite() {
             Some(suite) => self.text(suite),

@@ -1,4 +1,4 @@
-//! How texts are written: names of ours, numbers in hexadecimal, and what a peer sent.
+//! Texts: our names, numbers in hexadecimal, and what a peer sent.
 use crate::cell::Cell;
 use crate::versions::zeek_version;
 use serde::{Described, Serialize, Serializer};
@@ -8,42 +8,42 @@ use std::net::{IpAddr, Ipv4Addr};
 use std::str;
 use tls_base::{NamedGroup, SignatureScheme, TlsExtensionType, TlsVersion};
 
-/// So many bytes are written in hexadecimal at once: as many as a fingerprint or a session id has.
+/// How many bytes are written in hexadecimal at once: as many as a fingerprint or a session id has.
 const PIECE: usize = 32;
 
-/// A text, by what it is made of. It is put together where it is written.
+/// A text, by its source. It is formatted when it is written.
 #[derive(Drop)]
 pub enum Text<'a> {
-    /// One that stands so.
+    /// A borrowed text.
     Plain(&'a str),
-    /// The same, held here.
+    /// An owned text.
     Owned(String),
-    /// A number of 2 bytes, as `0xc02f`.
+    /// A number of 2 bytes, such as `0xc02f`.
     Code(u16),
-    /// One of 3 bytes, as `0x010080`.
+    /// A number of 3 bytes, such as `0x010080`.
     LongCode(u32),
-    /// Bytes, in hexadecimal.
+    /// Bytes in hexadecimal.
     Digits(&'a [u8]),
-    /// What a peer sent, with what is no printable ASCII escaped, as `\xff`, and `\` as `\\`.
+    /// What a peer sent. Bytes other than printable ASCII are escaped as `\xff`, and `\` as `\\`.
     Escaped(&'a [u8]),
-    /// The same behind the number of its type, as `1:name`.
+    /// What a peer sent, behind the number of its type, such as `1:name`.
     Typed(u8, &'a [u8]),
-    /// A name of ours behind a place, as `0:verify`.
+    /// One of our names behind a position, such as `0:verify`.
     Placed(usize, &'a str),
-    /// A signature scheme by its name, or else its number.
+    /// A signature scheme's name, or else its number.
     Scheme(u16),
-    /// A version by its name, or else its number.
+    /// A version's name, or else its number.
     Version(TlsVersion),
     /// An address.
     Address(IpAddr),
 }
 
-/// Whether a byte stands so where bytes are escaped.
+/// Returns whether a byte isn't escaped.
 fn is_plain(byte: u8) -> bool {
     matches!(byte, b' '..=b'~') && !matches!(byte, b'\\' | b'\'' | b'"')
 }
 
-/// The text that the bytes are, if none of them is escaped.
+/// Returns the text in the bytes if none has to be escaped.
 fn plain_text(bytes: &[u8]) -> Option<&str> {
     for byte in bytes {
         if !is_plain(*byte) {
@@ -56,7 +56,7 @@ fn plain_text(bytes: &[u8]) -> Option<&str> {
     }
 }
 
-/// Writes what a peer sent.
+/// Writes what a peer sent, escaped.
 fn write_escaped<W: fmt::Write>(f: &mut Formatter<W>, bytes: &[u8]) -> fmt::Result {
     match plain_text(bytes) {
         Some(text) => f.write_str(text),
@@ -64,7 +64,7 @@ fn write_escaped<W: fmt::Write>(f: &mut Formatter<W>, bytes: &[u8]) -> fmt::Resu
     }
 }
 
-/// Writes a text of ASCII.
+/// Writes an ASCII text.
 fn write_ascii<W: fmt::Write>(f: &mut Formatter<W>, text: &[u8]) -> fmt::Result {
     match str::from_utf8(text) {
         Ok(text) => f.write_str(text),
@@ -83,7 +83,7 @@ fn write_digits<W: fmt::Write>(f: &mut Formatter<W>, bytes: &[u8]) -> fmt::Resul
     Ok(())
 }
 
-/// A number of 2 bytes, as ASCII.
+/// Returns a number of 2 bytes as ASCII.
 fn code_text(code: u16) -> [u8; 6] {
     let mut text = *b"0x0000";
     let _written = hex::encode_to_slice(code.to_be_bytes(), &mut text[2..]);
@@ -133,7 +133,7 @@ impl Display for Text<'_> {
 }
 
 impl Text<'_> {
-    /// The text, where nothing is to be put together.
+    /// Returns the text if nothing has to be formatted.
     pub fn as_plain(&self) -> Option<&str> {
         match self {
             Text::Plain(text) => Some(*text),
@@ -147,7 +147,7 @@ impl Text<'_> {
 
 impl Described for Text<'_> {}
 
-/// Sends a number of 2 bytes: there are many in a line, so it isn't put together in the room for other texts.
+/// Serializes a number of 2 bytes. Lines have many, so they don't go through the formatting buffer.
 fn serialize_code<S: Serializer>(code: u16, out: &mut S) -> Result<(), S::Error> {
     match str::from_utf8(&code_text(code)) {
         Ok(text) => out.str(text),
@@ -155,7 +155,8 @@ fn serialize_code<S: Serializer>(code: u16, out: &mut S) -> Result<(), S::Error>
     }
 }
 
-/// Sends bytes in hexadecimal: session ids and fingerprints, which are no longer than a piece, aren't put together in that room either.
+/// Serializes bytes in hexadecimal. Session ids and fingerprints, which aren't longer than a piece,
+/// don't go through the formatting buffer.
 fn serialize_digits<S: Serializer>(bytes: &[u8], out: &mut S) -> Result<(), S::Error> {
     if bytes.len() > PIECE {
         return out.collect_str(&Text::Digits(bytes));
@@ -169,7 +170,7 @@ fn serialize_digits<S: Serializer>(bytes: &[u8], out: &mut S) -> Result<(), S::E
     }
 }
 
-/// Puts a byte at that place, if there is one: the place behind it.
+/// Writes a byte at this index, if it exists. Returns the next index.
 #[inline(always)]
 fn put_byte(text: &mut [u8; 15], place: usize, byte: u8) -> usize {
     if let Some(at) = text.get_mut(place) {
@@ -178,7 +179,7 @@ fn put_byte(text: &mut [u8; 15], place: usize, byte: u8) -> usize {
     place.saturating_add(1)
 }
 
-/// An address of IPv4 as text, and how long that is.
+/// Returns an IPv4 address as text, and its length.
 fn dotted(address: Ipv4Addr) -> ([u8; 15], usize) {
     let mut text = [b'0'; 15];
     let mut len = 0;
@@ -197,7 +198,8 @@ fn dotted(address: Ipv4Addr) -> ([u8; 15], usize) {
     (text, len)
 }
 
-/// Sends an address: one of IPv4, of which each line has two, isn't put together in that room either.
+/// Serializes an address. IPv4 addresses, of which each line has two, don't go through the
+/// formatting buffer.
 fn serialize_address<S: Serializer>(address: IpAddr, out: &mut S) -> Result<(), S::Error> {
     if let IpAddr::V4(four) = address {
         let (text, len) = dotted(four);
@@ -208,7 +210,7 @@ fn serialize_address<S: Serializer>(address: IpAddr, out: &mut S) -> Result<(), 
     out.collect_str(&Text::Address(address))
 }
 
-/// Sends a signature scheme.
+/// Serializes a signature scheme.
 fn serialize_scheme<S: Serializer>(scheme: u16, out: &mut S) -> Result<(), S::Error> {
     match SignatureScheme(scheme).registered_name() {
         Some(name) => out.str(name),
@@ -216,7 +218,7 @@ fn serialize_scheme<S: Serializer>(scheme: u16, out: &mut S) -> Result<(), S::Er
     }
 }
 
-/// Sends a version.
+/// Serializes a version.
 fn serialize_version<S: Serializer>(version: TlsVersion, out: &mut S) -> Result<(), S::Error> {
     match zeek_version(version) {
         Some(name) => out.str(name),
@@ -243,7 +245,7 @@ impl Serialize for Text<'_> {
     }
 }
 
-/// The name, or else the number.
+/// Returns the name, or else the number.
 pub fn name_or_number<'a>(name: Option<&'a str>, n: u16) -> Text<'a> {
     match name {
         Some(name) => Text::Plain(name),
@@ -251,27 +253,27 @@ pub fn name_or_number<'a>(name: Option<&'a str>, n: u16) -> Text<'a> {
     }
 }
 
-/// A group.
+/// Returns a group's name or number.
 pub fn group<'a>(group: NamedGroup) -> Text<'a> {
     name_or_number(group.registered_name(), group.0)
 }
 
-/// The type of an extension.
+/// Returns an extension type's name or number.
 pub fn extension<'a>(kind: TlsExtensionType) -> Text<'a> {
     name_or_number(kind.registered_name(), kind.0)
 }
 
-/// What is there, as text.
+/// Returns an owned text as a value.
 pub fn some_text<'a>(text: Result<String, AllocError>) -> Result<Option<Cell<'a>>, AllocError> {
     Ok(Some(Cell::Text(Text::Owned(text?))))
 }
 
-/// A name of ours.
+/// Returns one of our names as a value.
 pub fn name_cell<'a>(name: &'static str) -> Cell<'a> {
     Cell::Text(Text::Plain(name))
 }
 
-/// A name of ours, where there is one.
+/// Returns one of our names as a value, if there is one.
 pub fn some_name<'a>(name: Option<&'static str>) -> Option<Cell<'a>> {
     match name {
         Some(name) => Some(Cell::Text(Text::Plain(name))),
@@ -279,7 +281,7 @@ pub fn some_name<'a>(name: Option<&'static str>) -> Option<Cell<'a>> {
     }
 }
 
-/// A version, where there is one.
+/// Returns a version as a value, if there is one.
 pub fn some_version<'a>(chosen: Option<TlsVersion>) -> Option<Cell<'a>> {
     match chosen {
         Some(chosen) => Some(Cell::Text(Text::Version(chosen))),
@@ -287,7 +289,7 @@ pub fn some_version<'a>(chosen: Option<TlsVersion>) -> Option<Cell<'a>> {
     }
 }
 
-/// A group, where there is one.
+/// Returns a group as a value, if there is one.
 pub fn some_group<'a>(chosen: Option<NamedGroup>) -> Option<Cell<'a>> {
     match chosen {
         Some(chosen) => Some(Cell::Text(group(chosen))),
@@ -295,7 +297,7 @@ pub fn some_group<'a>(chosen: Option<NamedGroup>) -> Option<Cell<'a>> {
     }
 }
 
-/// What a peer sent, where there is something.
+/// Returns what a peer sent as a value, if it sent something.
 pub fn some_escaped(bytes: Option<&[u8]>) -> Option<Cell<'_>> {
     match bytes {
         Some(bytes) => Some(Cell::Text(Text::Escaped(bytes))),
@@ -303,7 +305,7 @@ pub fn some_escaped(bytes: Option<&[u8]>) -> Option<Cell<'_>> {
     }
 }
 
-/// Bytes, in hexadecimal, where there are some.
+/// Returns bytes in hexadecimal as a value, if there are any.
 pub fn some_digits(bytes: Option<&[u8]>) -> Option<Cell<'_>> {
     match bytes {
         Some(bytes) => Some(Cell::Text(Text::Digits(bytes))),
@@ -311,7 +313,7 @@ pub fn some_digits(bytes: Option<&[u8]>) -> Option<Cell<'_>> {
     }
 }
 
-/// Adds a text to a list.
+/// Appends a text to a list.
 pub fn add_text(
     texts: &mut Vec<String>,
     text: Result<String, AllocError>,
@@ -320,12 +322,12 @@ pub fn add_text(
     Ok(())
 }
 
-/// Bytes, in hexadecimal.
+/// Returns bytes in hexadecimal.
 pub fn hexadecimal(alloc: Global, bytes: &[u8]) -> Result<String, AllocError> {
     hex::encode(alloc, bytes)
 }
 
-/// The mark of what is there; nothing of what isn't.
+/// Returns true as a value, or `None` instead of false.
 pub fn some_mark<'a>(is_there: bool) -> Option<Cell<'a>> {
     if is_there {
         return Some(Cell::Mark(true));

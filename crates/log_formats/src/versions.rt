@@ -4,7 +4,8 @@ use tls_base::TlsVersion;
 /// The number of DTLS 1.3 (RFC 9147, section 5.3).
 const DTLS13: TlsVersion = TlsVersion(0xfefc);
 
-/// Versions, each as Zeek writes it, as Suricata does, and as the Elastic Common Schema has it: the protocol's name, and the version in it.
+/// Versions with their names: in Zeek, in Suricata, and in the Elastic Common Schema, which has the
+/// protocol's name and the version.
 static VERSIONS: [(TlsVersion, &str, &str, (&str, &str)); 8] = [
     (TlsVersion::Ssl30, "SSLv3", "SSLv3", ("ssl", "3.0")),
     (TlsVersion::Tls10, "TLSv10", "TLSv1", ("tls", "1.0")),
@@ -16,7 +17,7 @@ static VERSIONS: [(TlsVersion, &str, &str, (&str, &str)); 8] = [
     (DTLS13, "DTLSv13", "DTLS 1.3", ("dtls", "1.3")),
 ];
 
-/// A version as Zeek writes it.
+/// Returns Zeek's name of a version.
 pub fn zeek_version(version: TlsVersion) -> Option<&'static str> {
     VERSIONS
         .iter()
@@ -24,7 +25,7 @@ pub fn zeek_version(version: TlsVersion) -> Option<&'static str> {
         .map(|row| row.1)
 }
 
-/// A version as Suricata writes it.
+/// Returns Suricata's name of a version.
 pub fn suricata_version(version: TlsVersion) -> Option<&'static str> {
     VERSIONS
         .iter()
@@ -32,7 +33,7 @@ pub fn suricata_version(version: TlsVersion) -> Option<&'static str> {
         .map(|row| row.2)
 }
 
-/// A version as the Elastic Common Schema has it: the protocol's name, and the version in it.
+/// Returns the protocol's name and the version in the Elastic Common Schema.
 pub fn ecs_version(version: TlsVersion) -> Option<(&'static str, &'static str)> {
     VERSIONS
         .iter()

@@ -1,5 +1,5 @@
-//! Lines as Zeek writes its logs: values with tabs between them, behind lines that name the fields and what they are
-//! (docs.zeek.org, "Zeek Log Formats and Inspection").
+//! Lines as Zeek writes its logs: tab-separated values, behind header lines with the fields' names
+//! and types (docs.zeek.org, "Zeek Log Formats and Inspection").
 use crate::cell::{Cell, Row};
 use crate::column::{Column, Type};
 use crate::lists::{Numbers, TakesTexts, Texts};
@@ -8,17 +8,17 @@ use crate::text::Text;
 use std::alloc::{AllocError, Global};
 use x509_text::time_text;
 
-/// What stands for a field that is missing.
+/// A missing field.
 const UNSET: &str = "-";
 
-/// What stands for a text or a list that is empty.
+/// An empty text or list.
 const EMPTY: &str = "(empty)";
 
-/// What stands in front of lines that aren't values.
+/// The start of header and footer lines.
 const META: char = '#';
 
 impl Type {
-    /// Its name.
+    /// Returns the type's name in Zeek.
     fn name(self) -> &'static str {
         match self {
             Type::Time => "time",
@@ -46,10 +46,10 @@ static POINT_FORMATS: &[(u64, &str)] = &[
     (2, "ansiX962_compressed_char2"),
 ];
 
-/// The names of modes of keys that both sides know before (RFC 8446, section 4.2.9).
+/// The names of pre-shared key exchange modes (RFC 8446, section 4.2.9).
 static MODES: &[(u64, &str)] = &[(0, "psk_ke"), (1, "psk_dhe_ke")];
 
-/// Adds a code by its name.
+/// Appends a code's name.
 fn add_code(
     alloc: Global,
     line: &mut String,
@@ -62,7 +62,7 @@ fn add_code(
     }
 }
 
-/// Adds codes by their names, with `,` between them.
+/// Appends the names of codes, separated by `,`.
 fn add_codes(
     alloc: Global,
     line: &mut String,
@@ -80,7 +80,7 @@ fn add_codes(
     Ok(())
 }
 
-/// A time as its lines have it, as 2026-11-26-17-00-00, in UTC.
+/// Returns a time as in header lines, such as 2026-11-26-17-00-00, in UTC.
 fn clock_text(alloc: Global, seconds: i64) -> Result<String, AllocError> {
     let mut text = String::new(alloc);
     let Some(time) = time_text(alloc, seconds)? else {
@@ -96,7 +96,7 @@ fn clock_text(alloc: Global, seconds: i64) -> Result<String, AllocError> {
     Ok(text)
 }
 
-/// Adds the names and then the kinds of the fields at these places, in two lines.
+/// Appends two lines: the names and the types of the fields at these places.
 fn add_fields<T>(
     header: &mut String,
     table: &[Column<T>],
@@ -119,7 +119,7 @@ fn add_fields<T>(
     Ok(())
 }
 
-/// The lines in front of all, without the last line break: of the log of that name, which is opened at this time.
+/// Returns the header of a log with this name, opened at this time, without the last line break.
 pub fn header<T>(
     alloc: Global,
     path: &str,
@@ -138,20 +138,21 @@ pub fn header<T>(
     Ok(header)
 }
 
-/// The line behind all, of a log that is closed at this time.
+/// Returns the footer of a log, closed at this time.
 pub fn footer(alloc: Global, closed: i64) -> Result<String, AllocError> {
     let mut footer = String::from_str(alloc, "#close\t")?;
     footer.push_str(clock_text(alloc, closed)?.as_str())?;
     Ok(footer)
 }
 
-/// Adds a byte by its two hexadecimal digits.
+/// Appends a byte as two hexadecimal digits.
 fn add_hexadecimal(alloc: Global, line: &mut String, byte: u8) -> Result<(), AllocError> {
     let digits = format!(in alloc; "\\x{byte:02x}")?;
     line.push_str(digits.as_str())
 }
 
-/// Adds a byte of a text, or of a text in a list, by its digits where it separates or can't be printed.
+/// Appends a byte of a text, or of a text in a list. It is escaped if it is a separator or not
+/// printable.
 fn add_byte(alloc: Global, line: &mut String, byte: u8, is_listed: bool) -> Result<(), AllocError> {
     match byte {
         b'\\' => line.push_str("\\\\"),
@@ -161,7 +162,7 @@ fn add_byte(alloc: Global, line: &mut String, byte: u8, is_listed: bool) -> Resu
     }
 }
 
-/// Adds a text. One that could be taken for something else is told by the digits of its first byte.
+/// Appends a text. If it could be taken for something else, its first byte is escaped.
 fn add_text(
     alloc: Global,
     line: &mut String,
@@ -184,7 +185,7 @@ fn add_text(
     Ok(())
 }
 
-/// Adds a text of a line, or of a list in one.
+/// Appends a text of a line, or of a list in a line.
 fn add_shown(
     alloc: Global,
     line: &mut String,
@@ -197,7 +198,7 @@ fn add_shown(
     }
 }
 
-/// Adds each text behind the others of its list.
+/// Appends each text to its list.
 #[derive(Drop)]
 struct Adds<'a> {
     alloc: Global,
@@ -217,7 +218,7 @@ impl TakesTexts for Adds<'_> {
     }
 }
 
-/// Adds a list of texts.
+/// Appends a list of texts.
 fn add_texts(alloc: Global, line: &mut String, texts: &Texts<'_>) -> Result<(), AllocError> {
     if texts.is_empty() {
         return line.push_str(EMPTY);
@@ -229,7 +230,7 @@ fn add_texts(alloc: Global, line: &mut String, texts: &Texts<'_>) -> Result<(), 
     })
 }
 
-/// Adds a list of numbers.
+/// Appends a list of numbers.
 fn add_numbers(alloc: Global, line: &mut String, numbers: &Numbers<'_>) -> Result<(), AllocError> {
     if numbers.len() == 0 {
         return line.push_str(EMPTY);
@@ -245,11 +246,11 @@ fn add_numbers(alloc: Global, line: &mut String, numbers: &Numbers<'_>) -> Resul
     Ok(())
 }
 
-/// A number, a time or a mark.
+/// Returns the text of a number, a time or a boolean.
 fn plain_text(alloc: Global, cell: &Cell<'_>) -> Result<String, AllocError> {
     match cell {
         Cell::Number(n) => format!(in alloc; "{n}"),
-        // (of whole seconds)
+        // (the only signed numbers are times in whole seconds)
         Cell::Whole(n) => format!(in alloc; "{n}.000000"),
         Cell::Seconds(seconds) => {
             let whole = seconds.microseconds / 1_000_000;
@@ -262,7 +263,7 @@ fn plain_text(alloc: Global, cell: &Cell<'_>) -> Result<String, AllocError> {
     }
 }
 
-/// Adds what a field says; what has fields of its own as JSON.
+/// Appends a field's value; JSON if it has several fields.
 fn add_cell(alloc: Global, line: &mut String, cell: &Option<Cell<'_>>) -> Result<(), AllocError> {
     match cell {
         None => line.push_str(UNSET),
@@ -282,7 +283,8 @@ fn add_cell(alloc: Global, line: &mut String, cell: &Option<Cell<'_>>) -> Result
     }
 }
 
-/// Adds what a field of that type says: by a name or a number where Zeek has another of these than JSON.
+/// Appends the value of a field of this type. Some types are names or numbers in Zeek, where JSON
+/// has the other.
 fn add_typed(
     alloc: Global,
     line: &mut String,
@@ -303,7 +305,7 @@ fn add_typed(
     }
 }
 
-/// A line of the fields at these places, without its line break.
+/// Returns a line of the fields at these places, without its line break.
 pub fn line<T>(
     alloc: Global,
     table: &[Column<T>],

@@ -1,27 +1,30 @@
-//! The formats of lines, by their names.
+//! The formats of lines, by name.
 
-/// How a line is written.
+/// A format of lines.
 #[derive(Clone, Copy, Debug, PartialEq, Eq)]
 pub enum Format {
-    /// An object of JSON.
+    /// A JSON object.
     Json,
-    /// A record of comma-separated values (RFC 4180), behind one of the names.
+    /// A record of comma-separated values (RFC 4180), behind one with the names.
     Csv,
-    /// Columns for eyes, behind a line of their names; of a connection alone.
+    /// Aligned columns for reading, behind a line with their names; for connections only.
     Text,
-    /// Values with tabs between them, as Zeek writes them, behind lines that name the fields and say what they are, and in front of one that tells the end.
+    /// Tab-separated values, as Zeek writes them: behind header lines with the fields' names and
+    /// types, and before a footer.
     Zeek,
-    /// An event of Suricata's eve.json, of a connection alone.
+    /// An event of Suricata's eve.json; for connections only.
     Suricata,
-    /// An event by the names of the Elastic Common Schema, of a connection alone.
+    /// An event of the Elastic Common Schema; for connections only.
     Ecs,
 }
 
-/// The formats, told once: they are handed to the macro that is named. A row has the name of the format, its variant, and whether it has fields of its own, and lines for connections
-/// alone. What writes its lines stands in style.rt, where each match has an arm for each.
+/// The formats, handed to the macro that is named, with what else is passed. A row has the name,
+/// its variant, and whether it has fields of its own and is for connections only. The lines
+/// themselves are written by style.rt, where each match has an arm for each format.
 macro_rules! formats {
-    ($then:ident) => {
+    ($then:ident $($given:tt)*) => {
         $then! {
+            $($given)*
             "json" Json false;
             "csv" Csv false;
             "text" Text true;
@@ -32,42 +35,59 @@ macro_rules! formats {
     };
 }
 
-/// Their names.
+/// Expands to the names of the formats.
 macro_rules! names_of {
     ($($name:literal $format:ident $has_own:literal;)*) => {
         &[$($name),*]
     };
 }
 
-/// Their rows.
-macro_rules! rows_of {
+/// Expands to the formats in the table's order.
+macro_rules! variants_of {
     ($($name:literal $format:ident $has_own:literal;)*) => {
-        &[$(($name, Format::$format, $has_own)),*]
+        &[$(Format::$format),*]
+    };
+}
+
+/// The name of a format. A variant without a row doesn't compile.
+macro_rules! name_of {
+    ($of:tt; $($name:literal $format:ident $has_own:literal;)*) => {
+        match $of {
+            $(Format::$format => $name,)*
+        }
+    };
+}
+
+/// Whether a format has fields of its own.
+macro_rules! has_own {
+    ($of:tt; $($name:literal $format:ident $has_own:literal;)*) => {
+        match $of {
+            $(Format::$format => $has_own,)*
+        }
     };
 }
 
 /// The names of the formats, the default first.
 pub static FORMAT_NAMES: &[&str] = formats!(names_of);
 
-static TABLE: &[(&str, Format, bool)] = formats!(rows_of);
+/// The format of lines if none is named: the first of [`FORMAT_NAMES`].
+pub const DEFAULT_FORMAT: Format = Format::Json;
+
+static FORMATS: &[Format] = formats!(variants_of);
 
 impl Format {
-    /// That of this name.
+    /// Returns the format of this name.
     pub fn named(name: &str) -> Option<Format> {
-        let found = TABLE.iter().find(|row| row.0 == name);
-        found.map(|row| row.1)
+        FORMATS.iter().find(|format| format.name() == name).copied()
     }
 
-    /// Its name.
+    /// The name of the format.
     pub fn name(self) -> &'static str {
-        match TABLE.iter().find(|row| row.1 == self) {
-            Some(row) => row.0,
-            None => "",
-        }
+        formats!(name_of self;)
     }
 
-    /// Whether it has fields of its own, and lines for connections alone.
+    /// Whether it has fields of its own, and lines for connections only.
     pub fn has_own_fields(self) -> bool {
-        TABLE.iter().any(|row| row.1 == self && row.2)
+        formats!(has_own self;)
     }
 }

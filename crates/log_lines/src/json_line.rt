@@ -1,4 +1,5 @@
-//! The line of a connection as an object of JSON. Each field is written as soon as it is told; what was written of the same list or certificate before is copied.
+//! The line of a connection as a JSON object. Each field is written as soon as it is computed. The
+//! text of a list or certificate that was written before is copied from a cache.
 use crate::style::Style;
 use log_fields::connection::tell;
 use log_fields::fields::{FIELDS, Field};
@@ -12,10 +13,10 @@ use serde::Serialize;
 use std::alloc::{AllocError, Global};
 use std::cell::RefCell;
 
-/// Most lists, and most of what is told of a certificate, are no longer than so many bytes.
+/// The length of most lists, and of most certificates' fields, is below this, in bytes.
 const PART_LEN: usize = 512;
 
-/// Adds what a field says to an object of JSON, under its name; nothing where it is missing.
+/// Adds a field to a JSON object, under its name, unless it is missing.
 #[derive(Drop)]
 struct Adds<'o> {
     alloc: Global,
@@ -26,14 +27,14 @@ struct Adds<'o> {
 }
 
 impl Adds<'_> {
-    /// The field with this value, apart from the line.
+    /// Returns the field with this value, apart from the line.
     fn written<T: Serialize>(&self, value: &T) -> Result<Vec<u8>, AllocError> {
         let mut part = Object::over(self.alloc, Vec::new(self.alloc), PART_LEN)?;
         part.add(self.name, value)?;
         Ok(part.into_fields())
     }
 
-    /// Adds a list: what was written of it before, if that is known.
+    /// Adds a list: its cached text if there is one.
     fn add_texts(&mut self, texts: &Texts<'_>) -> Result<(), AllocError> {
         if let Ok(known) = self.known.try_borrow() {
             if let Some(text) = known.list(self.place, texts) {
@@ -45,14 +46,14 @@ impl Adds<'_> {
         }
         let text = self.written(texts)?;
         self.line.add_fields(self.alloc, text.as_slice())?;
-        // Where memory to keep it is refused, the line stands all the same.
+        // (without memory for the cache the line is complete all the same)
         if let Ok(mut known) = self.known.try_borrow_mut() {
             let _kept = known.keep_list(self.alloc, self.place, texts, text.as_slice());
         }
         Ok(())
     }
 
-    /// The same of a list of codes.
+    /// Adds a list of codes: its cached text if there is one.
     fn add_codes(&mut self, codes: &[u8]) -> Result<(), AllocError> {
         if let Ok(known) = self.known.try_borrow() {
             if let Some(text) = known.codes(self.place, codes) {
@@ -85,7 +86,7 @@ impl<'a> TakesCell<'a> for Adds<'_> {
     }
 }
 
-/// Adds what the field of that name at that place says.
+/// Adds the field of this name and place.
 #[inline(always)]
 fn add_field<'a>(
     told: &mut Told<'a>,
@@ -105,7 +106,7 @@ fn add_field<'a>(
     tell(told, field, &mut adds)
 }
 
-/// The bytes of the certificate that a field is of, if it is of one that was sent.
+/// Returns the certificate that a field describes, if it was sent.
 fn certificate_of_field<'a>(told: &Told<'a>, field: &Field) -> Option<&'a [u8]> {
     match field {
         Field::ServerCertificate(_) => told.handshake.server_certificate.as_deref(),
@@ -114,7 +115,7 @@ fn certificate_of_field<'a>(told: &Told<'a>, field: &Field) -> Option<&'a [u8]> 
     }
 }
 
-/// Whether a field is of the same side's certificate as another.
+/// Returns whether two fields describe the same side's certificate.
 fn is_beside(field: &Field, other: &Field) -> bool {
     matches!(
         (field, other),
@@ -123,7 +124,7 @@ fn is_beside(field: &Field, other: &Field) -> bool {
     )
 }
 
-/// The places in front whose fields are of the same side's certificate as this one.
+/// Returns the first places whose fields describe the same side's certificate as this one.
 fn places_beside<'p>(field: &Field, places: &'p [usize]) -> &'p [usize] {
     let same = places.iter().take_while(|place| match FIELDS.get(**place) {
         Some((_, _, other)) => is_beside(field, other),
@@ -133,7 +134,7 @@ fn places_beside<'p>(field: &Field, places: &'p [usize]) -> &'p [usize] {
     places.get(..count).unwrap_or(places)
 }
 
-/// Adds what the fields at these places say of a certificate: what was written of it before, if that is known.
+/// Adds the fields of a certificate at these places: their cached text if there is one.
 fn add_certificate<'a>(
     told: &mut Told<'a>,
     known: &RefCell<KnownTexts>,
@@ -161,7 +162,8 @@ fn add_certificate<'a>(
     Ok(())
 }
 
-/// The line of a connection, with the fields at these places of [`FIELDS`], in which what is missing is left out, in that memory.
+/// Returns the line of a connection, with the fields at these places of [`FIELDS`] except missing
+/// ones. It reuses the memory of `room`.
 pub fn json_line<'a>(
     alloc: Global,
     style: &'a Style,
@@ -171,7 +173,7 @@ pub fn json_line<'a>(
 ) -> Result<Vec<u8>, AllocError> {
     let mut told = style.told(alloc, summary);
     let mut line = Object::over(alloc, room, LINE_LEN)?;
-    // So many fields are told.
+    // (how many of the places are done)
     let mut count = 0;
     for (at, place) in places.iter().enumerate() {
         let Some((name, _, field)) = FIELDS.get(*place) else {

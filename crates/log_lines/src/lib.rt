@@ -1,7 +1,11 @@
-//! The lines of a log of connections: what stands in one, and how it is written.
+//! Writes the lines of a log: connections, messages or certificates.
 //!
-//! [`Style`] says which lines there are, with which fields, and writes them: [`Style::connection_line`] is the line of a connection by its `Summary`,
-//! [`Style::message_line`] that of a message, and [`Style::certificate_line`] that of a certificate.
+//! [`Style`] holds which lines a log has, with which fields and in which format.
+//! [`Style::connection_line`] writes the line of a connection from its `Summary`,
+//! [`Style::message_line`] that of a message, and [`Style::certificate_line`] that of a
+//! certificate.
+//!
+//! This crate has no clauses, only tests.
 #![tactic(auto)]
 
 mod format;
@@ -10,5 +14,5 @@ mod presented;
 mod spoken;
 mod style;
 
-pub use format::{FORMAT_NAMES, Format};
+pub use format::{DEFAULT_FORMAT, FORMAT_NAMES, Format};
 pub use style::{LineKind, Lines, Style, StyleError};

@@ -14,13 +14,13 @@ use tls_flow::Direction;
 use tls_summary::certificate_fault;
 use x509::Certificate;
 
-/// Why a certificate isn't read, where it isn't.
+/// Returns why a certificate can't be parsed; `None` if it can.
 fn fault_cell(bytes: &[u8]) -> Option<Cell<'static>> {
     let fault = certificate_fault(bytes)?;
     Some(name_cell(fault_name(fault)))
 }
 
-/// What one field says of a certificate that came at this time.
+/// Returns a field of a certificate that was completed at this moment.
 fn detail_cell(
     moment: Moment<'_>,
     presented: &Presented,
@@ -49,7 +49,8 @@ fn detail_cell(
     }
 }
 
-/// The line of a certificate that came at this time, with the fields at these places of [`DETAILS`].
+/// Returns the line of a certificate that was completed at this moment, with the fields at these
+/// places of [`DETAILS`].
 pub fn certificate_row(
     alloc: Global,
     places: &[usize],

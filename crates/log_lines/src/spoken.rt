@@ -10,7 +10,7 @@ use log_formats::text::{name_cell, some_name};
 use log_messages::{Body, Spoken};
 use std::alloc::{AllocError, Global};
 
-/// What stands in a message, as JSON.
+/// Returns a message's fields as JSON.
 fn body_cell(alloc: Global, body: &Option<Box<Body>>) -> Result<Option<Cell<'static>>, AllocError> {
     match body {
         Some(body) => Ok(Some(Cell::Json(json_text(alloc, body, LINE_LEN)?))),
@@ -18,7 +18,7 @@ fn body_cell(alloc: Global, body: &Option<Box<Body>>) -> Result<Option<Cell<'sta
     }
 }
 
-/// What one field says of a message that was whole at this time.
+/// Returns a field of a message that was completed at this moment.
 fn part_cell(
     moment: Moment<'_>,
     spoken: &Spoken,
@@ -34,7 +34,8 @@ fn part_cell(
     }
 }
 
-/// The line of a message that was whole at this time, with the fields at these places of [`PARTS`].
+/// Returns the line of a message that was completed at this moment, with the fields at these places
+/// of [`PARTS`].
 pub fn message_row(
     alloc: Global,
     places: &[usize],

@@ -1,4 +1,4 @@
-//! What is printed, and how.
+//! Which lines a log has, and how they are written.
 use crate::format::Format;
 use crate::json_line::json_line;
 use crate::presented::certificate_row;
@@ -22,61 +22,61 @@ use std::cell::RefCell;
 use std::fmt::{self, Display, Formatter};
 use tls_fingerprints::KnownDigests;
 
-/// What has a line of its own.
+/// What gets a line.
 #[derive(Clone, Copy, Debug, PartialEq, Eq)]
 pub enum LineKind {
     /// Each connection, at its end.
     Connections,
-    /// Each message, as it comes.
+    /// Each message, when it is complete.
     Messages,
-    /// Each certificate, as it comes.
+    /// Each certificate, when it is complete.
     Certificates,
 }
 
-/// What has a line of its own, and the fields of that.
+/// What gets a line, and with which fields.
 #[derive(Drop)]
 pub enum Lines {
     /// Each connection, at its end: places in [`FIELDS`].
     Connections(Vec<usize>),
-    /// Each message, as it comes: places in [`PARTS`].
+    /// Each message, when it is complete: places in [`PARTS`].
     Messages(Vec<usize>),
-    /// Each certificate, as it comes: places in [`DETAILS`].
+    /// Each certificate, when it is complete: places in [`DETAILS`].
     Certificates(Vec<usize>),
 }
 
-/// What is printed, and how.
+/// Which lines a log has, and how they are written.
 #[derive(Drop)]
 pub struct Style {
-    /// How a line is written.
+    /// The format of lines.
     pub format: Format,
     /// How comma-separated values write texts that a spreadsheet takes for formulas.
     pub formulas: Formulas,
-    /// What has a line.
+    /// What gets a line.
     pub lines: Lines,
     /// The names of cipher suites.
     pub suites: Suites,
-    /// Digests of fingerprints that were made for lines. A line takes them out while it tells of one.
+    /// A cache of the digests of fingerprints. It is borrowed while a line computes one.
     pub digests: RefCell<KnownDigests>,
-    /// What was written of lists, suites by these names, and of certificates, in lines of JSON.
+    /// A cache of the text of lists, with these names of suites, and of certificates in JSON lines.
     pub(crate) texts: RefCell<KnownTexts>,
 }
 
-/// Why no such lines can be printed.
+/// Why a style isn't possible.
 #[derive(Drop)]
 pub enum StyleError<'a> {
-    /// The line of a connection has no field of that name.
+    /// A connection's line has no field of this name.
     UnknownField(&'a str),
-    /// The line of a message has no field of that name.
+    /// A message's line has no field of this name.
     UnknownPart(&'a str),
-    /// The line of a certificate has no field of that name.
+    /// A certificate's line has no field of this name.
     UnknownDetail(&'a str),
-    /// Both messages and certificates are to have lines.
+    /// Both messages and certificates should get lines.
     TwoKinds,
-    /// A format with fields of its own is asked for, and some of the log's.
+    /// Fields were chosen for a format with fixed fields.
     FieldsOfFormat(Format),
-    /// A format of connections alone is asked for, and that messages or certificates have lines.
+    /// Messages or certificates should get lines in a format for connections only.
     KindOfFormat(Format),
-    /// That field is named twice.
+    /// This field is named twice.
     DoubledField(&'a str),
     /// Memory ran out.
     OutOfMemory,
@@ -88,10 +88,10 @@ impl From<AllocError> for StyleError<'_> {
     }
 }
 
-/// Where the fields are told.
+/// Where all fields are listed.
 const TOLD: &str = "docs/TLSLOG.md and the manual page have all";
 
-/// Writes the field of a table whose name is nearest to that, or where all are told.
+/// Writes the field name nearest to `name`, or where all fields are listed.
 fn write_nearest<T, W: fmt::Write>(
     table: &[Column<T>],
     name: &str,
@@ -137,7 +137,7 @@ impl Display for StyleError<'_> {
     }
 }
 
-/// All places in a table of so many fields.
+/// Returns all places in a table of this many fields.
 fn all_places(alloc: Global, count: usize) -> Result<Vec<usize>, AllocError> {
     let mut all = Vec::with_capacity(alloc, count)?;
     for place in 0..count {
@@ -146,7 +146,8 @@ fn all_places(alloc: Global, count: usize) -> Result<Vec<usize>, AllocError> {
     Ok(all)
 }
 
-/// The places of the fields of these names, in the names' order; all of the table where none are named.
+/// Returns the places of the fields with these names, in the same order, or all places if no names
+/// are given.
 fn chosen<'a, T>(
     alloc: Global,
     table: &[Column<T>],
@@ -171,7 +172,8 @@ fn chosen<'a, T>(
 }
 
 impl Lines {
-    /// Those of that kind, with these fields, whose names stand with `,` between them; with all where none are named.
+    /// Returns the lines of this kind, with the fields whose names are given, separated by `,`, or
+    /// all if none are given.
     pub fn new(
         alloc: Global,
         kind: LineKind,
@@ -193,7 +195,7 @@ impl Lines {
     }
 }
 
-/// What stands in a log of Zeek's in front of its lines.
+/// Returns the header of a Zeek log.
 fn zeek_header(alloc: Global, lines: &Lines, opened: i64) -> Result<String, AllocError> {
     match lines {
         Lines::Connections(places) => {
@@ -208,7 +210,7 @@ fn zeek_header(alloc: Global, lines: &Lines, opened: i64) -> Result<String, Allo
     }
 }
 
-/// A line of a log of Zeek's.
+/// Returns a line of a Zeek log.
 fn zeek_line(alloc: Global, lines: &Lines, row: &Row<'_>) -> Result<String, AllocError> {
     match lines {
         Lines::Connections(places) => zeek::line(alloc, FIELDS, places.as_slice(), row),
@@ -217,7 +219,7 @@ fn zeek_line(alloc: Global, lines: &Lines, row: &Row<'_>) -> Result<String, Allo
     }
 }
 
-/// The line of names in front of comma-separated values.
+/// Returns the line of names before comma-separated values.
 fn csv_header(alloc: Global, lines: &Lines) -> Result<Vec<u8>, AllocError> {
     match lines {
         Lines::Connections(places) => comma::header(alloc, FIELDS, places.as_slice()),
@@ -227,9 +229,9 @@ fn csv_header(alloc: Global, lines: &Lines) -> Result<Vec<u8>, AllocError> {
 }
 
 impl Style {
-    /// That which is asked for.
+    /// Returns a style with these options.
     ///
-    /// A format with fields of its own is of connections alone, and has all of its fields.
+    /// A format with fixed fields is for connections only, and writes all of its fields.
     pub fn new(
         alloc: Global,
         format: Format,
@@ -256,12 +258,13 @@ impl Style {
         })
     }
 
-    /// Whether the line of a connection has the certificates of its chains.
+    /// Returns whether the line of a connection has the certificates of its chains.
     pub fn has_chains(&self) -> bool {
         self.format == Format::Suricata
     }
 
-    /// What stands in front of all lines, without its last line break, if there is something. The log begins at this time, in seconds since 1970-01-01 00:00 UTC.
+    /// Returns what comes before all lines, without its last line break, if there is something.
+    /// `opened` is the log's start, in seconds since 1970-01-01 00:00 UTC.
     pub fn header(&self, alloc: Global, opened: i64) -> Result<Option<Vec<u8>>, AllocError> {
         match self.format {
             Format::Json | Format::Suricata | Format::Ecs => Ok(None),
@@ -271,7 +274,8 @@ impl Style {
         }
     }
 
-    /// The same of what stands behind all, where the log ends at this time.
+    /// Returns what comes behind all lines, without its last line break, if there is something.
+    /// `closed` is the log's end, in seconds since 1970-01-01 00:00 UTC.
     pub fn footer(&self, alloc: Global, closed: i64) -> Result<Option<Vec<u8>>, AllocError> {
         match self.format {
             Format::Zeek => Ok(Some(zeek::footer(alloc, closed)?.into_bytes())),
@@ -279,12 +283,12 @@ impl Style {
         }
     }
 
-    /// A connection, as it is told in this style.
+    /// Returns a connection with this style's names and caches.
     pub(crate) fn told<'a>(&'a self, alloc: Global, summary: &'a Summary<'a>) -> Told<'a> {
         Told::new(alloc, &self.suites, &self.digests, summary)
     }
 
-    /// A line, without its line break.
+    /// Returns a line, without its line break.
     fn line(&self, alloc: Global, row: &Row<'_>) -> Result<Vec<u8>, AllocError> {
         match self.format {
             Format::Json | Format::Text | Format::Suricata | Format::Ecs => json_row(alloc, row),
@@ -293,8 +297,8 @@ impl Style {
         }
     }
 
-    /// The line of a connection, with the fields at these places of [`FIELDS`], without its line break. One of JSON is written to that memory, in place of what it
-    /// holds.
+    /// Returns the line of a connection, with the fields at these places of [`FIELDS`], without its
+    /// line break. A JSON line reuses the memory of `room`.
     pub fn connection_line(
         &self,
         alloc: Global,
@@ -314,7 +318,8 @@ impl Style {
         }
     }
 
-    /// The line of a message that was whole at this time, with the fields at these places of [`PARTS`], without its line break.
+    /// Returns the line of a message that was completed at this time, with the fields at these
+    /// places of [`PARTS`], without its line break.
     pub fn message_line(
         &self,
         alloc: Global,
@@ -327,7 +332,8 @@ impl Style {
         self.line(alloc, &row)
     }
 
-    /// The line of a certificate that came at this time, with the fields at these places of [`DETAILS`], without its line break.
+    /// Returns the line of a certificate that was completed at this time, with the fields at these
+    /// places of [`DETAILS`], without its line break.
     pub fn certificate_line(
         &self,
         alloc: Global,

@@ -1,4 +1,5 @@
-//! Connections for eyes: one a line, in columns, of at most 160 characters. Values that are longer than their column are cut.
+//! Connections as readable text: one a line, in aligned columns, at most 160 characters. Values
+//! longer than their column are truncated.
 use connections::End;
 use log_fields::connection::{cell_of, microseconds};
 use log_fields::fields::{Course, Field, Named, Print};
@@ -10,10 +11,10 @@ use std::alloc::{AllocError, Global};
 use std::net::IpAddr;
 use x509_text::time_text;
 
-/// What stands for a value that is missing.
+/// A missing value.
 const UNSET: &str = "-";
 
-/// What stands for the part of a value that is cut off.
+/// The truncated part of a value.
 const CUT: &str = "..";
 
 /// What a column shows.
@@ -21,26 +22,27 @@ const CUT: &str = "..";
 enum Shown {
     /// A field of the connection's line.
     Same(Field),
-    /// When it began.
+    /// The start time.
     Time,
     /// The originator's address.
     Client,
     /// The responder's address and port.
     Server,
-    /// The cipher suite without the `TLS_` in front.
+    /// The cipher suite without its `TLS_` prefix.
     Suite,
-    /// How many seconds it took.
+    /// The duration in seconds.
     Duration,
 }
 
-/// Which end of a value is left where it is cut.
+/// Which end of a truncated value is kept.
 #[derive(Clone, Copy)]
 enum Left {
     Front,
     Back,
 }
 
-/// The columns: the name, how wide it is, which end of a value is left, and what it shows.
+/// The columns: the name, the width in characters, which end of a truncated value is kept, and what
+/// it shows.
 static COLUMNS: [(&str, usize, Left, Shown); 10] = [
     ("time (UTC)", 14, Left::Front, Shown::Time),
     ("client", 15, Left::Back, Shown::Client),
@@ -79,7 +81,7 @@ static COLUMNS: [(&str, usize, Left, Shown); 10] = [
     ),
 ];
 
-/// A value as text.
+/// Returns a value as text.
 fn cell_text(alloc: Global, cell: Option<Cell<'_>>) -> Result<String, AllocError> {
     match cell {
         None => String::from_str(alloc, UNSET),
@@ -88,7 +90,7 @@ fn cell_text(alloc: Global, cell: Option<Cell<'_>>) -> Result<String, AllocError
     }
 }
 
-/// The month, day and time of day of the first packet.
+/// Returns the month, day and time of day of the first packet.
 fn time_of(alloc: Global, summary: &Summary<'_>) -> Result<String, AllocError> {
     let seconds = (summary.first_time / 1_000_000_000) as i64;
     let Some(whole) = time_text(alloc, seconds)? else {
@@ -104,7 +106,7 @@ fn time_of(alloc: Global, summary: &Summary<'_>) -> Result<String, AllocError> {
     Ok(text)
 }
 
-/// An address and port; one of IPv6 in brackets (RFC 3986, section 3.2.2).
+/// Returns an address and port, with an IPv6 address in brackets (RFC 3986, section 3.2.2).
 fn end_text(alloc: Global, end: End) -> Result<String, AllocError> {
     match end.address {
         IpAddr::V4(address) => format!(in alloc; "{address}:{}", end.port),
@@ -112,7 +114,7 @@ fn end_text(alloc: Global, end: End) -> Result<String, AllocError> {
     }
 }
 
-/// How many seconds a connection took, in at most 6 characters up to 11 days.
+/// Returns the duration of a connection in seconds, in at most 6 characters up to 11 days.
 fn duration_text(alloc: Global, summary: &Summary<'_>) -> Result<String, AllocError> {
     let duration = summary.last_time.saturating_sub(summary.first_time);
     let milliseconds = microseconds(duration) / 1000;
@@ -124,7 +126,7 @@ fn duration_text(alloc: Global, summary: &Summary<'_>) -> Result<String, AllocEr
     }
 }
 
-/// The cipher suite.
+/// Returns the cipher suite without its `TLS_` prefix.
 fn suite_text(alloc: Global, told: &mut Told<'_>) -> Result<String, AllocError> {
     let text = cell_text(alloc, cell_of(told, &Field::Named(Named::Cipher))?)?;
     match text.as_str().strip_prefix("TLS_") {
@@ -133,7 +135,7 @@ fn suite_text(alloc: Global, told: &mut Told<'_>) -> Result<String, AllocError> 
     }
 }
 
-/// What a column shows of a connection.
+/// Returns the text of a column for a connection.
 fn shown_text(alloc: Global, told: &mut Told<'_>, shown: Shown) -> Result<String, AllocError> {
     let summary = told.summary;
     match shown {
@@ -146,7 +148,8 @@ fn shown_text(alloc: Global, told: &mut Told<'_>, shown: Shown) -> Result<String
     }
 }
 
-/// The text, in which each byte that isn't printable ASCII is told by its digits: so a terminal takes nothing of it for an order.
+/// Escapes each byte that isn't printable ASCII, so that no text contains a terminal's control
+/// sequences.
 fn printable(alloc: Global, text: &str) -> Result<String, AllocError> {
     let mut shown = String::new(alloc);
     for byte in text.as_bytes() {
@@ -158,7 +161,7 @@ fn printable(alloc: Global, text: &str) -> Result<String, AllocError> {
     Ok(shown)
 }
 
-/// Adds these bytes, which are printable ASCII.
+/// Appends these bytes, which are printable ASCII.
 fn add_bytes(line: &mut String, bytes: &[u8]) -> Result<(), AllocError> {
     for byte in bytes {
         line.push(char::from(*byte))?;
@@ -166,7 +169,8 @@ fn add_bytes(line: &mut String, bytes: &[u8]) -> Result<(), AllocError> {
     Ok(())
 }
 
-/// Adds a text of printable ASCII in so many characters, of which one end is left where it is longer.
+/// Appends a text of printable ASCII, truncated to `width` characters. `left` is the end that is
+/// kept.
 fn add_cut(line: &mut String, text: &[u8], width: usize, left: Left) -> Result<(), AllocError> {
     let room = width.saturating_sub(CUT.len());
     if text.len() <= width {
@@ -185,7 +189,7 @@ fn add_cut(line: &mut String, text: &[u8], width: usize, left: Left) -> Result<(
     }
 }
 
-/// Adds a text as the next column of so many characters, behind a blank.
+/// Appends a text as the next column, `width` characters wide, behind a space.
 fn add_column(
     alloc: Global,
     line: &mut String,
@@ -204,7 +208,7 @@ fn add_column(
     Ok(())
 }
 
-/// The line without the blanks at its end.
+/// Returns the line without the spaces at its end.
 fn without_end(line: String) -> Vec<u8> {
     let mut bytes = line.into_bytes();
     'blanks: for _ in 0..bytes.len() {
@@ -216,7 +220,7 @@ fn without_end(line: String) -> Vec<u8> {
     bytes
 }
 
-/// The names of the columns, without a line break.
+/// Returns the line of column names, without a line break.
 pub fn header(alloc: Global) -> Result<Vec<u8>, AllocError> {
     let mut line = String::new(alloc);
     for (name, width, left, _shown) in &COLUMNS {
@@ -225,7 +229,7 @@ pub fn header(alloc: Global) -> Result<Vec<u8>, AllocError> {
     Ok(without_end(line))
 }
 
-/// The line of a connection, without a line break.
+/// Returns the line of a connection, without a line break.
 pub fn line(told: Told<'_>) -> Result<Vec<u8>, AllocError> {
     let alloc = told.alloc;
     let mut told = told;

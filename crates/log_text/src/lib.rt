@@ -1,4 +1,7 @@
-//! Connections for eyes: a line of columns for each, [`line`], behind that of their names, [`header`].
+//! Writes connections as readable text: [`header`] is the line of column names, and [`line`] that
+//! of a connection, in aligned columns.
+//!
+//! This crate has no clauses, only tests.
 #![tactic(auto)]
 
 mod aligned;

@@ -1,7 +1,12 @@
-//! The networks that the packets of a capture came in, numbered, so that connections with the same addresses in several are told apart.
+//! Numbers the networks of a capture's packets, so that connections with the same addresses in
+//! several networks are told apart.
 //!
-//! A [`Network`] is the VLANs and the tunnels of a packet. [`Networks`] gives each a number that no other has, as long as it is held: at most
-//! [`MAX_NETWORKS`] are.
+//! A [`Network`] is a packet's VLANs and tunnels. [`Networks`] gives each a number that no other
+//! network ever gets. It remembers at most [`MAX_NETWORKS`]; a network that was forgotten gets
+//! another number when it reappears.
+//!
+//! Promise: [`Networks::number`] returns what `Networks.number_of` in `specs/` defines. [`laws`]
+//! proves that packets with the same number came in the same network.
 #![tactic(auto)]
 
 pub mod laws;

@@ -10,19 +10,20 @@ use std::marker::Model;
 use std::num::NonZeroUsize;
 use tunnels::Tunnels;
 
-/// The most networks that are held. Where there is one more, that is forgotten which was longest without a packet.
+/// The most networks that are remembered. Beyond that the least recently used is forgotten.
 pub const MAX_NETWORKS: usize = 65_536;
 
-/// The network that a packet came in: another one has another list of VLANs, or of tunnels, by their kinds and numbers.
+/// The network of a packet. Networks differ in their list of VLANs, or in the protocols or
+/// identifiers of their tunnels.
 #[derive(Clone, Copy, Debug, PartialEq, Eq, Hash)]
 pub struct Network {
-    /// The VLANs of its tags, from outside in.
+    /// The VLAN identifiers, outermost first.
     pub vlans: VlanTags,
-    /// The tunnels that it came in, from outside in.
+    /// The tunnels, outermost first.
     pub tunnels: Tunnels,
 }
 
-/// The networks that are held, each by its number.
+/// The remembered networks and their numbers.
 #[derive(Drop)]
 pub struct Networks {
     held: LruCache<Network, u64, RandomState>,
@@ -42,7 +43,8 @@ impl Model for Networks {
 }
 
 impl Networks {
-    /// None. The keys are for the hashes, so that nobody who doesn't know them can choose networks whose hashes are the same.
+    /// Returns an empty table. `keys` keys its hashes, so that nobody without the keys can choose
+    /// networks whose hashes collide.
     pub fn new(alloc: Global, keys: RandomState) -> Result<Networks, AllocError>
         ensures { IfOk result (λ t. t ≡ record { held = []; last = 0 }) }
     {
@@ -55,9 +57,11 @@ impl Networks {
         })
     }
 
-    /// The number of the network of a packet: the one that it has; or, where it isn't held, the next that was never given, from 1 on.
+    /// Returns the number of a packet's network: the one that it has, or else the next that was
+    /// never given, from 1 on. The network becomes the most recently used.
     ///
-    /// `AllocError` where one more could not be held, or all numbers were given. Nothing changes then.
+    /// `AllocError` if there is no memory for a new network, or no number is left. Nothing changes
+    /// then.
     #[tactic(auto, using(crate::proofs::NumberLemmas::put_new))]
     pub fn number(&mut self, network: Network) -> Result<u64, AllocError>
         ensures number { IfOk result (λ number. number ≡ number_of network self.old) }

@@ -1,4 +1,4 @@
--- What stands in front of a capture's bytes, where further bytes follow.
+-- The item at the front of a capture's bytes, when more bytes follow.
 use Rattle.std.proofs.Common.{◌≡◌, ℕ, ◌+◌, ◌-◌, ◌<◌, [], ◌++◌, drop, length, Ok, Err, Some, None, Bool, true, false}
 use Rattle.std.proofs.Common.{cond, refl, ap, subst, sym, ◌∙◌, arith}
 use Rattle.std.specs.Prelude.{◌==◌, ⊤}
@@ -17,7 +17,8 @@ use Rattle.packets.specs.Front.{form_front, pcap_front, heard_front, block_front
 use Rattle.packets.proofs.LayoutLemmas.{LeavesEnd, LeavesLess, leaves, next_block_leaves, header_stable, packet_stable}
 use Rattle.packets.proofs.LayoutLemmas.{next_block_stays, header_less, packet_less, next_block_less}
 
-header_longer : (x : Bytes) (a b : Answer pcap.Header) → Stays x a b → Longer x (header_front a) (header_front b)
+header_longer : (x : Bytes) (a b : Answer pcap.Header) → Stays x a b
+    → Longer x (header_front a) (header_front b)
 header_longer x (Ok v) b e = ap header_front e
 header_longer x (Err (Broken k)) b e = ap header_front e
 header_longer x (Err (Lacks n)) b e = tt
@@ -27,11 +28,14 @@ form_picked : (t : Bool) (b x : Bytes) → Longer x
     (cond t (Ok (Other (b ++ x), Blocks beginning)) (header_front (reading pcap.header (b ++ x))))
 form_picked true b x = refl
 form_picked false b x =
-    header_longer x (reading pcap.header b) (reading pcap.header (b ++ x)) (stays pcap.header header_stable b x)
+    header_longer x (reading pcap.header b) (reading pcap.header (b ++ x))
+    (stays pcap.header header_stable b x)
 
-form_longer : (b x : Bytes) (a c : Answer ℕ) → Stays x a c → Longer x (form_front a b) (form_front c (b ++ x))
+form_longer : (b x : Bytes) (a c : Answer ℕ) → Stays x a c
+    → Longer x (form_front a b) (form_front c (b ++ x))
 form_longer b x (Ok v) c e =
-    subst (λ z. Longer x (form_front (Ok v) b) (form_front z (b ++ x))) (sym e) (form_picked (v.0 == SECTION) b x)
+    subst (λ z. Longer x (form_front (Ok v) b) (form_front z (b ++ x))) (sym e)
+    (form_picked (v.0 == SECTION) b x)
 form_longer b x (Err k) c e = tt
 
 pcap_longer : (format : pcap.Format) (link : ℕ) (x : Bytes) (a b : Answer pcap.Packet) → Stays x a b
@@ -48,7 +52,8 @@ heard_longer r x (Err e) = refl
 block_longer : (s : Section) (x : Bytes) (a b : Answer Block) → Stays x a b
     → Longer x (block_front s a) (block_front s b)
 block_longer s x (Ok v) b e =
-    subst (λ z. Longer x (block_front s (Ok v)) (block_front s z)) (sym e) (heard_longer v.1 x (hear s v.0))
+    subst (λ z. Longer x (block_front s (Ok v)) (block_front s z)) (sym e)
+    (heard_longer v.1 x (hear s v.0))
 block_longer s x (Err (Broken k)) b e = ap (block_front s) e
 block_longer s x (Err (Lacks n)) b e = tt
 
@@ -56,26 +61,28 @@ pub front_longer : (s : State) (b x : Bytes) → Longer x (front s b) (front s (
 front_longer Unknown b x =
     form_longer b x (reading (number 4) b) (reading (number 4) (b ++ x)) (stays (number 4) tt b x)
 front_longer (Pcap format link) b x =
-    pcap_longer format link x (reading (pcap.packet format) b) (reading (pcap.packet format) (b ++ x))
+    pcap_longer format link x (reading (pcap.packet format) b)
+    (reading (pcap.packet format) (b ++ x))
     (stays (pcap.packet format) (packet_stable format) b x)
 front_longer (Blocks s) b x =
     block_longer s x (reading (next_block s.order) b) (reading (next_block s.order) (b ++ x))
     (next_block_stays s.order b x)
 
--- How many steps at most bytes have: one for each byte, and one to find the form.
+-- The most steps that bytes take: one for each byte, and one to recognize the format.
 abbrev pub steps : State → Bytes → ℕ
 steps Unknown b = 1 + length b
 steps (Pcap format link) b = length b
 steps (Blocks s) b = length b
 
--- Behind it fewer steps are left.
+-- An item leaves fewer steps behind it.
 abbrev pub Takes : ℕ → Said → Type 0
 Takes n (Ok (Captured p r, s)) = steps s r < n
 Takes n (Ok (Other r, s)) = steps s r < n
 Takes n (Ok (Wait, s)) = ⊤
 Takes n (Err e) = ⊤
 
-header_takes : (b : Bytes) (a : Answer pcap.Header) → LeavesLess b a → Takes (1 + length b) (header_front a)
+header_takes : (b : Bytes) (a : Answer pcap.Header) → LeavesLess b a
+    → Takes (1 + length b) (header_front a)
 header_takes b (Ok v) short = omega (arith, short)
 header_takes b (Err (Broken k)) short = tt
 header_takes b (Err (Lacks n)) short = tt
@@ -100,17 +107,20 @@ heard_takes n r (Ok (Some p, s)) short = short
 heard_takes n r (Ok (None, s)) short = short
 heard_takes n r (Err e) short = tt
 
-block_takes : (s : Section) (b : Bytes) (a : Answer Block) → LeavesLess b a → Takes (length b) (block_front s a)
+block_takes : (s : Section) (b : Bytes) (a : Answer Block) → LeavesLess b a
+    → Takes (length b) (block_front s a)
 block_takes s b (Ok v) short = heard_takes (length b) v.1 (hear s v.0) short
 block_takes s b (Err (Broken k)) short = tt
 block_takes s b (Err (Lacks n)) short = tt
 
 pub front_takes : (s : State) (b : Bytes) → Takes (steps s b) (front s b)
 front_takes Unknown b = form_takes b (reading (number 4) b)
-front_takes (Pcap format link) b = pcap_takes format link b (reading (pcap.packet format) b) (packet_less format b)
-front_takes (Blocks s) b = block_takes s b (reading (next_block s.order) b) (next_block_less s.order b)
+front_takes (Pcap format link) b =
+    pcap_takes format link b (reading (pcap.packet format) b) (packet_less format b)
+front_takes (Blocks s) b =
+    block_takes s b (reading (next_block s.order) b) (next_block_less s.order b)
 
--- Where the bytes are too few to say, nothing more is known.
+-- With too few bytes the state doesn't change.
 abbrev pub Waits : State → Said → Type 0
 Waits s (Ok (Wait, t)) = t ≡ s
 Waits s y = ⊤
@@ -150,7 +160,7 @@ front_waits Unknown b = form_waits b (reading (number 4) b)
 front_waits (Pcap format link) b = pcap_waits format link (reading (pcap.packet format) b)
 front_waits (Blocks s) b = block_waits s (reading (next_block s.order) b)
 
--- What follows is an end of the bytes.
+-- The bytes behind the item are an end of all bytes.
 abbrev pub FiveTuple : Bytes → Said → Type 0
 FiveTuple b (Ok (Captured p r, s)) = EndsWith b r
 FiveTuple b (Ok (Other r, s)) = EndsWith b r
@@ -165,7 +175,8 @@ header_ends b (Err (Lacks n)) end = tt
 form_ends_picked : (t : Bool) (b : Bytes) → FiveTuple b
     (cond t (Ok (Other b, Blocks beginning)) (header_front (reading pcap.header b)))
 form_ends_picked true b = ([], refl)
-form_ends_picked false b = header_ends b (reading pcap.header b) (leaves pcap.header header_stable b)
+form_ends_picked false b =
+    header_ends b (reading pcap.header b) (leaves pcap.header header_stable b)
 
 form_ends : (b : Bytes) (a : Answer ℕ) → FiveTuple b (form_front a b)
 form_ends b (Ok v) = form_ends_picked (v.0 == SECTION) b
@@ -182,7 +193,8 @@ heard_ends b r (Ok (Some p, s)) end = end
 heard_ends b r (Ok (None, s)) end = end
 heard_ends b r (Err e) end = tt
 
-block_ends : (s : Section) (b : Bytes) (a : Answer Block) → LeavesEnd b a → FiveTuple b (block_front s a)
+block_ends : (s : Section) (b : Bytes) (a : Answer Block) → LeavesEnd b a
+    → FiveTuple b (block_front s a)
 block_ends s b (Ok v) end = heard_ends b v.1 (hear s v.0) end
 block_ends s b (Err (Broken k)) end = tt
 block_ends s b (Err (Lacks n)) end = tt
@@ -190,11 +202,14 @@ block_ends s b (Err (Lacks n)) end = tt
 pub front_ends : (s : State) (b : Bytes) → FiveTuple b (front s b)
 front_ends Unknown b = form_ends b (reading (number 4) b)
 front_ends (Pcap format link) b =
-    pcap_ends format link b (reading (pcap.packet format) b) (leaves (pcap.packet format) (packet_stable format) b)
-front_ends (Blocks s) b = block_ends s b (reading (next_block s.order) b) (next_block_leaves s.order b)
+    pcap_ends format link b (reading (pcap.packet format) b)
+    (leaves (pcap.packet format) (packet_stable format) b)
+front_ends (Blocks s) b =
+    block_ends s b (reading (next_block s.order) b) (next_block_leaves s.order b)
 
--- an end of the bytes is what is left of them by its length
+-- an end of the bytes is found by its length
 pub last_bytes : (b r : Bytes) → EndsWith b r → drop (length b - length r) b ≡ r
 last_bytes b r (front, e) =
-    let counted : length b - length r ≡ length front = omega (arith, ap length e, length-append front r) in
+    let counted : length b - length r ≡ length front =
+    omega (arith, ap length e, length-append front r) in
     ap (λ n. drop n b) counted ∙ ap (drop (length front)) e ∙ drop-append_seam front r

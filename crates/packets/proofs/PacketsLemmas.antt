@@ -13,8 +13,9 @@ followed_same (Ok (Other r, s)) b n f g less same = same s r less
 followed_same (Ok (Wait, s)) b n f g less same = refl
 followed_same (Err e) b n f g less same = refl
 
--- more steps than there can be change nothing
-enough : (n m : ℕ) (s : State) (b : Bytes) → steps s b < n → steps s b < m → packets_in n s b ≡ packets_in m s b
+-- more steps than needed change nothing
+enough : (n m : ℕ) (s : State) (b : Bytes) → steps s b < n → steps s b < m
+    → packets_in n s b ≡ packets_in m s b
 unfolding packets_in
 enough zero m s b few more = absurd (omega (arith, few))
 enough (suc n) zero s b few more = absurd (omega (arith, more))
@@ -27,17 +28,20 @@ few_steps Unknown b = omega arith
 few_steps (Pcap format link) b = omega arith
 few_steps (Blocks s) b = omega arith
 
--- what stands in front, and then the packets of what follows
+-- the item at the front, and then the packets of the bytes behind it
 pub one_step : (s : State) (b : Bytes) → packets_from s b ≡ followed (front s b) b packets_from
 unfolding packets_in packets_from
 one_step s b =
-    followed_same (front s b) b (steps s b) (packets_in (suc (length b))) packets_from (front_takes s b)
-    (λ t r less. enough (suc (length b)) (suc (suc (length r))) t r (omega (arith, few_steps s b, less))
+    followed_same (front s b) b (steps s b) (packets_in (suc (length b))) packets_from
+    (front_takes s b)
+    (λ t r less. enough (suc (length b)) (suc (suc (length r))) t r
+    (omega (arith, few_steps s b, less))
     (omega (arith, few_steps t r)))
 
--- The packets of all bytes, by what stands in front of the first of them.
+-- The packets of all bytes, by the item at the front of the first of them.
 abbrev pub Stands : Bytes → Packets → Said → Type 0
-Stands x all (Ok (Captured p r, s)) = all ≡ (p ∷ (packets_from s (r ++ x)).0, (packets_from s (r ++ x)).1)
+Stands x all (Ok (Captured p r, s)) =
+    all ≡ (p ∷ (packets_from s (r ++ x)).0, (packets_from s (r ++ x)).1)
 Stands x all (Ok (Other r, s)) = all ≡ packets_from s (r ++ x)
 Stands x all (Ok (Wait, s)) = ⊤
 Stands x all (Err e) = all ≡ ([], Refused e)
@@ -48,7 +52,8 @@ stands_by x b (Ok (Other r, s)) y e = ap (λ z. followed z b packets_from) e
 stands_by x b (Ok (Wait, s)) y e = tt
 stands_by x b (Err k) y e = ap (λ z. followed z b packets_from) e
 
-stands_same : (x : Bytes) (all all' : Packets) (a : Said) → all ≡ all' → Stands x all' a → Stands x all a
+stands_same : (x : Bytes) (all all' : Packets) (a : Said) → all ≡ all' → Stands x all' a
+    → Stands x all a
 stands_same x all all' (Ok (Captured p r, s)) e h = e ∙ h
 stands_same x all all' (Ok (Other r, s)) e h = e ∙ h
 stands_same x all all' (Ok (Wait, s)) e h = tt
@@ -56,5 +61,6 @@ stands_same x all all' (Err k) e h = e ∙ h
 
 pub stands : (s : State) (b x : Bytes) → Stands x (packets_from s (b ++ x)) (front s b)
 stands s b x =
-    stands_same x (packets_from s (b ++ x)) (followed (front s (b ++ x)) (b ++ x) packets_from) (front s b)
+    stands_same x (packets_from s (b ++ x)) (followed (front s (b ++ x)) (b ++ x) packets_from)
+    (front s b)
     (one_step s (b ++ x)) (stands_by x (b ++ x) (front s b) (front s (b ++ x)) (front_longer s b x))

@@ -1,4 +1,4 @@
--- What stands in front of a capture's bytes.
+-- The item at the front of a capture's bytes.
 use Rattle.std.specs.Prelude.{◌≡◌, ℕ, ◌==◌, if◌then◌else◌, Option, Some, None, Result, Ok, Err, List, ◌++◌, ⊤}
 use Rattle.std.specs.Borrow.{Bor}
 use Rattle.layouts.specs.Bytes.{Bytes}
@@ -16,7 +16,7 @@ use Rattle.packets.specs.declared.reader.Step.TheVariants as step
 use Rattle.packets.specs.declared.reader.CaptureError.{CaptureError}
 use Rattle.packets.specs.declared.reader.CaptureError.TheVariants as error
 
--- What is known of a capture: nothing yet; the form of a pcap file's packets, and their link type; a section.
+-- What is known of a capture: nothing yet; a pcap file's format and link type; or a pcapng section.
 pub data State : Type 0 where
   Unknown : State
   Pcap : pcap.Format → ℕ → State
@@ -27,7 +27,7 @@ view_form form.Unknown = Unknown
 view_form (form.Pcap format link) = Pcap (pcap.view_format format) link
 view_form (form.Blocks section) = Blocks (view_section section)
 
--- A packet and what follows it, something else and what follows it, or too few bytes to say.
+-- A packet and the bytes behind it, another item and the bytes behind it, or too few bytes.
 pub data Front : Type 0 where
   Captured : Packet → Bytes → Front
   Other : Bytes → Front
@@ -38,7 +38,7 @@ view_step (step.Packet p rest) = Captured (view_packet p) rest.now
 view_step (step.Other rest) = Other rest.now
 view_step step.Wait = Wait
 
--- What stands in front, and what is known behind it; or why nothing can.
+-- The item at the front, and the state behind it; or an error.
 abbrev pub Said : Type 0
 Said = Result (Front × State) CaptureError
 
@@ -48,11 +48,12 @@ header_front (Ok x) = Ok (Other x.1, Pcap x.0.format x.0.link_type)
 header_front (Err (Lacks n)) = Ok (Wait, Unknown)
 header_front (Err (Broken kind)) = Err error.NoCapture
 
--- A capture in blocks begins with the type of a Section Header Block, which is left for its section to read; another
--- with the header of a pcap file.
+-- A pcapng file begins with the type of a Section Header Block, which is left for the section's
+-- parser. Any other capture begins with a pcap header.
 abbrev pub form_front : Answer ℕ → Bytes → Said
 form_front (Err e) b = Ok (Wait, Unknown)
-form_front (Ok x) b = if x.0 == SECTION then Ok (Other b, Blocks beginning) else header_front (reading pcap.header b)
+form_front (Ok x) b = if x.0 == SECTION then
+    Ok (Other b, Blocks beginning) else header_front (reading pcap.header b)
 
 -- A packet of a pcap file.
 abbrev pub pcap_front : pcap.Format → ℕ → Answer pcap.Packet → Said
@@ -68,7 +69,7 @@ pcap_front format link (Ok x) = Ok (
 pcap_front format link (Err (Lacks n)) = Ok (Wait, Pcap format link)
 pcap_front format link (Err (Broken kind)) = Err error.Broken
 
--- What a block says, and the bytes behind it.
+-- A block's result, and the bytes behind it.
 abbrev pub heard_front : Bytes → Heard → Said
 heard_front rest (Ok (Some p, s)) = Ok (Captured p rest, Blocks s)
 heard_front rest (Ok (None, s)) = Ok (Other rest, Blocks s)
@@ -80,31 +81,32 @@ block_front s (Ok x) = heard_front x.1 (hear s x.0)
 block_front s (Err (Lacks n)) = Ok (Wait, Blocks s)
 block_front s (Err (Broken kind)) = Err error.Broken
 
--- What stands in front of these bytes, by what is known of the bytes before them.
+-- The item at the front of these bytes, by the state behind the bytes before them.
 abbrev pub front : State → Bytes → Said
 front Unknown b = form_front (reading (number 4) b) b
 front (Pcap format link) b = pcap_front format link (reading (pcap.packet format) b)
 front (Blocks s) b = block_front s (reading (next_block s.order) b)
 
--- Where x follows the bytes, the same stands in front of them, and x at the end of what follows; unless they were too few
--- to say.
+-- When x follows the bytes, the item at their front is the same, and the bytes behind it end with
+-- x. Too few bytes may become enough.
 abbrev pub Longer : Bytes → Said → Said → Type 0
 Longer x (Ok (Captured p r, s)) y = y ≡ Ok (Captured p (r ++ x), s)
 Longer x (Ok (Other r, s)) y = y ≡ Ok (Other (r ++ x), s)
 Longer x (Ok (Wait, s)) y = ⊤
 Longer x (Err e) y = y ≡ Err e
 
--- A call answers what a definition says, or that memory ran out; where it answers an error, nothing changed.
-abbrev pub Answers : {X Y S : Type 0} → (X → Y) → Result (Y × S) CaptureError → S → Result X CaptureError → S → Type 0
+-- A call returns what a definition gives, or runs out of memory. An error changes nothing.
+abbrev pub Answers : {X Y S : Type 0} → (X → Y) → Result (Y × S) CaptureError → S
+    → Result X CaptureError → S → Type 0
 Answers view said old (Ok x) new = said ≡ Ok (view x, new)
 Answers view said old (Err error.OutOfMemory) new = new ≡ old
 Answers view said old (Err e) new = (said ≡ Err e) × (new ≡ old)
 
--- So does a call that answers a packet of a section.
+-- A call that returns a packet of a section, or an error that changes nothing.
 abbrev pub AnswersPacket : Heard → Section → Result lent.Packet CaptureError → Section → Type 0
 AnswersPacket said old r new = Answers (λ p. Some (view_packet p)) said old r new
 
--- The form that begins there, and what follows; none where bytes are missing.
+-- The recognized format and the bytes behind it; none if bytes are missing.
 abbrev pub IsForm : Said → Result (Option (stored.Form × Bor (List ℕ))) CaptureError → Type 0
 IsForm said (Ok (Some x)) = said ≡ Ok (Other x.1.now, view_form x.0)
 IsForm said (Ok None) = said ≡ Ok (Wait, Unknown)

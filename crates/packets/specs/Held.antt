@@ -1,10 +1,10 @@
--- What a read of a source adds to the bytes that are held.
+-- What a read of a source adds to the buffer.
 use Rattle.std.specs.Prelude.{◌≡◌, ℕ, ◌++◌, length, List, Option}
 use Rattle.std.specs.Io.KnownBytes.{Consumes, IsAtEnd}
 use Rattle.layouts.specs.Bytes.{Bytes}
 
--- n bytes came off the front of those that the source has left, where these are known, and stand behind what was held;
--- none came only at the source's end.
+-- n bytes came off the front of the source's remaining bytes, where these are known, and were
+-- appended to the buffer. None came only at the source's end.
 pub record Came (held held' : Bytes) (known known' : Option (List ℕ)) (n : ℕ) : Type 0 where
   pub bytes : Bytes
   pub count : length bytes ≡ n

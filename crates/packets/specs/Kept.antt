@@ -1,4 +1,4 @@
--- Packets whose bytes are kept.
+-- Packets with a copy of their bytes.
 use Rattle.std.specs.Prelude.{◌≡◌, ⊤, List, map}
 use Rattle.std.specs.Global.{Vec}
 use Rattle.packets.specs.Section.{Packet}
@@ -19,7 +19,7 @@ view_kept p = record {
 abbrev pub kept : Vec stored.KeptPacket → List Packet
 kept v = map view_kept v.items
 
--- Why not all packets are kept: the capture's end, or nothing that its bytes say.
+-- Why not all packets were collected: the capture's end, or a cause that isn't in its bytes.
 abbrev pub IsEndOf : {E : Type 0} → Packets → VisitError E → Type 0
 IsEndOf all (visit.Capture error.OutOfMemory) = ⊤
 IsEndOf all (visit.Capture e) = all.1 ≡ Refused e

@@ -1,4 +1,4 @@
--- A section of a capture in blocks, as far as it was read (draft-ietf-opsawg-pcapng).
+-- A section of a pcapng file, as far as it was read (draft-ietf-opsawg-pcapng).
 use Rattle.std.specs.Prelude.{ℕ, ◌==◌, List, [], ◌∷◌, ◌++◌, map, slice_get, Option, Some, None, if◌then◌else◌, Result, Ok, Err}
 use Rattle.layouts.specs.Bytes.{Bytes}
 use Rattle.layouts.specs.Meaning.{Answer}
@@ -22,8 +22,8 @@ use Rattle.packets.specs.declared.reader.CaptureError.{CaptureError}
 use Rattle.packets.specs.declared.reader.CaptureError.TheVariants as error
 use Rattle.packets.specs.declared.section.Section as stored
 
--- A packet, apart from where it lies in memory: when, in nanoseconds since 1970-01-01 00:00 UTC; what it begins with;
--- how long it was; what was captured of it.
+-- A packet: its capture time, in nanoseconds since 1970-01-01 00:00 UTC; its link type; its length
+-- on the wire; the captured bytes.
 pub record Packet : Type 0 where
   pub time : ℕ
   pub link_type : ℕ
@@ -38,7 +38,7 @@ view_packet p = record {
   bytes = p.bytes.now;
 }
 
--- The order of its numbers, its interfaces so far, and the time of the last packet that had one.
+-- The byte order, the interfaces so far, and the time of the last packet that had one.
 pub record Section : Type 0 where
   pub order : Order
   pub interfaces : List Interface
@@ -51,52 +51,58 @@ view_section s = record {
   time = s.time;
 }
 
--- In front of the first section.
+-- The state before the first section.
 abbrev pub beginning : Section
 beginning = record { order = Big; interfaces = []; time = 0 }
 
--- What a block says, a packet or nothing, and the section behind it; or that it breaks a rule.
+-- A block's packet, if it has one, and the section behind it; or an error.
 abbrev pub Heard : Type 0
 Heard = Result (Option Packet × Section) CaptureError
 
--- A section begins: it has the interfaces that it describes itself (section 4.1).
+-- A section begins, without the interfaces of the previous one (section 4.1).
 abbrev pub begun : Section → Heard
 begun s = Ok (None, record s { interfaces = [] })
 
--- An interface, whose number is the count of those that were described before (section 4.2).
+-- An interface, whose index is the count of those described before (section 4.2).
 abbrev pub described : Section → Answer Interface → Heard
 described s (Ok x) = Ok (None, record s { interfaces = s.interfaces ++ x.0 ∷ [] })
 described s (Err e) = Err error.Broken
 
--- A packet of that interface, at that time, which is kept.
+-- A packet of an interface at a time, which becomes the section's last time.
 abbrev pub packet_at : Section → Interface → BlockPacket → Option ℕ → Heard
 packet_at s i p None = Err error.Broken
 packet_at s i p (Some time) = Ok (
-  Some (record { time = time; link_type = i.link_type; original_length = p.original_length; bytes = p.bytes }),
+  Some (record {
+    time = time;
+    link_type = i.link_type;
+    original_length = p.original_length;
+    bytes =
+        p.bytes;
+  }),
   record s { time = time },
 )
 
--- A packet with a time in units of that interface, which the section has to have.
+-- A packet with a time in units of its interface, which has to be described.
 abbrev pub timed_of : Section → BlockPacket → Option Interface → Heard
 timed_of s p None = Err error.Broken
 timed_of s p (Some i) = packet_at s i p (nanoseconds_of i p.units)
 
--- A packet with a time, of the interface that it names by its number (section 4.3, and appendix A).
+-- A packet with a time, and the index of its interface (section 4.3, and appendix A).
 abbrev pub timed : Section → Answer BlockPacket → Heard
 timed s (Ok x) = timed_of s x.0 (slice_get s.interfaces x.0.interface)
 timed s (Err e) = Err error.Broken
 
--- A packet without a time, of that interface: it has the time of the packet before it.
+-- A packet without a time: it has that of the packet before it.
 abbrev pub untimed : Section → Interface → Answer BlockPacket → Heard
 untimed s i (Ok x) = packet_at s i x.0 (Some s.time)
 untimed s i (Err e) = Err error.Broken
 
--- A Simple Packet Block is of interface 0, and cut at that one's snap length (section 4.4).
+-- A Simple Packet Block is of interface 0, and truncated at its snap length (section 4.4).
 abbrev pub simple : Section → Order → Bytes → Option Interface → Heard
 simple s order body None = Err error.Broken
 simple s order body (Some i) = untimed s i (reading (simple_packet order i.snap_length) body)
 
--- What a block says, by its type; one of another type says nothing (section 3.1).
+-- A block's result, by its type. Blocks of other types are skipped (section 3.1).
 abbrev pub heard_by_kind : Section → Block → Heard
 heard_by_kind s b =
     if b.kind == SECTION then begun s else
@@ -105,7 +111,7 @@ heard_by_kind s b =
     if b.kind == 3 then simple s b.order b.body (slice_get s.interfaces 0) else
     if b.kind == 6 then timed s (reading (enhanced_packet b.order) b.body) else Ok (None, s)
 
--- The order of a block is that of the section behind it.
+-- The section behind a block has the block's byte order.
 abbrev pub in_order : Order → Heard → Heard
 in_order order (Ok x) = Ok (x.0, record x.1 { order = order })
 in_order order (Err e) = Err e

@@ -17,32 +17,38 @@ Adds None new ps = ⊤
 Adds (Some xs) None ps = ⊥
 Adds (Some xs) (Some ys) ps = ys ≡ xs ++ ps
 
--- A visitor took the packet, or refused it and has what it had.
-abbrev pub Visits : {E : Type 0} → Option (List Packet) → Option (List Packet) → Result Unit E → Packet → Type 0
+-- A visitor took the packet, or refused it and has the packets from before.
+abbrev pub Visits : {E : Type 0} → Option (List Packet) → Option (List Packet) → Result Unit E
+    → Packet → Type 0
 Visits old new (Ok u) p = Adds old new (p ∷ [])
 Visits old new (Err e) p = Adds old new []
 
--- What stands in front was visited and taken off the bytes: true. False where it isn't all there, and then nothing
--- changed.
-abbrev pub Went : Said → Option (List Packet) → Option (List Packet) → State → State → Bytes → Bytes → Bool → Type 0
-Went (Ok (Captured p rest, s)) old new t t' b b' true = Adds old new (p ∷ []) × (t' ≡ s) × (b' ≡ rest)
+-- The item at the front was visited and taken off the bytes: true. It isn't all there and nothing
+-- changed: false.
+abbrev pub Went : Said → Option (List Packet) → Option (List Packet) → State → State → Bytes → Bytes
+    → Bool → Type 0
+Went (Ok (Captured p rest, s)) old new t t' b b' true =
+    Adds old new (p ∷ []) × (t' ≡ s) × (b' ≡ rest)
 Went (Ok (Other rest, s)) old new t t' b b' true = Adds old new [] × (t' ≡ s) × (b' ≡ rest)
 Went (Ok (Wait, s)) old new t t' b b' false = Adds old new [] × (t' ≡ t) × (b' ≡ b)
 Went said old new t t' b b' went = ⊥
 
--- It could not be visited: nothing can be read there, memory ran out, or the visitor refused it.
-abbrev pub Failed : {E : Type 0} → Said → Option (List Packet) → Option (List Packet) → VisitError E → Type 0
+-- The item at the front could not be visited: it breaks a rule, memory ran out, or the visitor
+-- refused it.
+abbrev pub Failed : {E : Type 0} → Said → Option (List Packet) → Option (List Packet)
+    → VisitError E → Type 0
 Failed said old new (visit.Capture error.OutOfMemory) = Adds old new []
 Failed said old new (visit.Capture e) = Adds old new [] × (said ≡ Err e)
 Failed said old new (visit.Visitor e) = Adds old new []
 Failed said old new e = ⊥
 
-abbrev pub Goes : {E : Type 0} → Said → Option (List Packet) → Option (List Packet) → State → State → Bytes → Bytes
+abbrev pub Goes : {E : Type 0} → Said → Option (List Packet) → Option (List Packet) → State → State
+    → Bytes → Bytes
     → Result Bool (VisitError E) → Type 0
 Goes said old new t t' b b' (Ok went) = Went said old new t t' b b' went
 Goes said old new t t' b b' (Err e) = Failed said old new e
 
--- Why what stands in front could not be visited, as the visit of all packets tells it.
+-- The error of the whole visit for an item that can't be visited.
 abbrev pub visit_error : {E : Type 0} → FrontError E → VisitError E
 visit_error (stop.Capture e) = visit.Capture e
 visit_error (stop.Visitor e) = visit.Visitor e
@@ -55,26 +61,28 @@ as_visited (Err e) = Err (visit_error e)
 abbrev pub AddsFront : Option (List Packet) → Option (List Packet) → Packets → Type 0
 AddsFront old new all = (some others : List Packet) × (all.0 ≡ some ++ others) × Adds old new some
 
--- All packets were visited, and that is the end.
+-- All packets were visited, and this is the end.
 abbrev pub AddsAll : Option (List Packet) → Option (List Packet) → Packets → End → Type 0
 AddsAll old new all end = Adds old new all.0 × (all.1 ≡ end)
 
--- Why a visit ended early, by all packets of the source, and what the source has left: all packets in front of the
--- broken rule, or of the place where the bytes end, were visited; else some of them.
-abbrev pub IsCause : {E : Type 0} → Packets → Option (List Packet) → Option (List Packet) → Option Bytes → VisitError E
+-- Why a visit ended early, by all packets of the source and the source's remaining bytes. At a
+-- broken rule, or at bytes that end within an item, all packets before were visited; otherwise some
+-- of them.
+abbrev pub IsCause : {E : Type 0} → Packets → Option (List Packet) → Option (List Packet)
+    → Option Bytes → VisitError E
     → Type 0
 IsCause all old new left (visit.Capture error.OutOfMemory) = AddsFront old new all
 IsCause all old new left (visit.Capture e) = AddsAll old new all (Refused e)
 IsCause all old new left visit.BrokenOff = AddsAll old new all BrokenOff × IsAtEnd left
 IsCause all old new left e = AddsFront old new all
 
--- Unless the visitor refuses a packet, it is sound if it was.
+-- A visitor stays sound, unless it refuses a packet.
 abbrev pub StaysSound : {A E : Type 0} → Bool → Bool → Result A (VisitError E) → Type 0
 StaysSound old new (Ok a) = old ≡ true → new ≡ true
 StaysSound old new (Err (visit.Visitor e)) = ⊤
 StaysSound old new (Err e) = old ≡ true → new ≡ true
 
--- A run ends by that end.
+-- The result of a visit, by the capture's end.
 abbrev pub IsEnd : {E : Type 0} → End → Result Unit (VisitError E) → Type 0
 IsEnd Whole (Ok u) = ⊤
 IsEnd BrokenOff (Err visit.BrokenOff) = ⊤

@@ -1,4 +1,4 @@
-//! Bytes of a source that are not yet read.
+//! The bytes of a source that weren't parsed yet.
 ghost use Rattle.std.specs.Prelude.{◌≡◌, ◌≤◌, ◌-◌, List, [], ℕ, drop, take, length, IfOk, OnErr};
 ghost use Rattle.std.specs.Io.KnownBytes.{Keeps};
 ghost use Rattle.packets.specs.Held.{Came};
@@ -6,15 +6,16 @@ ghost use Rattle.packets.specs.Held.{Came};
 use std::io::{self, Read};
 use std::marker::Model;
 
-/// How many bytes are asked of a source at once: so few that what the kernel copies is still in the processor's cache when it is read.
+/// How many bytes are read at once: so few that what the kernel copies is still in the processor's
+/// cache when it is parsed.
 const PIECE: usize = 65_536;
 
-/// Bytes that came from a source, of which some were taken off the front.
+/// A buffer between a source and a parser, which takes bytes off the front.
 ///
-/// Its value in a contract is what is left of them, in order.
+/// Its value in a contract is the bytes in the buffer.
 #[derive(Drop)]
 pub struct Buffer {
-    // What is held stands from `start` to `end`; what stands elsewhere is of no meaning.
+    // The bytes in the buffer are `bytes[start..end]`; the others have no meaning.
     bytes: Vec<u8>,
     start: usize,
     end: usize,
@@ -29,7 +30,7 @@ impl Model for Buffer {
 }
 
 impl Buffer {
-    /// One that holds nothing, and takes no memory.
+    /// Returns an empty buffer. It allocates nothing.
     pub fn new(alloc: std::alloc::Global) -> Buffer
         ensures { result ≡ [] }
     {
@@ -40,14 +41,14 @@ impl Buffer {
         }
     }
 
-    /// What it holds.
+    /// Returns the bytes in the buffer.
     pub fn held(&self) -> &[u8]
         ensures { result.now ≡ self.now }
     {
         &self.bytes[self.start..self.end]
     }
 
-    /// Takes bytes off the front until `n` are left; none where it holds fewer.
+    /// Takes bytes off the front until `n` are left. A buffer with fewer stays as it is.
     pub fn keep_last(&mut self, n: usize)
         ensures { self.new ≡ drop (length self.old - n) self.old }
     {
@@ -55,7 +56,7 @@ impl Buffer {
         self.start += held - n.min(held);
     }
 
-    /// Moves what is held to the front.
+    /// Moves the bytes to the front of the memory.
     fn make_room(&mut self)
         ensures { self.new ≡ self.old }
     {
@@ -66,11 +67,13 @@ impl Buffer {
         }
     }
 
-    /// Reads once from the source, and puts what it gave behind what is held: how many bytes; 0 at its end.
+    /// Reads once from the source and appends the bytes. Returns their count, which is 0 at the end
+    /// of the source.
     ///
-    /// It fails as the read does, or where memory runs out; what is held stays.
+    /// It fails if the read fails or memory runs out. The bytes in the buffer stay.
     pub fn fill<R: Read>(&mut self, reader: &mut R) -> io::Result<usize>
-        ensures ok { IfOk result (λ n. Came self.old self.new (R.remaining reader.old) (R.remaining reader.new) n) }
+        ensures ok { IfOk result
+            (λ n. Came self.old self.new (R.remaining reader.old) (R.remaining reader.new) n) }
         ensures held { OnErr result (self.new ≡ self.old) }
         ensures kept { OnErr result (Keeps (R.remaining reader.old) (R.remaining reader.new)) }
     {

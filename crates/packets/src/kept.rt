@@ -1,4 +1,4 @@
-//! All packets of a capture that lies in memory.
+//! All packets of a capture in memory.
 ghost use Rattle.std.specs.Prelude.{◌≡◌, Some, IfErr, IfOk, OnOk};
 ghost use Rattle.packets.specs.Kept.{IsEndOf, kept};
 ghost use Rattle.packets.specs.Packets.{Whole, packets_of};
@@ -7,20 +7,20 @@ use crate::reader::Packet;
 use crate::visit::{PacketVisitor, VisitError, visit_packets};
 use std::alloc::{AllocError, Global};
 
-/// A packet, and its bytes in memory of its own.
+/// A packet with an own copy of its bytes.
 #[derive(Debug, PartialEq, Drop)]
 pub struct KeptPacket {
-    /// When, in nanoseconds since 1970-01-01 00:00 UTC.
+    /// The capture time, in nanoseconds since 1970-01-01 00:00 UTC.
     pub time: u64,
-    /// What its bytes begin with: a LINKTYPE value of tcpdump.org.
+    /// The packet's link type: a LINKTYPE value of tcpdump.org.
     pub link_type: u16,
-    /// How long it was on the wire, in bytes.
+    /// The packet's length on the wire, in bytes.
     pub original_length: u32,
-    /// The bytes that were captured of it.
+    /// The captured bytes.
     pub bytes: Vec<u8>,
 }
 
-/// Keeps each packet that it visits.
+/// A visitor that collects all packets.
 #[derive(Drop)]
 struct Keeper {
     alloc: Global,
@@ -51,7 +51,8 @@ impl PacketVisitor for Keeper {
     }
 }
 
-/// All packets of a capture, in order; or why they aren't all, `Visitor` for want of memory.
+/// Returns all packets of a capture in order, or the error that ends them. The error is `Visitor`
+/// if memory runs out for the packets.
 pub fn read_packets(
     alloc: Global,
     capture: &[u8],

@@ -1,8 +1,13 @@
-//! The packets of a capture, one after the other, from its bytes as they come.
+//! Reads the packets of a capture, one after the other, from its bytes as they arrive.
 //!
-//! A [`Capture`] knows the capture's form (pcap or pcapng) once it saw its front, and reads the next packet off the front of the
-//! bytes that it is handed. A [`Buffer`] holds those bytes between the reads of a source. [`visit_packets`] reads a source to its
-//! end with both, and hands each packet to a [`PacketVisitor`]; none is kept. [`read_packets`] keeps those of a capture in memory.
+//! A [`Capture`] recognizes pcap and pcapng by the first bytes, and parses the next packet at the
+//! front of the bytes that it gets. A [`Buffer`] keeps those bytes between reads. [`visit_packets`]
+//! reads a source to its end with both, and passes each packet to a [`PacketVisitor`], keeping
+//! none. [`read_packets`] collects the packets of a capture in memory.
+//!
+//! Promise: `Packets.packets_of` in `specs/` defines the packets of a capture and how it ends, for
+//! whatever sizes the reads have; `Visit` defines what a visit of them does. [`laws`] proves that
+//! the packets don't depend on the reads.
 #![tactic(auto)]
 
 mod buffer;

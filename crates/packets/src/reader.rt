@@ -1,4 +1,4 @@
-//! The next packet off the front of a capture's bytes.
+//! Parses the next packet at the front of a capture's bytes.
 ghost use Rattle.std.specs.Prelude.{◌≡◌, ◌↔◌, ◌≢◌, true, Option, Some, None, Result, Ok, Err};
 ghost use Rattle.layouts.specs.Layout.{number};
 ghost use Rattle.layouts.specs.Reading.{reading};
@@ -27,34 +27,34 @@ use std::error::Error;
 use std::fmt;
 use std::marker::Model;
 
-/// A packet, as it was captured.
+/// A captured packet.
 #[derive(Clone, Copy, Debug, PartialEq)]
 pub struct Packet<'a> {
-    /// When, in nanoseconds since 1970-01-01 00:00 UTC.
+    /// The capture time, in nanoseconds since 1970-01-01 00:00 UTC.
     pub time: u64,
-    /// What its bytes begin with: a LINKTYPE value of tcpdump.org.
+    /// The packet's link type: a LINKTYPE value of tcpdump.org.
     pub link_type: u16,
-    /// How long it was on the wire, in bytes.
+    /// The packet's length on the wire, in bytes.
     pub original_length: u32,
-    /// The bytes that were captured of it.
+    /// The captured bytes.
     pub bytes: &'a [u8],
 }
 
-/// What the front of a capture's bytes is.
+/// The item at the front of a capture's bytes.
 #[derive(Clone, Copy, Debug, PartialEq)]
 pub enum Step<'a> {
     /// A packet, and the bytes behind it.
     Packet(Packet<'a>, &'a [u8]),
-    /// No packet, and the bytes behind it.
+    /// An item without a packet, and the bytes behind it.
     Other(&'a [u8]),
-    /// Further bytes are needed to say.
+    /// More bytes are needed.
     Wait,
 }
 
-/// Why no further packet is read.
+/// Why no more packets can be read.
 #[derive(Clone, Copy, Debug, PartialEq, Eq)]
 pub enum CaptureError {
-    /// The bytes are no capture: they begin neither as pcap nor as pcapng.
+    /// The bytes are neither pcap nor pcapng.
     NoCapture,
     /// A header or a block breaks a rule.
     Broken,
@@ -74,7 +74,7 @@ impl fmt::Display for CaptureError {
 
 impl Error for CaptureError {}
 
-/// What is known of a capture's form.
+/// The format of a capture, as far as it was recognized.
 #[derive(Drop)]
 enum Form {
     Unknown,
@@ -82,9 +82,9 @@ enum Form {
     Blocks(Section),
 }
 
-/// A capture of which the front was read.
+/// The reader of a capture's packets.
 ///
-/// Its value in a contract is what is known of it.
+/// Its value in a contract is the state of its format.
 #[derive(Drop)]
 pub struct Capture {
     alloc: Global,
@@ -97,7 +97,7 @@ impl Model for Capture {
     ghost view = { λ c. view_form c.form };
 }
 
-/// The form that the front of a capture says; `None` where further bytes are needed.
+/// Recognizes the format at the front of a capture; `None` if more bytes are needed.
 fn form_of(alloc: Global, i: &[u8]) -> Result<Option<(Form, &[u8])>, CaptureError>
     ensures { IsForm (form_front (reading (number 4) i.now) i.now) result }
 {
@@ -113,7 +113,7 @@ fn form_of(alloc: Global, i: &[u8]) -> Result<Option<(Form, &[u8])>, CaptureErro
     }
 }
 
-/// The packet of a pcap file in front.
+/// Parses a packet of a pcap file.
 fn pcap_step(i: &[u8], format: Format, link_type: u16) -> Result<Step<'_>, CaptureError>
     ensures { let s = Pcap (view_format format) link_type in
         Answers view_step (front s i.now) s result s }
@@ -133,10 +133,11 @@ fn pcap_step(i: &[u8], format: Format, link_type: u16) -> Result<Step<'_>, Captu
     }
 }
 
-/// The block in front.
+/// Parses a block of a pcapng file.
 fn block_step<'a>(section: &mut Section, i: &'a [u8]) -> Result<Step<'a>, CaptureError>
     ensures { let s = view_section section.old in
-        Answers view_step (block_front s (reading (next_block s.order) i.now)) (Blocks s) result (Blocks (view_section section.new)) }
+        Answers view_step (block_front s (reading (next_block s.order) i.now)) (Blocks s) result
+        (Blocks (view_section section.new)) }
 {
     match parse_block(i, section.order) {
         Ok((rest, block)) => match section.hear(block)? {
@@ -149,7 +150,7 @@ fn block_step<'a>(section: &mut Section, i: &'a [u8]) -> Result<Step<'a>, Captur
 }
 
 impl Capture {
-    /// One of which nothing was read. It takes no memory.
+    /// Returns a reader that has read nothing. It allocates nothing.
     pub fn new(alloc: Global) -> Capture
         ensures { result ≡ Unknown }
     {
@@ -159,21 +160,22 @@ impl Capture {
         }
     }
 
-    /// Whether its form is known.
+    /// Returns whether the capture's format was recognized.
     pub fn is_known(&self) -> bool
         ensures { (result ≡ true) ↔ (self.now ≢ Unknown) }
     {
         !matches!(self.form, Form::Unknown)
     }
 
-    /// What stands in front of the bytes behind all that was read.
+    /// Parses the item at the front of `i`, which are the bytes behind the previous item.
     ///
-    /// - `NoCapture` where the first bytes are of no form, or of a pcap file whose major version isn't 2.
-    /// - `Broken` where a packet's header or a block breaks a rule of its layout, a block is of an interface that wasn't
-    ///   described, or a time is before 1970 or past the year 2554.
-    /// - `OutOfMemory` where an interface could not be held.
+    /// - `NoCapture` if the first bytes have no known format, or are those of a pcap file whose
+    ///   major version isn't 2.
+    /// - `Broken` if a packet's header or a block breaks a rule of its layout, a block refers to an
+    ///   interface that wasn't described, or a time is before 1970 or after the year 2554.
+    /// - `OutOfMemory` if there is no memory for an interface.
     ///
-    /// Behind an error all is as it was before.
+    /// An error leaves the reader as it was.
     pub fn step<'a>(&mut self, i: &'a [u8]) -> Result<Step<'a>, CaptureError>
         ensures { Answers view_step (front self.old i.now) self.old result self.new }
     {

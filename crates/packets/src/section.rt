@@ -1,4 +1,4 @@
-//! A section of a capture in blocks (draft-ietf-opsawg-pcapng).
+//! A section of a pcapng file (draft-ietf-opsawg-pcapng).
 ghost use Rattle.std.specs.Prelude.{◌≡◌, slice_get, Option, Some, None};
 ghost use Rattle.std.specs.Option.{option_map};
 ghost use Rattle.layouts.specs.Reading.{reading};
@@ -32,7 +32,7 @@ use capture::{
 };
 use std::alloc::Global;
 
-/// What a section's blocks said so far.
+/// What the blocks of a section have described so far.
 #[derive(Drop)]
 pub(crate) struct Section {
     pub(crate) order: Order,
@@ -41,9 +41,15 @@ pub(crate) struct Section {
     time: u64,
 }
 
-/// That packet of an interface, at that time.
+/// Returns a packet of an interface, captured at `time`.
 fn packet_of<'a>(interface: Interface, packet: BlockPacket<'a>, time: u64) -> Packet<'a>
-    ensures { result ≡ record { time = time; link_type = interface.link_type; original_length = packet.entry.original_length; bytes = packet.entry.bytes } }
+    ensures { result ≡ record {
+      time = time;
+      link_type = interface.link_type;
+      original_length =
+          packet.entry.original_length;
+      bytes = packet.entry.bytes;
+    } }
 {
     Packet {
         time,
@@ -54,7 +60,7 @@ fn packet_of<'a>(interface: Interface, packet: BlockPacket<'a>, time: u64) -> Pa
 }
 
 impl Section {
-    /// One of which nothing was read. It takes no memory.
+    /// Returns the state before the first section. It allocates nothing.
     pub(crate) fn new(alloc: Global) -> Section
         ensures { view_section result ≡ beginning }
     {
@@ -65,10 +71,12 @@ impl Section {
         }
     }
 
-    /// Keeps the interface that a block describes.
+    /// Adds the interface that a block describes.
     fn describe(&mut self, block: Block<'_>) -> Result<(), CaptureError>
         ensures { let s = view_section self.old in
-            Answers (λ _. None) (described s (reading (interface_layout block.entry.order) block.entry.body.now)) s result (view_section self.new) }
+            Answers (λ _. None)
+            (described s (reading (interface_layout block.entry.order) block.entry.body.now)) s
+            result (view_section self.new) }
     {
         let Ok((_, interface)) = parse_interface(block.body, block.order) else {
             return Err(CaptureError::Broken);
@@ -79,10 +87,11 @@ impl Section {
         }
     }
 
-    /// The packet, whose time is in units of the interface that it names.
+    /// Returns a packet with its time converted from the units of its interface.
     fn timed<'a>(&mut self, packet: BlockPacket<'a>) -> Result<Packet<'a>, CaptureError>
         ensures { let s = view_section self.old in
-            let said = timed_of s (view_block_packet packet.entry) (slice_get s.interfaces packet.entry.interface) in
+            let said = timed_of s (view_block_packet packet.entry)
+            (slice_get s.interfaces packet.entry.interface) in
             AnswersPacket said s result (view_section self.new) }
     {
         let Some(interface) = self.interfaces.get(packet.interface as usize).copied() else {
@@ -95,10 +104,12 @@ impl Section {
         Ok(packet_of(interface, packet, time))
     }
 
-    /// The packet of an Enhanced Packet Block.
+    /// Returns the packet of an Enhanced Packet Block.
     fn enhanced<'a>(&mut self, block: Block<'a>) -> Result<Packet<'a>, CaptureError>
         ensures { let s = view_section self.old in
-            AnswersPacket (timed s (reading (enhanced_packet block.entry.order) block.entry.body.now)) s result (view_section self.new) }
+            AnswersPacket
+            (timed s (reading (enhanced_packet block.entry.order) block.entry.body.now)) s
+            result (view_section self.new) }
     {
         match parse_enhanced_packet(block.body, block.order) {
             Ok((_, packet)) => self.timed(packet),
@@ -106,10 +117,12 @@ impl Section {
         }
     }
 
-    /// The packet of a Packet Block.
+    /// Returns the packet of a Packet Block.
     fn obsolete<'a>(&mut self, block: Block<'a>) -> Result<Packet<'a>, CaptureError>
         ensures { let s = view_section self.old in
-            AnswersPacket (timed s (reading (obsolete_packet block.entry.order) block.entry.body.now)) s result (view_section self.new) }
+            AnswersPacket
+            (timed s (reading (obsolete_packet block.entry.order) block.entry.body.now)) s
+            result (view_section self.new) }
     {
         match parse_obsolete_packet(block.body, block.order) {
             Ok((_, packet)) => self.timed(packet),
@@ -117,10 +130,12 @@ impl Section {
         }
     }
 
-    /// The packet of a Simple Packet Block, which has the time of the packet before it.
+    /// Returns the packet of a Simple Packet Block. It has the time of the packet before it.
     fn simple<'a>(&self, block: Block<'a>) -> Result<Packet<'a>, CaptureError>
         ensures { let s = view_section self.now in
-            AnswersPacket (simple s block.entry.order block.entry.body.now (slice_get s.interfaces 0)) s result s }
+            AnswersPacket
+            (simple s block.entry.order block.entry.body.now (slice_get s.interfaces 0))
+            s result s }
     {
         let Some(interface) = self.interfaces.first().copied() else {
             return Err(CaptureError::Broken);
@@ -131,9 +146,10 @@ impl Section {
         }
     }
 
-    /// What a block says by its type: a packet, or what is kept for the packets to come.
+    /// Processes a block by its type: returns its packet, or notes what it describes.
     fn hear_by_kind<'a>(&mut self, block: Block<'a>) -> Result<Option<Packet<'a>>, CaptureError>
-        ensures { Answers (option_map view_packet) (heard_by_kind (view_section self.old) (view_block block.entry))
+        ensures { Answers (option_map view_packet)
+            (heard_by_kind (view_section self.old) (view_block block.entry))
             (view_section self.old) result (view_section self.new) }
     {
         match block.kind {
@@ -152,9 +168,10 @@ impl Section {
         }
     }
 
-    /// What a block says. Behind an error all is as it was before.
+    /// Processes a block. An error leaves the section as it was.
     pub(crate) fn hear<'a>(&mut self, block: Block<'a>) -> Result<Option<Packet<'a>>, CaptureError>
-        ensures { Answers (option_map view_packet) (hear (view_section self.old) (view_block block.entry))
+        ensures { Answers (option_map view_packet)
+            (hear (view_section self.old) (view_block block.entry))
             (view_section self.old) result (view_section self.new) }
     {
         let packet = self.hear_by_kind(block)?;

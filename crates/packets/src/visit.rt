@@ -1,4 +1,4 @@
-//! All packets that a source gives.
+//! Visits all packets of a source.
 ghost use Rattle.std.specs.Prelude.{◌≡◌, Bool, true, List, Option, None, IfSome, IfErr, OnOk};
 ghost use Rattle.std.specs.Io.KnownBytes.{IsAtEnd};
 ghost use Rattle.packets.specs.Section.{Packet as PacketValue, view_packet};
@@ -11,18 +11,18 @@ use crate::reader::{Capture, CaptureError, Packet, Step};
 use std::alloc::Global;
 use std::io::{self, Read};
 
-/// Who takes the packets of a capture, one after the other.
+/// A consumer of a capture's packets.
 pub trait PacketVisitor {
-    /// Why it takes no further packet.
+    /// Why it takes no more packets.
     type Error;
 
-    // The packets that it took, where a contract is to know them.
+    // The packets that it took, if a contract needs them.
     ghost taken: { Self → Option (List PacketValue) } = { λ _. None };
 
-    // Whether it is sound, where a contract is to know that: it stays so as long as it refuses no packet.
+    // Whether it is sound, if a contract needs that. It stays so as long as it refuses no packet.
     ghost is_sound: { Self → Bool } = { λ _. true };
 
-    /// Takes the next packet. Where it refuses one, that one isn't taken, and the visit ends.
+    /// Takes the next packet. An error refuses it and ends the visit.
     fn visit(&mut self, packet: Packet<'_>) -> Result<(), Self::Error>
         ensures visits { Visits (taken self.old) (taken self.new) result (view_packet packet.entry) }
         ensures sound { is_sound self.old ≡ true → OnOk result (is_sound self.new ≡ true) };
@@ -35,22 +35,23 @@ pub enum VisitError<E> {
     Capture(CaptureError),
     /// The bytes end within a packet or a block.
     BrokenOff,
-    /// A read failed, or there was no memory for what it would give.
+    /// A read failed, or there was no memory for its bytes.
     Reading(io::Error),
-    /// There was no end in 2^64 - 1 steps, each a packet, a block or a read.
+    /// There was no end after 2^64 - 1 steps, each a packet, a block or a read.
     Endless,
-    /// The visitor takes no further packet.
+    /// The visitor refused a packet.
     Visitor(E),
 }
 
-/// Why what stands in front isn't visited. Each packet's visit answers by it, so it has no room for an `io::Error`, which is large.
+/// Why the item at the front can't be visited. Every packet's visit returns it, so it has no room
+/// for an `io::Error`, which is large.
 #[derive(Drop)]
 enum FrontError<E> {
     Capture(CaptureError),
     Visitor(E),
 }
 
-/// The same, as the visit of all packets tells it.
+/// Converts to the error of the whole visit.
 fn visit_error<E>(e: FrontError<E>) -> VisitError<E>
     ensures { result ≡ visit_error e }
 {
@@ -60,13 +61,15 @@ fn visit_error<E>(e: FrontError<E>) -> VisitError<E>
     }
 }
 
-/// Visits what stands in front of the buffer, and takes it off: true. False where it isn't all there.
+/// Visits the item at the front of the buffer and takes it off. Returns false if it isn't all
+/// there.
 fn visit_front<V: PacketVisitor>(
     capture: &mut Capture,
     buffer: &mut Buffer,
     visitor: &mut V,
 ) -> Result<bool, FrontError<V::Error>>
-    ensures goes { Goes (front capture.old buffer.old) (V.taken visitor.old) (V.taken visitor.new) capture.old capture.new
+    ensures goes { Goes (front capture.old buffer.old) (V.taken visitor.old) (V.taken visitor.new)
+        capture.old capture.new
         buffer.old buffer.new (as_visited result) }
     ensures sound { StaysSound (V.is_sound visitor.old) (V.is_sound visitor.new) (as_visited result) }
 {
@@ -91,7 +94,7 @@ fn visit_front<V: PacketVisitor>(
     }
 }
 
-/// How a capture ends, with these bytes behind all that was read.
+/// Returns how a capture ends with these unparsed bytes.
 fn end_in<E>(capture: &Capture, held: &[u8]) -> Result<(), VisitError<E>>
     ensures { IsEnd (end_of capture.now held.now) result }
 {
@@ -104,10 +107,10 @@ fn end_in<E>(capture: &Capture, held: &[u8]) -> Result<(), VisitError<E>>
     Ok(())
 }
 
-/// Reads a source to its end, and hands each packet of the capture to the visitor, in order.
+/// Reads a source to its end, and passes each packet of the capture to the visitor, in order.
 ///
-/// However the reads cut its bytes, the packets are those of all of them together, and their end is told where a read
-/// gave none.
+/// The sizes of the reads don't matter: the packets are those of all the bytes together. The end is
+/// where a read returns no bytes.
 pub fn visit_packets<R: Read, V: PacketVisitor>(
     alloc: Global,
     reader: &mut R,
@@ -115,9 +118,11 @@ pub fn visit_packets<R: Read, V: PacketVisitor>(
 ) -> Result<(), VisitError<V::Error>>
     // All packets of all bytes were visited, and the source is at its end.
     ensures all { OnOk result (IfSome (R.remaining reader.old) (λ x.
-        AddsAll (V.taken visitor.old) (V.taken visitor.new) (packets_of x) Whole × IsAtEnd (R.remaining reader.new))) }
+        AddsAll (V.taken visitor.old) (V.taken visitor.new) (packets_of x) Whole
+        × IsAtEnd (R.remaining reader.new))) }
     ensures cause { IfErr result (λ e. IfSome (R.remaining reader.old) (λ x.
-        IsCause (packets_of x) (V.taken visitor.old) (V.taken visitor.new) (R.remaining reader.new) e)) }
+        IsCause (packets_of x) (V.taken visitor.old) (V.taken visitor.new)
+        (R.remaining reader.new) e)) }
     ensures sound { StaysSound (V.is_sound visitor.old) (V.is_sound visitor.new) result }
 {
     let mut capture = Capture::new(alloc);

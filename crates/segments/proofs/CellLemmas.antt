@@ -1,4 +1,4 @@
--- Cells, filled.
+-- Cells that are filled.
 use Rattle.std.proofs.Common.{◌≡◌, ℕ, zero, suc, ◌+◌, ◌<◌, ◌≤◌, [], ◌∷◌, ◌++◌, length, take, drop, get_or, map}
 use Rattle.std.proofs.Common.{Option, Some, None, Bool, true, false, cond, ltb, refl, sym, ◌∙◌, ap, arith}
 use Rattle.std.specs.Option.{is_some}
@@ -8,7 +8,7 @@ pub fill_nil : (c : Cells) → fill c [] ≡ c
 fill_nil [] = refl
 fill_nil (x ∷ c) = refl
 
--- from a place on
+-- from a later position on
 pub fill_at_behind : (b : Cells) (cs : Cells) (k : ℕ) (ys : Bytes)
     → fill_at (length b + k) (b ++ cs) ys ≡ b ++ fill_at k cs ys
 fill_at_behind [] cs k ys = ap (λ n. fill_at n cs ys) (omega arith)
@@ -24,11 +24,12 @@ pub put_now : (ys : Bytes) (cs : Cells) → put 0 ys cs ≡ fill cs ys
 put_now [] cs = sym (fill_nil cs)
 put_now (y ∷ ys) cs = refl
 
-pub put_behind : (b : Cells) (cs : Cells) (k : ℕ) (ys : Bytes) → put (length b + k) ys (b ++ cs) ≡ b ++ put k ys cs
+pub put_behind : (b : Cells) (cs : Cells) (k : ℕ) (ys : Bytes)
+    → put (length b + k) ys (b ++ cs) ≡ b ++ put k ys cs
 put_behind b cs k [] = refl
 put_behind b cs k (y ∷ ys) = fill_at_behind b cs k (y ∷ ys)
 
--- the front
+-- the prefix of present bytes
 pub run_some : (b : Bytes) (cs : Cells) → run (map Some b ++ cs) ≡ b ++ run cs
 run_some [] cs = refl
 run_some (x ∷ b) cs = ap (λ r. x ∷ r) (run_some b cs)
@@ -48,7 +49,7 @@ run_low [] = omega arith
 run_low (None ∷ cs) = omega arith
 run_low (Some x ∷ cs) = let r = run_low cs in omega (arith, r)
 
--- bytes at the first places: they are part of the front, and nothing changes behind them
+-- bytes at the first positions are part of the prefix, and nothing changes after them
 pub run_fill_long : (cs : Cells) (ys : Bytes) → length ys ≤ length (run (fill cs ys))
 run_fill_long [] [] = omega arith
 run_fill_long [] (y ∷ ys) = let r = run_fill_long [] ys in omega (arith, r)
@@ -68,34 +69,40 @@ drop_fill (suc n) [] (y ∷ ys) h = drop_fill n [] ys (omega (arith, h)) ∙ not
 drop_fill (suc n) (c ∷ cs) [] h = refl
 drop_fill (suc n) (c ∷ cs) (y ∷ ys) h = drop_fill n cs ys (omega (arith, h))
 
--- no place is taken beyond what is put there
-pub fill_low : (cs : Cells) (ys : Bytes) (n : ℕ) → length cs ≤ n → length ys ≤ n → length (fill cs ys) ≤ n
+-- no position is added beyond the bytes written
+pub fill_low : (cs : Cells) (ys : Bytes) (n : ℕ) → length cs ≤ n → length ys ≤ n
+    → length (fill cs ys) ≤ n
 fill_low [] [] n h g = h
 fill_low [] (y ∷ ys) zero h g = absurd (omega (arith, g))
-fill_low [] (y ∷ ys) (suc n) h g = let r = fill_low [] ys n (omega arith) (omega (arith, g)) in omega (arith, r)
+fill_low [] (y ∷ ys) (suc n) h g = let r = fill_low [] ys n (omega arith) (omega (arith, g)) in
+    omega (arith, r)
 fill_low (c ∷ cs) [] n h g = h
 fill_low (c ∷ cs) (y ∷ ys) zero h g = absurd (omega (arith, h))
-fill_low (c ∷ cs) (y ∷ ys) (suc n) h g = let r = fill_low cs ys n (omega (arith, h)) (omega (arith, g)) in
+fill_low (c ∷ cs) (y ∷ ys) (suc n) h g = let r =
+    fill_low cs ys n (omega (arith, h)) (omega (arith, g)) in
     omega (arith, r)
 
 pub fill_at_low : (k : ℕ) (cs : Cells) (ys : Bytes) (n : ℕ) → length cs ≤ n → k + length ys ≤ n
     → length (fill_at k cs ys) ≤ n
 fill_at_low zero cs ys n h g = fill_low cs ys n h (omega (arith, g))
 fill_at_low (suc k) [] ys zero h g = absurd (omega (arith, g))
-fill_at_low (suc k) [] ys (suc n) h g = let r = fill_at_low k [] ys n (omega arith) (omega (arith, g)) in
+fill_at_low (suc k) [] ys (suc n) h g = let r =
+    fill_at_low k [] ys n (omega arith) (omega (arith, g)) in
     omega (arith, r)
 fill_at_low (suc k) (c ∷ cs) ys zero h g = absurd (omega (arith, h))
-fill_at_low (suc k) (c ∷ cs) ys (suc n) h g = let r = fill_at_low k cs ys n (omega (arith, h)) (omega (arith, g)) in
+fill_at_low (suc k) (c ∷ cs) ys (suc n) h g = let r =
+    fill_at_low k cs ys n (omega (arith, h)) (omega (arith, g)) in
     omega (arith, r)
 
--- a first place that is empty stays so, where bytes are put behind it
-pub fill_at_run : (k : ℕ) (cs : Cells) (ys : Bytes) → 0 < k → run cs ≡ [] → run (fill_at k cs ys) ≡ []
+-- an empty first position stays empty if bytes are written after it
+pub fill_at_run : (k : ℕ) (cs : Cells) (ys : Bytes) → 0 < k → run cs ≡ []
+    → run (fill_at k cs ys) ≡ []
 fill_at_run zero cs ys h e = absurd (omega (arith, h))
 fill_at_run (suc k) [] ys h e = refl
 fill_at_run (suc k) (None ∷ cs) ys h e = refl
 fill_at_run (suc k) (Some x ∷ cs) ys h e = absurd cc
 
--- What stands, counted.
+-- How many bytes are present.
 pub known_low : (cs : Cells) → known cs ≤ length cs
 known_low [] = omega arith
 known_low (None ∷ cs) = let r = known_low cs in omega (arith, r)
@@ -121,7 +128,7 @@ empties_low [] = omega arith
 empties_low (None ∷ cs) = let r = empties_low cs in omega (arith, r)
 empties_low (Some x ∷ cs) = omega arith
 
--- A gap: nothing stands in front of it, and something behind.
+-- A gap: no byte is present in it, and one after it.
 pub gap_low : (cs : Cells) → gap cs ≤ length cs
 gap_low cs = go (ltb 0 (known cs))
   where
@@ -132,13 +139,14 @@ gap_low cs = go (ltb 0 (known cs))
 pub gap_first : (cs : Cells) → 0 < gap cs → run cs ≡ []
 gap_first [] h = refl
 gap_first (None ∷ cs) h = refl
-gap_first (Some x ∷ cs) h = let n = none (ltb 0 (known (Some x ∷ cs))) in absurd (omega (arith, h, n))
+gap_first (Some x ∷ cs) h = let n = none (ltb 0 (known (Some x ∷ cs))) in
+    absurd (omega (arith, h, n))
   where
     none : (t : Bool) → ◌≡◌ {A = ℕ} (cond t 0 0) 0
     none true = refl
     none false = refl
 
--- What stands at a place.
+-- The byte at a position.
 pub cell_get : (cs : Cells) (i : ℕ) (d : Option ℕ) → i < length cs → cell cs i ≡ get_or cs i d
 cell_get [] i d h = absurd (omega (arith, h))
 cell_get (c ∷ cs) zero d h = refl
@@ -149,9 +157,11 @@ cell_none [] i h = refl
 cell_none (c ∷ cs) zero h = absurd (omega (arith, h))
 cell_none (c ∷ cs) (suc i) h = cell_none cs i (omega (arith, h))
 
--- The front from a place on.
-pub run_next : (cs : Cells) (i b : ℕ) → cell cs i ≡ Some b → run (drop i cs) ≡ b ∷ run (drop (i + 1) cs)
-run_next cs i b e = let n : suc i ≡ i + 1 = omega arith in go cs i e ∙ ap (λ k. b ∷ run (drop k cs)) n
+-- The prefix from a position on.
+pub run_next : (cs : Cells) (i b : ℕ) → cell cs i ≡ Some b
+    → run (drop i cs) ≡ b ∷ run (drop (i + 1) cs)
+run_next cs i b e = let n : suc i ≡ i + 1 = omega arith in
+    go cs i e ∙ ap (λ k. b ∷ run (drop k cs)) n
   where
     go : (cs : Cells) (i : ℕ) → cell cs i ≡ Some b → run (drop i cs) ≡ b ∷ run (drop (suc i) cs)
     go [] i e = absurd cc
@@ -173,7 +183,8 @@ empties_next cs i h e =
     let m : suc (empties (drop (suc i) cs)) ≡ 1 + empties (drop (suc i) cs) = omega arith in
     go cs i h e ∙ m ∙ ap (λ k. 1 + empties (drop k cs)) n
   where
-    go : (cs : Cells) (i : ℕ) → i < length cs → cell cs i ≡ None → empties (drop i cs) ≡ suc (empties (drop (suc i) cs))
+    go : (cs : Cells) (i : ℕ) → i < length cs → cell cs i ≡ None
+        → empties (drop i cs) ≡ suc (empties (drop (suc i) cs))
     go [] i h e = absurd (omega (arith, h))
     go (None ∷ cs) zero h e = refl
     go (Some x ∷ cs) zero h e = absurd cc

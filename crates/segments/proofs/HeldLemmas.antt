@@ -1,4 +1,4 @@
--- What is held, after bytes are added.
+-- What is buffered after bytes are added.
 use Rattle.std.proofs.Common.{◌≡◌, ℕ, zero, suc, ◌+◌, ◌-◌, ◌^◌, ◌<◌, ◌≤◌, [], ◌∷◌, ◌++◌, length, drop, map, Some}
 use Rattle.std.proofs.Common.{Bool, true, false, cond, ltb, refl, sym, ◌∙◌, ap, subst, arith, append_assoc}
 use Rattle.std.proofs.Common.{append-nil, min}
@@ -12,16 +12,20 @@ use Rattle.segments.proofs.CellLemmas.{put_at, put_now, put_behind, run_some, ru
 use Rattle.segments.proofs.CellLemmas.{run_fill_long, drop_fill, fill_low, fill_at_low, fill_at_run, behind_some}
 use Rattle.segments.proofs.CellLemmas.{behind_all}
 
-pub run_held : (start taken limit : ℕ) (front : Bytes) (window : Cells) → IsSound start taken limit front window
+pub run_held : (start taken limit : ℕ) (front : Bytes) (window : Cells)
+    → IsSound start taken limit front window
     → run (held_cells start front window) ≡ drop start front
 run_held start taken limit front window s =
-    run_some (drop start front) window ∙ ap (λ r. drop start front ++ r) s.first_empty ∙ append-nil (drop start front)
+    run_some (drop start front) window ∙ ap (λ r. drop start front ++ r) s.first_empty
+    ∙ append-nil (drop start front)
 
-pub wanted_is : (f l start taken : ℕ) (front : Bytes) (window : Cells) → IsSound start taken l front window →
+pub wanted_is : (f l start taken : ℕ) (front : Bytes) (window : Cells)
+    → IsSound start taken l front window →
     (wanted (held_of f l start taken front window) ≡ taken + (length front - start))
     × (taken + (length front - start) ≤ 2 ^ 62)
 wanted_is f l start taken front window s = (
-  ap (λ r. taken + length r) (run_held start taken l front window s) ∙ ap (λ n. taken + n) (length-drop start front),
+  ap (λ r. taken + length r) (run_held start taken l front window s)
+      ∙ ap (λ n. taken + n) (length-drop start front),
   (let h = s.small in omega (arith, h)),
 )
 
@@ -32,7 +36,8 @@ put_held F C d ys is =
     ∙ ap (λ n. n + d) (sym (length-map F Some)) in
     ap (λ n. put n ys (map Some F ++ C)) n ∙ put_behind (map Some F) C d ys
 
-run_few : (cs : Cells) (ys : Bytes) → length cs < length (run (fill cs ys)) → length (run (fill cs ys)) ≤ length ys
+run_few : (cs : Cells) (ys : Bytes) → length cs < length (run (fill cs ys))
+    → length (run (fill cs ys)) ≤ length ys
 run_few cs ys more = go (ltb (length ys) (length cs)) refl
   where
     go : (t : Bool) → ltb (length ys) (length cs) ≡ t → length (run (fill cs ys)) ≤ length ys
@@ -47,13 +52,16 @@ run_few cs ys more = go (ltb (length ys) (length cs)) refl
         let r = run_low (fill cs ys) in
         omega (arith, low, r)
 
-pub record IsHeldMore (f l start taken : ℕ) (front front' : Bytes) (window window' : Cells) (d : ℕ) (ys : Bytes) : Type
+pub record IsHeldMore (f l start taken : ℕ) (front front' : Bytes) (window window' : Cells) (d : ℕ)
+    (ys : Bytes) : Type
     0 where
   pub sound : IsSound start taken l front' window'
-  pub held : held_of f l start taken front' window' ≡ with_located (d, ys) (held_of f l start taken front window)
+  pub held : held_of f l start taken front' window' ≡ with_located (d, ys)
+      (held_of f l start taken front window)
 
--- at the wanted place
-pub appended : (f l start taken : ℕ) (front front' : Bytes) (window window' : Cells) (ys : Bytes) (n : ℕ)
+-- at the next expected position
+pub appended : (f l start taken : ℕ) (front front' : Bytes) (window window' : Cells)
+    (ys : Bytes) (n : ℕ)
     → IsSound start taken l front window →
     taken + (length front - start) + length ys ≤ 2 ^ 62 → front' ≡ front ++ run (fill window ys)
     → n ≡ length front' - length front → window' ≡ drop (min n (length window)) window →
@@ -68,7 +76,8 @@ appended f l start taken front front' window window' ys n s small front_is n_is 
     let rest : window' ≡ drop (length R) X =
     window_is ∙ drop_min n window ∙ ap (λ n. drop n window) count
     ∙ sym (drop_fill (length R) window ys (run_fill_long window ys)) in
-    let front_now : drop start front' ≡ F ++ R = ap (drop start) front_is ∙ drop-append-le start front R i in
+    let front_now : drop start front' ≡ F ++ R = ap (drop start) front_is
+    ∙ drop-append-le start front R i in
     let left : length window' ≡ length window - length R = ap length (window_is ∙ drop_min n window)
     ∙ length-drop n window ∙ ap (λ n. length window - n) count in
     record {
@@ -103,10 +112,11 @@ appended f l start taken front front' window window' ys n s small front_is n_is 
         let i = s.start_in in
         omega (arith, more, long, left, h, i)
 
--- behind it
+-- after it
 pub held_more : (f l start taken : ℕ) (front : Bytes) (window window' : Cells) (d : ℕ) (ys : Bytes)
     → IsSound start taken l front window →
-    0 < d → 0 < length ys → d + length ys ≤ l → taken + (length front - start) + d + length ys ≤ 2 ^ 62
+    0 < d → 0 < length ys → d + length ys ≤ l
+    → taken + (length front - start) + d + length ys ≤ 2 ^ 62
     → window' ≡ fill_at d window ys →
     IsHeldMore f l start taken front front window window' d ys
 held_more f l start taken front window window' d ys s ahead some within small window_is =
@@ -115,7 +125,8 @@ held_more f l start taken front window window' d ys s ahead some within small wi
     let h = s.small in
     let i = s.start_in in
     let low = fill_at_low d window ys l w within in
-    let low' = fill_at_low d window ys (2 ^ 62 - (taken + (length front - start))) (omega (arith, h))
+    let low' = fill_at_low d window ys (2 ^ 62 - (taken + (length front - start)))
+    (omega (arith, h))
     (omega (arith, small)) in
     let len = ap length window_is in
     record {
@@ -130,11 +141,13 @@ held_more f l start taken front window window' d ys s ahead some within small wi
           ∙ sym (put_held F window d ys (run_held start taken l front window s)));
     }
 
--- The front is handed out.
-pub taken_front : (f l start taken n : ℕ) (front : Bytes) (window : Cells) → IsSound start taken l front window
+-- In-order bytes are delivered.
+pub taken_front : (f l start taken n : ℕ) (front : Bytes) (window : Cells)
+    → IsSound start taken l front window
     → n ≤ length (drop start front) →
     IsSound (start + n) (taken + n) l front window
-    × (held_of f l (start + n) (taken + n) front window ≡ without_front n (held_of f l start taken front window))
+    × (held_of f l (start + n) (taken + n) front window ≡ without_front n
+    (held_of f l start taken front window))
 taken_front f l start taken n front window s few =
     let len = length-drop start front in
     let i = s.start_in in
@@ -158,8 +171,9 @@ taken_front f l start taken n front window s few =
     drop-map (suc n) [] = refl
     drop-map (suc n) (x ∷ xs) = drop-map n xs
 
--- Nothing is available, so all stands behind the front.
-pub none_front : (start taken l : ℕ) (front : Bytes) (window : Cells) → IsSound start taken l front window
+-- If nothing is available, no in-order bytes are left.
+pub none_front : (start taken l : ℕ) (front : Bytes) (window : Cells)
+    → IsSound start taken l front window
     → run (held_cells start front window) ≡ [] → length front ≤ start
 none_front start taken l front window s none =
     let e = ap length (sym (run_held start taken l front window s) ∙ none) in
@@ -178,14 +192,17 @@ pass_room n front front' window few is =
     let short = length-drop n window in
     omega (arith, long, low, short, few)
 
--- What is missing at the front is given up.
-pub record IsSkipped (f l start taken n : ℕ) (front front' : Bytes) (window window' : Cells) : Type 0 where
+-- The missing bytes are skipped.
+pub record IsSkipped (f l start taken n : ℕ) (front front' : Bytes)
+    (window window' : Cells) : Type 0 where
   pub sound : IsSound start (taken + n) l front' window'
-  pub held : held_of f l start (taken + n) front' window' ≡ without_front n (held_of f l start taken front window)
+  pub held : held_of f l start (taken + n) front' window' ≡ without_front n
+      (held_of f l start taken front window)
 
 pub skipped : (f l start taken n m : ℕ) (front front' : Bytes) (window window' : Cells)
     → IsSound start taken l front window → length front ≤ start →
-    n ≤ length window → front' ≡ front ++ run (drop n window) → m ≡ n + (length front' - length front)
+    n ≤ length window → front' ≡ front ++ run (drop n window)
+    → m ≡ n + (length front' - length front)
     → window' ≡ drop m window →
     IsSkipped f l start taken n front front' window window'
 skipped f l start taken n m front front' window window' s none few front_is m_is window_is =
@@ -203,7 +220,8 @@ skipped f l start taken n m front front' window window' s none few front_is m_is
     ∙ sym (drop-drop (length R) n window) in
     let left = ap length rest ∙ length-drop (length R) X in
     let empty : drop start front ≡ [] = drop_all start front none in
-    let front_now : drop start front' ≡ R = ap (drop start) front_is ∙ drop-append-le start front R i
+    let front_now : drop start front' ≡ R = ap (drop start) front_is
+    ∙ drop-append-le start front R i
     ∙ ap (λ e. e ++ R) empty in
     record {
       sound = record {
@@ -225,12 +243,15 @@ same_cond false = refl
 
 pub gap_front : (start : ℕ) (front : Bytes) (window : Cells) → start < length front
     → gap (held_cells start front window) ≡ 0
-gap_front start front window some = go (drop start front) (let l = length-drop start front in omega (arith, l, some))
+gap_front start front window some =
+    go (drop start front) (let l = length-drop start front in omega (arith, l, some))
   where
     go : (F : Bytes) → 0 < length F → gap (map Some F ++ window) ≡ 0
     go [] h = absurd (omega (arith, h))
     go (x ∷ F) h = same_cond (ltb 0 (known (map Some (x ∷ F) ++ window)))
 
-pub behind_is : (start taken l : ℕ) (front : Bytes) (window : Cells) → IsSound start taken l front window
+pub behind_is : (start taken l : ℕ) (front : Bytes) (window : Cells)
+    → IsSound start taken l front window
     → known_behind (held_cells start front window) ≡ known window
-behind_is start taken l front window s = behind_some (drop start front) window ∙ behind_all window s.first_empty
+behind_is start taken l front window s = behind_some (drop start front) window
+    ∙ behind_all window s.first_empty

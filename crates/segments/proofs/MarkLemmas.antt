@@ -1,4 +1,4 @@
--- Bytes that stand where a mark is set.
+-- Bytes that are present if a mark is set.
 use Rattle.std.proofs.Common.{◌≡◌, ℕ, zero, suc, ◌+◌, ◌<◌, ◌≤◌, List, [], ◌∷◌, ◌++◌, length, take, drop, get_or, set}
 use Rattle.std.proofs.Common.{replicate, Some, None, Bool, true, false, cond, refl, sym, ◌∙◌, ap, arith, append-nil, append_assoc}
 use Rattle.std.proofs.Common.{if◌then◌else◌, inr, not, ◌==◌, eqb}
@@ -11,12 +11,15 @@ use Rattle.segments.specs.Places.{over, standing}
 use Rattle.segments.proofs.CellLemmas.{fill_nil, run_next, run_stops}
 use Rattle.segments.proofs.PlaceLemmas.{IsAppending, appended_all, appended_one, differing_one, over_end, over_next}
 
-pub marked_length : (ms : List Bool) (bs : Bytes) → length bs ≡ length ms → length (marked ms bs) ≡ length ms
+pub marked_length : (ms : List Bool) (bs : Bytes) → length bs ≡ length ms
+    → length (marked ms bs) ≡ length ms
 marked_length [] bs e = refl
 marked_length (m ∷ ms) [] e = absurd (omega (arith, e))
-marked_length (m ∷ ms) (b ∷ bs) e = let r = marked_length ms bs (omega (arith, e)) in omega (arith, r)
+marked_length (m ∷ ms) (b ∷ bs) e = let r = marked_length ms bs (omega (arith, e)) in
+    omega (arith, r)
 
-pub marked_take : (n : ℕ) (ms : List Bool) (bs : Bytes) → marked (take n ms) (take n bs) ≡ take n (marked ms bs)
+pub marked_take : (n : ℕ) (ms : List Bool) (bs : Bytes)
+    → marked (take n ms) (take n bs) ≡ take n (marked ms bs)
 marked_take zero ms bs = refl
 marked_take (suc n) [] bs = refl
 marked_take (suc n) (m ∷ ms) [] = refl
@@ -26,7 +29,8 @@ nothing_marked : (ms : List Bool) → marked ms [] ≡ []
 nothing_marked [] = refl
 nothing_marked (m ∷ ms) = refl
 
-pub marked_drop : (n : ℕ) (ms : List Bool) (bs : Bytes) → marked (drop n ms) (drop n bs) ≡ drop n (marked ms bs)
+pub marked_drop : (n : ℕ) (ms : List Bool) (bs : Bytes)
+    → marked (drop n ms) (drop n bs) ≡ drop n (marked ms bs)
 marked_drop zero ms bs = refl
 marked_drop (suc n) [] bs = refl
 marked_drop (suc n) (m ∷ ms) [] = nothing_marked (drop n ms)
@@ -40,14 +44,16 @@ marked_append (m ∷ ms) ns [] cs e = absurd (omega (arith, e))
 marked_append (m ∷ ms) ns (b ∷ bs) cs e =
     ap (λ r. (cond m (Some b) None) ∷ r) (marked_append ms ns bs cs (omega (arith, e)))
 
--- What stands at a place.
-pub cell_unmarked : (ms : List Bool) (bs : Bytes) (i : ℕ) → get_or ms i false ≡ false → cell (marked ms bs) i ≡ None
+-- The byte at a position.
+pub cell_unmarked : (ms : List Bool) (bs : Bytes) (i : ℕ) → get_or ms i false ≡ false
+    → cell (marked ms bs) i ≡ None
 cell_unmarked [] bs i e = refl
 cell_unmarked (m ∷ ms) [] i e = refl
 cell_unmarked (m ∷ ms) (b ∷ bs) zero e = ap (λ (t : Bool). cond t (Some b) None) e
 cell_unmarked (m ∷ ms) (b ∷ bs) (suc i) e = cell_unmarked ms bs i e
 
-pub cell_marked : (ms : List Bool) (bs : Bytes) (i : ℕ) → get_or ms i false ≡ true → length bs ≡ length ms
+pub cell_marked : (ms : List Bool) (bs : Bytes) (i : ℕ) → get_or ms i false ≡ true
+    → length bs ≡ length ms
     → cell (marked ms bs) i ≡ Some (get_or bs i 0)
 cell_marked [] bs i e l = absurd cc
 cell_marked (m ∷ ms) [] i e l = absurd (omega (arith, l))
@@ -64,13 +70,17 @@ set_marks_low [] = omega arith
 set_marks_low (true ∷ ms) = let r = set_marks_low ms in omega (arith, r)
 set_marks_low (false ∷ ms) = let r = set_marks_low ms in omega (arith, r)
 
-pub known_marked : (ms : List Bool) (bs : Bytes) → length bs ≡ length ms → known (marked ms bs) ≡ set_marks ms
+pub known_marked : (ms : List Bool) (bs : Bytes) → length bs ≡ length ms
+    → known (marked ms bs) ≡ set_marks ms
 known_marked [] bs l = refl
 known_marked (m ∷ ms) [] l = absurd (omega (arith, l))
-known_marked (true ∷ ms) (b ∷ bs) l = let r = known_marked ms bs (omega (arith, l)) in omega (arith, r)
-known_marked (false ∷ ms) (b ∷ bs) l = let r = known_marked ms bs (omega (arith, l)) in omega (arith, r)
+known_marked (true ∷ ms) (b ∷ bs) l = let r = known_marked ms bs (omega (arith, l)) in
+    omega (arith, r)
+known_marked (false ∷ ms) (b ∷ bs) l = let r = known_marked ms bs (omega (arith, l)) in
+    omega (arith, r)
 
-pub standing_marks : (ms : List Bool) (bs : Bytes) (n : ℕ) → length bs ≡ length ms → n ≡ known (marked ms bs)
+pub standing_marks : (ms : List Bool) (bs : Bytes) (n : ℕ) → length bs ≡ length ms
+    → n ≡ known (marked ms bs)
     → set_marks ms ≡ n
 standing_marks ms bs n l e = sym (e ∙ known_marked ms bs l)
 
@@ -79,8 +89,10 @@ set_marks_append [] b = let e : set_marks b ≡ 0 + set_marks b = omega arith in
 set_marks_append (true ∷ a) b = let r = set_marks_append a b in omega (arith, r)
 set_marks_append (false ∷ a) b = let r = set_marks_append a b in omega (arith, r)
 
-pub set_marks_split : (n : ℕ) (ms : List Bool) → set_marks (take n ms) + set_marks (drop n ms) ≡ set_marks ms
-set_marks_split n ms = sym (set_marks_append (take n ms) (drop n ms)) ∙ ap set_marks (take-append-drop n ms)
+pub set_marks_split : (n : ℕ) (ms : List Bool)
+    → set_marks (take n ms) + set_marks (drop n ms) ≡ set_marks ms
+set_marks_split n ms = sym (set_marks_append (take n ms) (drop n ms))
+    ∙ ap set_marks (take-append-drop n ms)
 
 pub set_marks_next : (ms : List Bool) (i : ℕ) → i < length ms
     → set_marks (take (i + 1) ms) ≡ set_marks (take i ms) + (cond (get_or ms i false) 1 0)
@@ -93,7 +105,7 @@ set_marks_next ms i h = let n : i + 1 ≡ suc i = omega arith in
     go (m ∷ ms) zero h = omega arith
     go (m ∷ ms) (suc i) h = let r = go ms i (omega (arith, h)) in omega (arith, r)
 
--- Where none stands, and where all do.
+-- If none is present, and if all are.
 pub over_none : (ms : List Bool) (bs ys : Bytes) → set_marks ms ≡ 0 → over (marked ms bs) ys ≡ ys
 over_none [] bs ys e = refl
 over_none (m ∷ ms) [] ys e = refl
@@ -110,14 +122,16 @@ over_all (m ∷ ms) [] ys l k e = absurd (omega (arith, l))
 over_all (m ∷ ms) (b ∷ bs) [] l k e = absurd (omega (arith, k))
 over_all (true ∷ ms) (b ∷ bs) (y ∷ ys) l k e =
     ap (λ r. b ∷ r) (over_all ms bs ys (omega (arith, l)) (omega (arith, k)) (omega (arith, e)))
-over_all (false ∷ ms) (b ∷ bs) (y ∷ ys) l k e = let low = set_marks_low ms in absurd (omega (arith, e, low))
+over_all (false ∷ ms) (b ∷ bs) (y ∷ ys) l k e = let low = set_marks_low ms in
+    absurd (omega (arith, e, low))
 
 pub run_all : (ms : List Bool) (bs : Bytes) → length bs ≡ length ms → set_marks ms ≡ length ms
     → run (marked ms bs) ≡ bs
 run_all [] [] l e = refl
 run_all [] (b ∷ bs) l e = absurd (omega (arith, l))
 run_all (m ∷ ms) [] l e = absurd (omega (arith, l))
-run_all (true ∷ ms) (b ∷ bs) l e = ap (λ r. b ∷ r) (run_all ms bs (omega (arith, l)) (omega (arith, e)))
+run_all (true ∷ ms) (b ∷ bs) l e =
+    ap (λ r. b ∷ r) (run_all ms bs (omega (arith, l)) (omega (arith, e)))
 run_all (false ∷ ms) (b ∷ bs) l e = let low = set_marks_low ms in absurd (omega (arith, e, low))
 
 pub fill_all : (ms : List Bool) (bs ys : Bytes) → length bs ≡ length ms → length ys ≡ length ms
@@ -127,8 +141,10 @@ fill_all [] bs (y ∷ ys) l k e = absurd (omega (arith, k))
 fill_all (m ∷ ms) [] ys l k e = absurd (omega (arith, l))
 fill_all (m ∷ ms) (b ∷ bs) [] l k e = absurd (omega (arith, k))
 fill_all (true ∷ ms) (b ∷ bs) (y ∷ ys) l k e =
-    ap (λ r. Some b ∷ r) (fill_all ms bs ys (omega (arith, l)) (omega (arith, k)) (omega (arith, e)))
-fill_all (false ∷ ms) (b ∷ bs) (y ∷ ys) l k e = let low = set_marks_low ms in absurd (omega (arith, e, low))
+    ap (λ r. Some b ∷ r)
+    (fill_all ms bs ys (omega (arith, l)) (omega (arith, k)) (omega (arith, e)))
+fill_all (false ∷ ms) (b ∷ bs) (y ∷ ys) l k e = let low = set_marks_low ms in
+    absurd (omega (arith, e, low))
 
 pub fill_none : (ms : List Bool) (bs ys : Bytes) → length bs ≡ length ms → length ys ≡ length ms
     → set_marks ms ≡ 0 → marked (replicate (length ms) true) ys ≡ fill (marked ms bs) ys
@@ -138,7 +154,8 @@ fill_none (m ∷ ms) [] ys l k e = absurd (omega (arith, l))
 fill_none (m ∷ ms) (b ∷ bs) [] l k e = absurd (omega (arith, k))
 fill_none (true ∷ ms) (b ∷ bs) (y ∷ ys) l k e = absurd (omega (arith, e))
 fill_none (false ∷ ms) (b ∷ bs) (y ∷ ys) l k e =
-    ap (λ r. Some y ∷ r) (fill_none ms bs ys (omega (arith, l)) (omega (arith, k)) (omega (arith, e)))
+    ap (λ r. Some y ∷ r)
+    (fill_none ms bs ys (omega (arith, l)) (omega (arith, k)) (omega (arith, e)))
 
 pub set_marks_all : (n : ℕ) → set_marks (replicate n true) ≡ n
 set_marks_all zero = refl
@@ -159,22 +176,25 @@ run_so_far ms bs i l h e so =
 pub run_ends : (ms : List Bool) (bs : Bytes) (i : ℕ) → get_or ms i false ≡ false
     → run (marked ms bs) ≡ take i bs ++ run (drop i (marked ms bs)) → take i bs ≡ run (marked ms bs)
 run_ends ms bs i e so =
-    sym (so ∙ ap (λ r. take i bs ++ r) (run_stops (marked ms bs) i (cell_unmarked ms bs i e)) ∙ append-nil (take i bs))
+    sym (so ∙ ap (λ r. take i bs ++ r) (run_stops (marked ms bs) i (cell_unmarked ms bs i e))
+    ∙ append-nil (take i bs))
 
 pub run_ended : (ms : List Bool) (bs : Bytes) (i : ℕ) → length bs ≡ length ms → length ms ≤ i
     → run (marked ms bs) ≡ take i bs ++ run (drop i (marked ms bs)) → bs ≡ run (marked ms bs)
 run_ended ms bs i l h so =
     sym (so
-    ∙ ap (λ c. take i bs ++ run c) (drop_all i (marked ms bs) (let r = marked_length ms bs l in omega (arith, r, h)))
+    ∙ ap (λ c. take i bs ++ run c)
+    (drop_all i (marked ms bs) (let r = marked_length ms bs l in omega (arith, r, h)))
     ∙ append-nil (take i bs) ∙ take_all i bs (omega (arith, l, h)))
 
--- Bytes put one by one.
+-- Bytes written one by one.
 pub record IsFilling (cs : Cells) (ys : Bytes) (i count : ℕ) (now : Cells) : Type 0 where
   pub is : now ≡ fill cs (take i ys)
   pub counted : known now ≡ known cs + count
   pub low : count ≤ i
 
-fill_cell : (cs : Cells) (ys : Bytes) (i : ℕ) → i < length cs → cell (fill cs (take i ys)) i ≡ cell cs i
+fill_cell : (cs : Cells) (ys : Bytes) (i : ℕ) → i < length cs
+    → cell (fill cs (take i ys)) i ≡ cell cs i
 fill_cell [] ys i h = absurd (omega (arith, h))
 fill_cell (c ∷ cs) [] zero h = refl
 fill_cell (c ∷ cs) [] (suc i) h = refl
@@ -197,12 +217,14 @@ marked_set (m ∷ ms) [] (suc i) y = refl
 marked_set (m ∷ ms) (b ∷ bs) zero y = refl
 marked_set (m ∷ ms) (b ∷ bs) (suc i) y = ap (λ r. (cond m (Some b) None) ∷ r) (marked_set ms bs i y)
 
-known_more : (cs : Cells) (i y : ℕ) → i < length cs → cell cs i ≡ None → known (set cs i (Some y)) ≡ known cs + 1
+known_more : (cs : Cells) (i y : ℕ) → i < length cs → cell cs i ≡ None
+    → known (set cs i (Some y)) ≡ known cs + 1
 known_more [] i y h e = absurd (omega (arith, h))
 known_more (None ∷ cs) zero y h e = omega arith
 known_more (Some x ∷ cs) zero y h e = absurd cc
 known_more (None ∷ cs) (suc i) y h e = known_more cs i y (omega (arith, h)) e
-known_more (Some x ∷ cs) (suc i) y h e = let r = known_more cs i y (omega (arith, h)) e in omega (arith, r)
+known_more (Some x ∷ cs) (suc i) y h e = let r = known_more cs i y (omega (arith, h)) e in
+    omega (arith, r)
 
 set_same : (cs : Cells) (i y b : ℕ) → cell cs i ≡ Some b → set cs i (or_else (cell cs i) y) ≡ cs
 set_same [] i y b e = refl
@@ -216,8 +238,10 @@ filling_starts cs ys = record {
   low = omega arith;
 }
 
-pub filling_put : (cs : Cells) (ys : Bytes) (i count count' : ℕ) (ms ms' : List Bool) (bs bs' : Bytes)
-    → IsFilling cs ys i count (marked ms bs) → i < length ms → length bs ≡ length ms → length cs ≡ length ms
+pub filling_put : (cs : Cells) (ys : Bytes) (i count count' : ℕ) (ms ms' : List Bool)
+    (bs bs' : Bytes)
+    → IsFilling cs ys i count (marked ms bs) → i < length ms → length bs ≡ length ms
+    → length cs ≡ length ms
     → length ys ≡ length ms → get_or ms i false ≡ false
     → ms' ≡ set ms i true → bs' ≡ set bs i (get_or ys i 0) → count' ≡ count + 1
     → IsFilling cs ys (i + 1) count' (marked ms' bs')
@@ -232,7 +256,8 @@ filling_put cs ys i count count' ms ms' bs bs' so h l k m e ms_is bs_is more = r
   counted =
       (let long = marked_length ms bs l in
       let one = ap known now
-      ∙ known_more (marked ms bs) i (get_or ys i 0) (omega (arith, h, long)) (cell_unmarked ms bs i e) in
+      ∙ known_more (marked ms bs) i (get_or ys i 0) (omega (arith, h, long))
+      (cell_unmarked ms bs i e) in
       let c = so.counted in
       omega (arith, one, c, more));
   low = (let c = so.low in omega (arith, c, more));
@@ -243,10 +268,13 @@ filling_put cs ys i count count' ms ms' bs bs' so h l k m e ms_is bs_is more = r
         ∙ marked_set ms bs i (get_or ys i 0)
 
     none : cell cs i ≡ None
-    none = sym (fill_cell cs ys i (omega (arith, h, k))) ∙ ap (λ c. cell c i) (sym so.is) ∙ cell_unmarked ms bs i e
+    none = sym (fill_cell cs ys i (omega (arith, h, k))) ∙ ap (λ c. cell c i) (sym so.is)
+        ∙ cell_unmarked ms bs i e
 
-pub filling_kept : (cs : Cells) (ys : Bytes) (i count count' : ℕ) (ms ms' : List Bool) (bs bs' : Bytes)
-    → IsFilling cs ys i count (marked ms bs) → i < length ms → length bs ≡ length ms → length cs ≡ length ms
+pub filling_kept : (cs : Cells) (ys : Bytes) (i count count' : ℕ) (ms ms' : List Bool)
+    (bs bs' : Bytes)
+    → IsFilling cs ys i count (marked ms bs) → i < length ms → length bs ≡ length ms
+    → length cs ≡ length ms
     → length ys ≡ length ms → get_or ms i false ≡ true
     → ms' ≡ ms → bs' ≡ bs → count' ≡ count
     → IsFilling cs ys (i + 1) count' (marked ms' bs')
@@ -255,7 +283,8 @@ filling_kept cs ys i count count' ms ms' bs bs' so h l k m e ms_is bs_is more = 
       (let n : suc i ≡ i + 1 = omega arith in
       now ∙ so.is
       ∙ sym (set_same (fill cs (take i ys)) i (get_or ys i 0) (get_or bs i 0) stands)
-      ∙ ap (λ o. set (fill cs (take i ys)) i (or_else o (get_or ys i 0))) (fill_cell cs ys i (omega (arith, h, k)))
+      ∙ ap (λ o. set (fill cs (take i ys)) i (or_else o (get_or ys i 0)))
+      (fill_cell cs ys i (omega (arith, h, k)))
       ∙ sym (fill_step cs ys i 0 (omega (arith, h, k)) (omega (arith, h, m)))
       ∙ ap (λ j. fill cs (take j ys)) n);
   counted = ap known now ∙ so.counted ∙ ap (λ n. known cs + n) (sym more);
@@ -268,12 +297,14 @@ filling_kept cs ys i count count' ms ms' bs bs' so h l k m e ms_is bs_is more = 
     stands : cell (fill cs (take i ys)) i ≡ Some (get_or bs i 0)
     stands = ap (λ c. cell c i) (sym so.is) ∙ cell_marked ms bs i e l
 
-pub filling_ends : (cs : Cells) (ys : Bytes) (i count : ℕ) (now : Cells) → IsFilling cs ys i count now → length ys ≤ i
+pub filling_ends : (cs : Cells) (ys : Bytes) (i count : ℕ) (now : Cells)
+    → IsFilling cs ys i count now → length ys ≤ i
     → now ≡ fill cs ys
 filling_ends cs ys i count now so h = so.is ∙ ap (fill cs) (take_all i ys h)
 
--- What is put behind others at a place.
-pub standing_marked : (ms : List Bool) (bs : Bytes) (i y : ℕ) → length bs ≡ length ms → get_or ms i false ≡ true
+-- The byte that is appended for a position.
+pub standing_marked : (ms : List Bool) (bs : Bytes) (i y : ℕ) → length bs ≡ length ms
+    → get_or ms i false ≡ true
     → get_or bs i 0 ≡ standing (cell (marked ms bs) i) y
 standing_marked ms bs i y l e = sym (ap (λ o. standing o y) (cell_marked ms bs i e l))
 
@@ -281,15 +312,18 @@ pub standing_unmarked : (ms : List Bool) (bs : Bytes) (i y : ℕ) → get_or ms 
     → y ≡ standing (cell (marked ms bs) i) y
 standing_unmarked ms bs i y e = sym (ap (λ o. standing o y) (cell_unmarked ms bs i e))
 
-pub over_one : (out out' out0 : Bytes) (ms : List Bool) (bs ys : Bytes) (i b : ℕ) → length bs ≡ length ms
+pub over_one : (out out' out0 : Bytes) (ms : List Bool) (bs ys : Bytes) (i b : ℕ)
+    → length bs ≡ length ms
     → length ys ≡ length ms → i < length ms
     → IsAppending out out0 (over (drop i (marked ms bs)) (drop i ys)) (over (marked ms bs) ys)
     → out' ≡ out ++ b ∷ [] → b ≡ standing (cell (marked ms bs) i) (get_or ys i 0)
-    → IsAppending out' out0 (over (drop (i + 1) (marked ms bs)) (drop (i + 1) ys)) (over (marked ms bs) ys)
+    → IsAppending out' out0 (over (drop (i + 1) (marked ms bs)) (drop (i + 1) ys))
+    (over (marked ms bs) ys)
 over_one out out' out0 ms bs ys i b l k h so put is =
     appended_one out out' out0 (over (marked ms bs) ys) (over (drop i (marked ms bs)) (drop i ys))
     (over (drop (i + 1) (marked ms bs)) (drop (i + 1) ys)) b so
-    (over_next (marked ms bs) ys i 0 (let r = marked_length ms bs l in omega (arith, r, h)) (omega (arith, h, k))
+    (over_next (marked ms bs) ys i 0 (let r = marked_length ms bs l in omega (arith, r, h))
+    (omega (arith, h, k))
     ∙ ap (λ c. c ∷ over (drop (i + 1) (marked ms bs)) (drop (i + 1) ys)) (sym is))
     put
 
@@ -299,7 +333,8 @@ over_done out out0 cs ys i h so =
     appended_all out out0 (over cs ys) (over (drop i cs) (drop i ys)) so
     (over_end cs ys i (inr h) ∙ drop_all i ys h)
 
-pub unlike_one : (ms : List Bool) (bs ys : Bytes) (i count count' all : ℕ) (t u : Bool) → length bs ≡ length ms
+pub unlike_one : (ms : List Bool) (bs ys : Bytes) (i count count' all : ℕ) (t u : Bool)
+    → length bs ≡ length ms
     → length ys ≡ length ms → i < length ys → get_or ms i false ≡ t
     → not (get_or bs i 0 == get_or ys i 0) ≡ u
     → count' ≡ count + cond t (cond u 1 0) 0
@@ -314,7 +349,8 @@ unlike_one ms bs ys i count count' all t u l k h mark unlike more so =
     zero_at = omega arith
 
     told : (s : Bool) → get_or ms i false ≡ s
-        → ◌≡◌ {A = ℕ} (if differs (cell (marked ms bs) (0 + i)) (get_or ys i 0) then 1 else 0) (cond s (cond u 1 0) 0)
+        → ◌≡◌ {A = ℕ} (if differs (cell (marked ms bs) (0 + i)) (get_or ys i 0) then 1 else 0)
+        (cond s (cond u 1 0) 0)
     told true e =
         ap (λ j. if differs (cell (marked ms bs) j) (get_or ys i 0) then 1 else 0) zero_at
         ∙ ap (λ o. if differs o (get_or ys i 0) then 1 else 0) (cell_marked ms bs i e l)
@@ -323,10 +359,13 @@ unlike_one ms bs ys i count count' all t u l k h mark unlike more so =
         ap (λ j. if differs (cell (marked ms bs) j) (get_or ys i 0) then 1 else 0) zero_at
         ∙ ap (λ o. if differs o (get_or ys i 0) then 1 else 0) (cell_unmarked ms bs i e)
 
-pub counted_mark : (ms : List Bool) (i count count' : ℕ) (t : Bool) → i < length ms → get_or ms i false ≡ t
-    → count ≡ set_marks (take i ms) → count' ≡ count + cond t 1 0 → count' ≡ set_marks (take (i + 1) ms)
+pub counted_mark : (ms : List Bool) (i count count' : ℕ) (t : Bool) → i < length ms
+    → get_or ms i false ≡ t
+    → count ≡ set_marks (take i ms) → count' ≡ count + cond t 1 0
+    → count' ≡ set_marks (take (i + 1) ms)
 counted_mark ms i count count' t h e so more =
-    more ∙ ap (λ c. c + cond t 1 0) so ∙ ap (λ (v : Bool). set_marks (take i ms) + cond v 1 0) (sym e)
+    more ∙ ap (λ c. c + cond t 1 0) so
+    ∙ ap (λ (v : Bool). set_marks (take i ms) + cond v 1 0) (sym e)
     ∙ sym (set_marks_next ms i h)
 
 pub unlike_is : (a b : ℕ) → (a ≡ b → ⊥) → not (a == b) ≡ true
@@ -343,19 +382,23 @@ alike_is a b same = go (eqb a b) refl
     go true e = refl
     go false e = absurd (eqb-false a b e same)
 
--- All are put at once.
-pub none_filled : (ms ms' : List Bool) (bs bs' ys : Bytes) → length bs ≡ length ms → length ys ≡ length ms
-    → set_marks ms ≡ 0 → ms' ≡ replicate (length ms) true → bs' ≡ ys → marked ms' bs' ≡ fill (marked ms bs) ys
+-- All are written at once.
+pub none_filled : (ms ms' : List Bool) (bs bs' ys : Bytes) → length bs ≡ length ms
+    → length ys ≡ length ms
+    → set_marks ms ≡ 0 → ms' ≡ replicate (length ms) true → bs' ≡ ys
+    → marked ms' bs' ≡ fill (marked ms bs) ys
 none_filled ms ms' bs bs' ys l k e all put =
     ap (λ (m : List Bool). marked m bs') all ∙ ap (marked (replicate (length ms) true)) put
     ∙ fill_none ms bs ys l k e
 
-pub none_counted : (ms ms' : List Bool) (bs bs' ys : Bytes) → length bs ≡ length ms → length ys ≡ length ms
+pub none_counted : (ms ms' : List Bool) (bs bs' ys : Bytes) → length bs ≡ length ms
+    → length ys ≡ length ms
     → set_marks ms ≡ 0 → ms' ≡ replicate (length ms) true → bs' ≡ ys
     → known (marked ms' bs') ≡ known (marked ms bs) + length ys
 none_counted ms ms' bs bs' ys l k e all put =
     let long = length-replicate {A = Bool} (length ms) true in
-    let new = ap (λ (m : List Bool). marked m bs') all ∙ ap (marked (replicate (length ms) true)) put in
+    let new = ap (λ (m : List Bool). marked m bs') all
+    ∙ ap (marked (replicate (length ms) true)) put in
     let count = ap known new ∙ known_marked (replicate (length ms) true) ys (omega (arith, long, k))
     ∙ set_marks_all (length ms) in
     let old = known_marked ms bs l in

@@ -1,4 +1,4 @@
--- Places in pages.
+-- Positions in pages.
 use Rattle.std.proofs.Common.{◌≡◌, ℕ, zero, suc, ◌+◌, ◌-◌, ◌<◌, ◌≤◌, [], ◌∷◌, ◌++◌, length, drop, map}
 use Rattle.std.proofs.Common.{◌^◌, Option, Some, None, Bool, true, false, cond, ltb, refl, sym, ◌∙◌, ap, arith}
 use Rattle.std.proofs.Common.{max}
@@ -9,7 +9,7 @@ use Rattle.segments.specs.Pages.{AreWhole, IsPaged, IsWritten, Pages, place, pla
 use Rattle.segments.proofs.CellLemmas.{cell_none, put_at}
 use Rattle.segments.proofs.LawLemmas.{cell_put, cell_put_low}
 
--- Cells, place by place.
+-- Cells, position by position.
 pub cells_eq : (a b : Cells) → length a ≡ length b → ((i : ℕ) → cell a i ≡ cell b i) → a ≡ b
 cells_eq [] [] e h = refl
 cells_eq [] (y ∷ b) e h = absurd (omega (arith, e))
@@ -27,11 +27,12 @@ earlier_on : (a b c : Option ℕ) → earlier (earlier a b) c ≡ earlier a (ear
 earlier_on None b c = refl
 earlier_on (Some x) b c = refl
 
-pub known_cons : (c : Option ℕ) (xs ys : Cells) (n : ℕ) → known xs ≡ known ys + n → known (c ∷ xs) ≡ known (c ∷ ys) + n
+pub known_cons : (c : Option ℕ) (xs ys : Cells) (n : ℕ) → known xs ≡ known ys + n
+    → known (c ∷ xs) ≡ known (c ∷ ys) + n
 known_cons None xs ys n e = e
 known_cons (Some x) xs ys n e = omega (arith, e)
 
--- How many places, and what stands there.
+-- The number of positions, and their bytes.
 pub places_length : (n k : ℕ) (m : Pages) → length (places n k m) ≡ n
 places_length zero k m = refl
 places_length (suc n) k m = let r = places_length n (suc k) m in omega (arith, r)
@@ -59,11 +60,13 @@ places_drop zero n k m =
     let e : n ≡ n - 0 = omega arith in
     let f : k ≡ k + 0 = omega arith in
     ap (λ x. places x k m) e ∙ ap (λ x. places (n - 0) x m) f
-places_drop (suc a) zero k m = let e : 0 ≡ 0 - suc a = omega arith in ap (λ x. places x (k + suc a) m) e
+places_drop (suc a) zero k m = let e : 0 ≡ 0 - suc a = omega arith in
+    ap (λ x. places x (k + suc a) m) e
 places_drop (suc a) (suc n) k m =
     let e : n - a ≡ suc n - suc a = omega arith in
     let f : suc k + a ≡ k + suc a = omega arith in
-    places_drop a n (suc k) m ∙ ap (λ x. places x (suc k + a) m) e ∙ ap (λ x. places (suc n - suc a) x m) f
+    places_drop a n (suc k) m ∙ ap (λ x. places x (suc k + a) m) e
+    ∙ ap (λ x. places (suc n - suc a) x m) f
 
 pub places_split : (a b k : ℕ) (m : Pages) → places (a + b) k m ≡ places a k m ++ places b (k + a) m
 places_split zero b k m =
@@ -74,7 +77,8 @@ places_split (suc a) b k m =
     let e : suc a + b ≡ suc (a + b) = omega arith in
     let f : suc k + a ≡ k + suc a = omega arith in
     ap (λ x. places x k m) e
-    ∙ ap (λ r. place m k ∷ r) (places_split a b (suc k) m ∙ ap (λ x. places a (suc k) m ++ places b x m) f)
+    ∙ ap (λ r. place m k ∷ r)
+    (places_split a b (suc k) m ∙ ap (λ x. places a (suc k) m ++ places b x m) f)
 
 pub known_append : (a b : Cells) → known (a ++ b) ≡ known a + known b
 known_append [] b = let e : known b ≡ 0 + known b = omega arith in e
@@ -83,9 +87,11 @@ known_append (Some x ∷ a) b = let r = known_append a b in omega (arith, r)
 
 pub known_split_at : (n a k : ℕ) (m : Pages)
     → known (places (n + a) k m) ≡ known (places n k m) + known (places a (k + n) m)
-known_split_at n a k m = ap known (places_split n a k m) ∙ known_append (places n k m) (places a (k + n) m)
+known_split_at n a k m = ap known (places_split n a k m)
+    ∙ known_append (places n k m) (places a (k + n) m)
 
-pub places_same : (n k : ℕ) (m m' : Pages) → ((j : ℕ) → k ≤ j → place m' j ≡ place m j) → places n k m' ≡ places n k m
+pub places_same : (n k : ℕ) (m m' : Pages) → ((j : ℕ) → k ≤ j → place m' j ≡ place m j)
+    → places n k m' ≡ places n k m
 places_same zero k m m' same = refl
 places_same (suc n) k m m' same =
     let first = same k (omega arith) in
@@ -98,7 +104,7 @@ known_none (suc n) k m none =
     ap (λ c. known (c ∷ places n (suc k) m)) (none k (omega arith))
     ∙ known_none n (suc k) m (λ j h. none j (omega (arith, h)))
 
--- Behind the last byte nothing is counted.
+-- After the last byte nothing is counted.
 known_longer : (n a k : ℕ) (m : Pages) → ((j : ℕ) → k + n ≤ j → place m j ≡ None)
     → known (places (n + a) k m) ≡ known (places n k m)
 known_longer zero a k m none =
@@ -107,9 +113,11 @@ known_longer zero a k m none =
 known_longer (suc n) a k m none =
     let e : suc n + a ≡ suc (n + a) = omega arith in
     let r = known_longer n a (suc k) m (λ j h. none j (omega (arith, h))) in
-    let s = known_cons (place m k) (places (n + a) (suc k) m) (places n (suc k) m) 0 (omega (arith, r)) in
+    let s = known_cons (place m k) (places (n + a) (suc k) m) (places n (suc k) m) 0
+    (omega (arith, r)) in
     ap (λ x. known (places x k m)) e
-    ∙ (let t : known (place m k ∷ places (n + a) (suc k) m) ≡ known (place m k ∷ places n (suc k) m) =
+    ∙ (let t : known (place m k ∷ places (n + a) (suc k) m) ≡ known
+    (place m k ∷ places n (suc k) m) =
     omega (arith, s) in t)
 
 pub known_all : (n l k : ℕ) (m : Pages) → n ≤ l → ((j : ℕ) → k + n ≤ j → place m j ≡ None)
@@ -118,9 +126,10 @@ known_all n l k m h none =
     let e : l ≡ n + (l - n) = omega (arith, h) in
     ap (λ x. known (places x k m)) e ∙ known_longer n (l - n) k m none
 
--- What bytes put, one after the other.
+-- The bytes written by one block after another.
 byte_behind : (x y : Bytes) (i : ℕ)
-    → byte_at (x ++ y) i ≡ earlier (byte_at x i) (cond (ltb i (length x)) None (byte_at y (i - length x)))
+    → byte_at (x ++ y) i ≡ earlier (byte_at x i)
+    (cond (ltb i (length x)) None (byte_at y (i - length x)))
 byte_behind [] y i = first (ltb i 0) refl
   where
     first : (t : Bool) → ltb i 0 ≡ t → byte_at y i ≡ cond t None (byte_at y (i - 0))
@@ -161,13 +170,16 @@ written_behind at x y j = go (ltb j at) refl
         front false f low = let g = ltb-false j (at + length x) f in absurd (omega (arith, g, low))
     go false e =
         let h = ltb-false j at e in
-        ap (earlier (byte_at x (j - at))) (behind (ltb j (at + length x)) (ltb (j - at) (length x)) refl refl h)
+        ap (earlier (byte_at x (j - at)))
+        (behind (ltb j (at + length x)) (ltb (j - at) (length x)) refl refl h)
         ∙ sym (byte_behind x y (j - at))
       where
         behind : (s t : Bool) → ltb j (at + length x) ≡ s → ltb (j - at) (length x) ≡ t → at ≤ j
-            → cond s None (byte_at y (j - (at + length x))) ≡ cond t None (byte_at y (j - at - length x))
+            → cond s None (byte_at y (j - (at + length x))) ≡ cond t None
+            (byte_at y (j - at - length x))
         behind true true f g h = refl
-        behind false false f g h = let n : j - (at + length x) ≡ j - at - length x = omega arith in ap (byte_at y) n
+        behind false false f g h = let n : j - (at + length x) ≡ j - at - length x = omega arith in
+            ap (byte_at y) n
         behind true false f g h =
             let p = ltb-true j (at + length x) f in let q = ltb-false (j - at) (length x) g in
             absurd (omega (arith, p, q, h))
@@ -175,7 +187,8 @@ written_behind at x y j = go (ltb j at) refl
             let p = ltb-false j (at + length x) f in let q = ltb-true (j - at) (length x) g in
             absurd (omega (arith, p, q, h))
 
-pub written_on : (at at' c d : ℕ) (x y : Bytes) (m n o : Pages) → at' ≡ at + length x → IsWritten at x m n c
+pub written_on : (at at' c d : ℕ) (x y : Bytes) (m n o : Pages) → at' ≡ at + length x
+    → IsWritten at x m n c
     → IsWritten at' y n o d → IsWritten at (x ++ y) m o (c + d)
 written_on at at' c d x y m n o is first last = record {
   whole = last.whole;
@@ -193,7 +206,7 @@ written_on at at' c d x y m n o is first last = record {
       omega (arith, p, q);
 }
 
--- Bytes that are put at places of a window.
+-- Bytes that are written to positions of a window.
 fill_long : (cs : Cells) (ys : Bytes) → length (fill cs ys) ≡ max (length cs) (length ys)
 fill_long [] ys = length-map ys Some ∙ (let e : length ys ≡ max 0 (length ys) = omega arith in e)
 fill_long (c ∷ cs) [] = omega arith
@@ -205,14 +218,17 @@ fill_at_long zero cs ys some = let r = fill_long cs ys in omega (arith, r)
 fill_at_long (suc k) [] ys some = let r = fill_at_long k [] ys some in omega (arith, r, some)
 fill_at_long (suc k) (c ∷ cs) ys some = let r = fill_at_long k cs ys some in omega (arith, r)
 
--- What a Window keeps, and shows, once bytes were put.
-pub record IsFuller (begin len held at : ℕ) (ys : Bytes) (m n : Pages) (len' held' : ℕ) : Type 0 where
+-- What a Window keeps, and its value, after bytes were written.
+pub record IsFuller (begin len held at : ℕ) (ys : Bytes) (m n : Pages)
+    (len' held' : ℕ) : Type 0 where
   pub paged : IsPaged begin len' held' n
   pub shows : places len' begin n ≡ fill_at at (places len begin m) ys
 
-pub filled : (begin len held at first count len' : ℕ) (ys : Bytes) (m n : Pages) → IsPaged begin len held m
+pub filled : (begin len held at first count len' : ℕ) (ys : Bytes) (m n : Pages)
+    → IsPaged begin len held m
     → IsWritten first ys m n count
-    → first ≡ begin + at → len' ≡ max len (at + length ys) → 0 < length ys → begin + at + length ys < 2 ^ 64
+    → first ≡ begin + at → len' ≡ max len (at + length ys) → 0 < length ys
+    → begin + at + length ys < 2 ^ 64
     → IsFuller begin len held at ys m n len' (held + count)
 filled begin len held at first count len' ys m n p w first_is len_is some small = record {
   paged = record {
@@ -239,9 +255,11 @@ filled begin len held at first count len' ys m n p w first_is len_is some small 
     written_at i false e h = cell_none (map Some ys) (begin + i - first)
         (let l = length-map ys Some in omega (arith, l, h))
 
-    written_low : (j : ℕ) → first + length ys ≤ j → (t : Bool) → cond t None (byte_at ys (j - first)) ≡ None
+    written_low : (j : ℕ) → first + length ys ≤ j → (t : Bool)
+        → cond t None (byte_at ys (j - first)) ≡ None
     written_low j h true = refl
-    written_low j h false = cell_none (map Some ys) (j - first) (let l = length-map ys Some in omega (arith, l, h))
+    written_low j h false =
+        cell_none (map Some ys) (j - first) (let l = length-map ys Some in omega (arith, l, h))
 
     empty : (j : ℕ) → begin + len' ≤ j → place n j ≡ None
     empty j h =
@@ -255,15 +273,19 @@ filled begin len held at first count len' ys m n p w first_is len_is some small 
     in_front : (i : ℕ) → i < at → (t : Bool) → ltb (begin + i) first ≡ t
         → cond t None (byte_at ys (begin + i - first)) ≡ None
     in_front i h true e = refl
-    in_front i h false e = let r = ltb-false (begin + i) first e in absurd (omega (arith, r, h, first_is))
+    in_front i h false e = let r = ltb-false (begin + i) first e in
+        absurd (omega (arith, r, h, first_is))
 
     there : (i : ℕ) → at ≤ i → (t : Bool) → ltb (begin + i) first ≡ t
         → cond t None (byte_at ys (begin + i - first)) ≡ byte_at ys (i - at)
-    there i h true e = let r = ltb-true (begin + i) first e in absurd (omega (arith, r, h, first_is))
-    there i h false e = let k : begin + i - first ≡ i - at = omega (arith, first_is, h) in ap (byte_at ys) k
+    there i h true e = let r = ltb-true (begin + i) first e in
+        absurd (omega (arith, r, h, first_is))
+    there i h false e = let k : begin + i - first ≡ i - at = omega (arith, first_is, h) in
+        ap (byte_at ys) k
 
     same : (i : ℕ) (t : Bool) → ltb i at ≡ t
-        → earlier (place m (begin + i)) (written first ys (begin + i)) ≡ cell (put at ys (places len begin m)) i
+        → earlier (place m (begin + i)) (written first ys (begin + i)) ≡ cell
+        (put at ys (places len begin m)) i
     same i true e =
         let h = ltb-true i at e in
         ap (earlier (place m (begin + i))) (in_front i h (ltb (begin + i) first) refl)
@@ -275,7 +297,7 @@ filled begin len held at first count len' ys m n p w first_is len_is some small 
         ∙ ap (λ o. earlier o (byte_at ys (i - at))) (sym (shown i))
         ∙ sym (cell_put at ys (places len begin m) i h)
 
--- The first places are let go.
+-- The first positions are removed.
 pub fewer : (begin len held n count : ℕ) (m m' : Pages) → IsPaged begin len held m → AreWhole m'
     → ((j : ℕ) → begin + n ≤ j → place m' j ≡ place m j)
     → n ≤ len → count ≡ known (places n begin m) → IsPaged (begin + n) (len - n) (held - count) m'

@@ -1,4 +1,4 @@
--- Pages that are made, and written to.
+-- Pages that are allocated and written.
 use Rattle.std.proofs.Common.{◌≡◌, ℕ, zero, suc, ◌+◌, ◌-◌, ◌/◌, ◌%◌, ◌<◌, ◌≤◌, ◌⊎◌, inl, inr, [], ◌∷◌, length}
 use Rattle.std.proofs.Common.{replicate, Option, Some, None, Result, Ok, Err, Bool, true, false, cond, ltb, eqb, refl}
 use Rattle.std.proofs.Common.{drop, map, take, if◌then◌else◌, sym, ◌∙◌, ap, subst, arith}
@@ -21,7 +21,7 @@ pub on_err : {A E : Type 0} (r : Result A E) (P : Type 0) → P → OnErr r P
 on_err (Ok x) P p = tt
 on_err (Err e) P p = p
 
--- What stands at a place of a page that is there.
+-- The byte at a position of a page that is there.
 pub place_in_page : (m : Pages) (j : ℕ) (p : Page) → page m (j / page_length) ≡ Some p
     → place m j ≡ cell p.value (j % page_length)
 place_in_page m j p there = ap (λ o. cell_in o (j % page_length)) there
@@ -30,7 +30,7 @@ pub place_is : (m : Pages) (at : ℕ) (p : Page) (x : Option ℕ) → page m (at
     → x ≡ cell p.value (at % page_length) → x ≡ place m at
 place_is m at p x there is = is ∙ sym (place_in_page m at p there)
 
--- Whether two numbers of pages are one.
+-- Whether two page numbers are equal.
 eq_of : (a b : ℕ) → is_eq (nat_cmp a b) ≡ true → a ≡ b
 eq_of a b e = go (ltb a b) (eqb a b) refl e
   where
@@ -45,24 +45,28 @@ of_eq a b same = ap (λ c. is_eq (nat_cmp a c)) (sym same) ∙ itself
     itself : is_eq (nat_cmp a a) ≡ true
     itself = go (ltb a a) (eqb a a) refl refl
       where
-        go : (s t : Bool) → ltb a a ≡ s → eqb a a ≡ t → is_eq (cond s Less (cond t Equal Greater)) ≡ true
+        go : (s t : Bool) → ltb a a ≡ s → eqb a a ≡ t
+            → is_eq (cond s Less (cond t Equal Greater)) ≡ true
         go true t e f = absurd (omega (arith, ltb-true a a e))
         go false true e f = refl
         go false false e f = absurd (eqb-false a a f refl)
 
--- One page is another than before, or new.
+-- One page is replaced, or new.
 abbrev pub IsReplaced : ℕ → Page → Pages → Pages → Type 0
 IsReplaced k w m n = (q : ℕ) → page n q ≡ cond (is_eq (nat_cmp k q)) (Some w) (page m q)
 
-pub replaced_whole : (k : ℕ) (w : Page) (m n : Pages) → IsReplaced k w m n → AreWhole m → length w.value ≡ page_length
+pub replaced_whole : (k : ℕ) (w : Page) (m n : Pages) → IsReplaced k w m n → AreWhole m
+    → length w.value ≡ page_length
     → AreWhole n
 replaced_whole k w m n is whole len = λ q p e. go q p (is_eq (nat_cmp k q)) (sym (is q) ∙ e)
   where
-    go : (q : ℕ) (p : Page) (t : Bool) → cond t (Some w) (page m q) ≡ Some p → length p.value ≡ page_length
+    go : (q : ℕ) (p : Page) (t : Bool) → cond t (Some w) (page m q) ≡ Some p
+        → length p.value ≡ page_length
     go q p true e = let same : w ≡ p = cc in ap (λ (v : Page). length v.value) (sym same) ∙ len
     go q p false e = whole q p e
 
-pub replaced_there : (k : ℕ) (w : Page) (m n : Pages) → IsReplaced k w m n → (q : ℕ) → is_some (page m q) ≡ true
+pub replaced_there : (k : ℕ) (w : Page) (m n : Pages) → IsReplaced k w m n → (q : ℕ)
+    → is_some (page m q) ≡ true
     → is_some (page n q) ≡ true
 replaced_there k w m n is q there = ap is_some (is q) ∙ go (is_eq (nat_cmp k q))
   where
@@ -74,12 +78,15 @@ replaced_at : (k : ℕ) (w : Page) (m n : Pages) → IsReplaced k w m n → (j :
     → place n j ≡ cell w.value (j % page_length)
 replaced_at k w m n is j same =
     place_in_page n j w
-    (is (j / page_length) ∙ ap (λ t. cond t (Some w) (page m (j / page_length))) (of_eq k (j / page_length) (sym same)))
+    (is (j / page_length) ∙ ap (λ t. cond t (Some w) (page m (j / page_length)))
+    (of_eq k (j / page_length) (sym same)))
 
-replaced_else : (k : ℕ) (w : Page) (m n : Pages) → IsReplaced k w m n → (j : ℕ) → (j / page_length ≡ k → ⊥)
+replaced_else : (k : ℕ) (w : Page) (m n : Pages) → IsReplaced k w m n → (j : ℕ)
+    → (j / page_length ≡ k → ⊥)
     → place n j ≡ place m j
 replaced_else k w m n is j apart =
-    ap (λ o. cell_in o (j % page_length)) (is (j / page_length) ∙ go (is_eq (nat_cmp k (j / page_length))) refl)
+    ap (λ o. cell_in o (j % page_length))
+    (is (j / page_length) ∙ go (is_eq (nat_cmp k (j / page_length))) refl)
   where
     go : (t : Bool) → is_eq (nat_cmp k (j / page_length)) ≡ t
         → cond t (Some w) (page m (j / page_length)) ≡ page m (j / page_length)
@@ -91,12 +98,14 @@ none_in zero i = refl
 none_in (suc n) zero = refl
 none_in (suc n) (suc i) = none_in n i
 
--- A page that wasn't there is made: nothing stands in it.
-pub page_made : (k : ℕ) (w : Page) (m n : Pages) → AreWhole m → IsReplaced k w m n → is_some (page m k) ≡ false
+-- A page that wasn't there is allocated, without bytes.
+pub page_made : (k : ℕ) (w : Page) (m n : Pages) → AreWhole m → IsReplaced k w m n
+    → is_some (page m k) ≡ false
     → w.value ≡ replicate page_length None
     → IsSame m n
 page_made k w m n whole is missing empty = record {
-  whole = replaced_whole k w m n is whole (ap length empty ∙ length-replicate {A = Option ℕ} page_length None);
+  whole = replaced_whole k w m n is whole
+      (ap length empty ∙ length-replicate {A = Option ℕ} page_length None);
   stands = λ j. each j (cases_eq (j / page_length) k);
   there = replaced_there k w m n is;
 }
@@ -109,10 +118,12 @@ page_made k w m n whole is missing empty = record {
     each j (inl same) =
         replaced_at k w m n is j same ∙ ap (λ cs. cell cs (j % page_length)) empty
         ∙ none_in page_length (j % page_length)
-        ∙ sym (none_of (page m (j / page_length)) (j % page_length) (ap (λ q. is_some (page m q)) same ∙ missing))
+        ∙ sym (none_of (page m (j / page_length)) (j % page_length)
+        (ap (λ q. is_some (page m q)) same ∙ missing))
     each j (inr apart) = replaced_else k w m n is j apart
 
-pub paged_same : (begin len held : ℕ) (m n : Pages) → IsPaged begin len held m → IsSame m n → IsPaged begin len held n
+pub paged_same : (begin len held : ℕ) (m n : Pages) → IsPaged begin len held m → IsSame m n
+    → IsPaged begin len held n
 paged_same begin len held m n p s = record {
   whole = s.whole;
   held_is = p.held_is ∙ sym (ap known (places_same len begin m n (λ j h. s.stands j)));
@@ -120,22 +131,25 @@ paged_same begin len held m n p s = record {
   small = p.small;
 }
 
--- Places of one page.
-pub in_page : (at i : ℕ) → at % page_length + i < page_length → (at + i) / page_length ≡ at / page_length
+-- Positions of one page.
+pub in_page : (at i : ℕ) → at % page_length + i < page_length
+    → (at + i) / page_length ≡ at / page_length
 in_page at i h =
     let one = div-add-mod' (at + i) page_length in
     let two = div-add-mod' at page_length in
     let low = mod_below (at + i) page_length (omega arith) in
     omega (arith, one, two, low, h)
 
-pub at_in_page : (at i : ℕ) → at % page_length + i < page_length → (at + i) % page_length ≡ at % page_length + i
+pub at_in_page : (at i : ℕ) → at % page_length + i < page_length
+    → (at + i) % page_length ≡ at % page_length + i
 at_in_page at i h =
     let one = div-add-mod' (at + i) page_length in
     let two = div-add-mod' at page_length in
     let same = in_page at i h in
     omega (arith, one, two, same)
 
-part_cons : (r n : ℕ) (v : Cells) → r < length v → take (suc n) (drop r v) ≡ cell v r ∷ take n (drop (suc r) v)
+part_cons : (r n : ℕ) (v : Cells) → r < length v
+    → take (suc n) (drop r v) ≡ cell v r ∷ take n (drop (suc r) v)
 part_cons r n [] h = absurd (omega (arith, h))
 part_cons zero n (c ∷ v) h = refl
 part_cons (suc r) n (c ∷ v) h = part_cons r n v (omega (arith, h))
@@ -154,7 +168,8 @@ places_as (suc n) k m r v long each =
     ap (place m) a ∙ each (suc i) (omega (arith, h)) ∙ ap (cell v) b))
     ∙ sym (part_cons r n v (omega (arith, long)))
 
-pub places_there : (m : Pages) (at n : ℕ) (p : Page) → AreWhole m → page m (at / page_length) ≡ Some p
+pub places_there : (m : Pages) (at n : ℕ) (p : Page) → AreWhole m
+    → page m (at / page_length) ≡ Some p
     → at % page_length + n ≤ page_length → places n at m ≡ take n (drop (at % page_length) p.value)
 places_there m at n p whole there fits =
     places_as n at m (at % page_length) p.value
@@ -175,20 +190,24 @@ places_absent m at n missing fits =
         let e : k ≡ k + 0 = omega arith in
         ap (λ c. c ∷ places n (suc k) m) (ap (place m) e ∙ each 0 (omega arith))
         ∙ ap (λ cs. None ∷ cs) (none n (suc k)
-        (λ i h. let a : suc k + i ≡ k + suc i = omega arith in ap (place m) a ∙ each (suc i) (omega (arith, h))))
+        (λ i h. let a : suc k + i ≡ k + suc i = omega arith in ap (place m) a
+        ∙ each (suc i) (omega (arith, h))))
 
--- What a look-up of a page found.
-pub found_is : (m : Pages) (at n k r : ℕ) (p : Page) (v : Cells) → k ≡ at / page_length → Some p ≡ page m k → v ≡ p.value
-    → r ≡ at % page_length → AreWhole m → at % page_length + n ≤ page_length → take n (drop r v) ≡ places n at m
+-- The result of a look-up of a page.
+pub found_is : (m : Pages) (at n k r : ℕ) (p : Page) (v : Cells) → k ≡ at / page_length
+    → Some p ≡ page m k → v ≡ p.value
+    → r ≡ at % page_length → AreWhole m → at % page_length + n ≤ page_length
+    → take n (drop r v) ≡ places n at m
 found_is m at n k r p v k_is there v_is r_is whole fits =
     ap (λ x. take n (drop r x)) v_is ∙ ap (λ x. take n (drop x p.value)) r_is
     ∙ sym (places_there m at n p whole (ap (page m) (sym k_is) ∙ sym there) fits)
 
 pub missing_is : (m : Pages) (at n k : ℕ) → k ≡ at / page_length → None ≡ page m k
     → at % page_length + n ≤ page_length → places n at m ≡ replicate n None
-missing_is m at n k k_is missing fits = places_absent m at n (ap (page m) (sym k_is) ∙ sym missing) fits
+missing_is m at n k k_is missing fits =
+    places_absent m at n (ap (page m) (sym k_is) ∙ sym missing) fits
 
--- Where no byte stands.
+-- Positions without bytes.
 pub nothing_known : (n : ℕ) → known (replicate n None) ≡ 0
 nothing_known zero = refl
 nothing_known (suc n) = nothing_known n
@@ -209,16 +228,19 @@ nothing_differs n k (y ∷ ys) =
     let rest = nothing_differs n (suc k) ys in
     omega (arith, none, rest)
 
--- Bytes are put at places of one page.
-places_same_within : (n k : ℕ) (m m' : Pages) → ((j : ℕ) → k ≤ j → j < k + n → place m' j ≡ place m j)
+-- Bytes are written to positions of one page.
+places_same_within : (n k : ℕ) (m m' : Pages)
+    → ((j : ℕ) → k ≤ j → j < k + n → place m' j ≡ place m j)
     → places n k m' ≡ places n k m
 places_same_within zero k m m' same = refl
 places_same_within (suc n) k m m' same =
     let first = same k (omega arith) (omega arith) in
-    let others = places_same_within n (suc k) m m' (λ j h g. same j (omega (arith, h)) (omega (arith, g))) in
+    let others =
+    places_same_within n (suc k) m m' (λ j h g. same j (omega (arith, h)) (omega (arith, g))) in
     ap (λ c. c ∷ places n (suc k) m') first ∙ ap (λ cs. place m k ∷ cs) others
 
-pub written_outside : (at : ℕ) (ys : Bytes) (j : ℕ) → (j < at) ⊎ (at + length ys ≤ j) → written at ys j ≡ None
+pub written_outside : (at : ℕ) (ys : Bytes) (j : ℕ) → (j < at) ⊎ (at + length ys ≤ j)
+    → written at ys j ≡ None
 written_outside at ys j (inl h) = go (ltb j at) refl
   where
     go : (t : Bool) → ltb j at ≡ t → cond t None (byte_at ys (j - at)) ≡ None
@@ -237,12 +259,14 @@ written_inside at ys j h = go (ltb j at) refl
     go true e = let g = ltb-true j at e in absurd (omega (arith, h, g))
     go false e = refl
 
-put_long : (r : ℕ) (ys : Bytes) (v : Cells) → r + length ys ≤ length v → length (put r ys v) ≡ length v
+put_long : (r : ℕ) (ys : Bytes) (v : Cells) → r + length ys ≤ length v
+    → length (put r ys v) ≡ length v
 put_long r [] v h = refl
 put_long r (y ∷ ys) v h = let l = fill_at_long r v (y ∷ ys) (omega arith) in omega (arith, l, h)
 
--- Some places differ, and others are the same: how many bytes stand.
-counted_around : (m n : Pages) (at len count k l : ℕ) → ((j : ℕ) → (j < at) ⊎ (at + len ≤ j) → place n j ≡ place m j)
+-- Some positions change and others don't: how many bytes are present.
+counted_around : (m n : Pages) (at len count k l : ℕ)
+    → ((j : ℕ) → (j < at) ⊎ (at + len ≤ j) → place n j ≡ place m j)
     → known (places len at n) ≡ known (places len at m) + count → k ≤ at → at + len ≤ k + l
     → known (places l k n) ≡ known (places l k m) + count
 counted_around m n at len count k l outside here low high =
@@ -252,8 +276,11 @@ counted_around m n at len count k l outside here low high =
     ∙ known_split_at (at - k) (len + (k + l - (at + len))) k q
     ∙ ap (λ x. known (places (at - k) k q) + known (places (len + (k + l - (at + len))) x q)) a in
     let last = λ (q : Pages). known_split_at len (k + l - (at + len)) at q in
-    let front = ap known (places_same_within (at - k) k m n (λ j h g. outside j (inl (omega (arith, g, low))))) in
-    let behind = ap known (places_same_within (k + l - (at + len)) (at + len) m n (λ j h g. outside j (inr h))) in
+    let front = ap known
+    (places_same_within (at - k) k m n (λ j h g. outside j (inl (omega (arith, g, low))))) in
+    let behind =
+    ap known (places_same_within (k + l - (at + len)) (at + len) m n
+    (λ j h g. outside j (inr h))) in
     let pm = parts m in
     let pn = parts n in
     let lm = last m in
@@ -273,7 +300,8 @@ page_put at ys p w m n count whole there is_put is fits counts = record {
   counted = λ a l low high.
       counted_around m n at (length ys) count a l (λ j apart. outside j apart)
       (ap known (places_there n at (length ys) w whole_after there_after fits) ∙ counts
-      ∙ ap (λ v. known v + count) (sym (places_there m at (length ys) p whole there fits))) low high;
+      ∙ ap (λ v. known v + count)
+      (sym (places_there m at (length ys) p whole there fits))) low high;
 }
   where
     k : ℕ
@@ -288,10 +316,12 @@ page_put at ys p w m n count whole there is_put is fits counts = record {
     whole_after : AreWhole n
     whole_after = replaced_whole k w m n is whole
         (ap length is_put
-        ∙ put_long r ys p.value (let l = whole k p there in omega (arith, l, fits)) ∙ whole k p there)
+        ∙ put_long r ys p.value (let l = whole k p there in omega (arith, l, fits))
+        ∙ whole k p there)
 
     within : (j : ℕ) → j / page_length ≡ k → (t : Bool) → ltb (j % page_length) r ≡ t
-        → cell (put r ys p.value) (j % page_length) ≡ earlier (cell p.value (j % page_length)) (written at ys j)
+        → cell (put r ys p.value) (j % page_length) ≡ earlier (cell p.value (j % page_length))
+        (written at ys j)
     within j same true e =
         let h = ltb-true (j % page_length) r e in
         let one = div-add-mod' j page_length in
@@ -315,10 +345,12 @@ page_put at ys p w m n count whole there is_put is fits counts = record {
     each j (inl same) =
         replaced_at k w m n is j same ∙ ap (λ cs. cell cs (j % page_length)) is_put
         ∙ within j same (ltb (j % page_length) r) refl
-        ∙ ap (λ o. earlier o (written at ys j)) (sym (place_in_page m j p (ap (page m) same ∙ there)))
+        ∙ ap (λ o. earlier o (written at ys j))
+        (sym (place_in_page m j p (ap (page m) same ∙ there)))
     each j (inr apart) =
         replaced_else k w m n is j apart
-        ∙ sym (ap (earlier (place m j)) (written_outside at ys j (aside (ltb j at) refl)) ∙ earlier_none (place m j))
+        ∙ sym (ap (earlier (place m j)) (written_outside at ys j (aside (ltb j at) refl))
+        ∙ earlier_none (place m j))
       where
         aside : (t : Bool) → ltb j at ≡ t → (j < at) ⊎ (at + length ys ≤ j)
         aside true e = inl (ltb-true j at e)
@@ -339,11 +371,14 @@ page_put at ys p w m n count whole there is_put is fits counts = record {
         each j (cases_eq (j / page_length) k)
         ∙ ap (earlier (place m j)) (written_outside at ys j apart) ∙ earlier_none (place m j)
 
--- The same, of a page that a look-up found.
-pub found_put : (at : ℕ) (ys : Bytes) (p w : Page) (m n : Pages) (count k r : ℕ) (v : Cells) → k ≡ at / page_length
-    → r ≡ at % page_length → Some p ≡ page m k → v ≡ p.value → AreWhole m → w.value ≡ put r ys v → IsReplaced k w m n
+-- Bytes are written to positions of a page that a look-up found.
+pub found_put : (at : ℕ) (ys : Bytes) (p w : Page) (m n : Pages) (count k r : ℕ) (v : Cells)
+    → k ≡ at / page_length
+    → r ≡ at % page_length → Some p ≡ page m k → v ≡ p.value → AreWhole m → w.value ≡ put r ys v
+    → IsReplaced k w m n
     → at % page_length + length ys ≤ page_length
-    → known (take (length ys) (drop r w.value)) ≡ known (take (length ys) (drop r v)) + count → IsWritten at ys m n count
+    → known (take (length ys) (drop r w.value)) ≡ known (take (length ys) (drop r v)) + count
+    → IsWritten at ys m n count
 found_put at ys p w m n count k r v k_is r_is there v_is whole is_put is fits counts =
     page_put at ys p w m n count whole (ap (page m) (sym k_is) ∙ sym there)
     (is_put ∙ ap (put r ys) v_is ∙ ap (λ x. put x ys p.value) r_is)

@@ -1,19 +1,20 @@
--- How the bytes that wait for others are stored: place by place.
+-- How out-of-order bytes are stored: position by position.
 use Rattle.std.specs.Prelude.{◌≡◌, ℕ, ◌+◌, ◌-◌, ◌^◌, ◌≤◌, Option, Some, None, [], ◌∷◌, ◌++◌, length, map, drop}
 use Rattle.segments.specs.Cells.{Bytes, Cells, Held, run}
 
--- What stands at a place, or else a byte.
+-- The byte that is present, else y.
 abbrev pub standing : Option ℕ → ℕ → ℕ
 standing None y = y
 standing (Some x) y = x
 
--- Bytes, but at each place the one that stands there, where one does.
+-- The bytes ys, but a byte that is present in place of the given one.
 abbrev pub over : Cells → Bytes → Bytes
 over [] ys = ys
 over (c ∷ cs) [] = []
 over (c ∷ cs) (y ∷ ys) = standing c y ∷ over cs ys
 
--- What a TcpReassembler keeps: the first place behind its front is empty, and no place is further behind it than the limit.
+-- What a TcpReassembler keeps: the first position after its in-order bytes is empty, and no
+-- position is further after it than the limit.
 pub record IsSound (start taken limit : ℕ) (front : Bytes) (window : Cells) : Type 0 where
   pub start_in : start ≤ length front
   pub first_empty : run window ≡ []
@@ -23,6 +24,7 @@ pub record IsSound (start taken limit : ℕ) (front : Bytes) (window : Cells) : 
 abbrev pub held_cells : ℕ → Bytes → Cells → Cells
 held_cells start front window = map Some (drop start front) ++ window
 
--- What the fields hold.
+-- The value that the fields represent.
 abbrev pub held_of : ℕ → ℕ → ℕ → ℕ → Bytes → Cells → Held
-held_of first limit start taken front window = record { first = first; limit = limit; taken = taken; cells = held_cells start front window }
+held_of first limit start taken front window =
+    record { first = first; limit = limit; taken = taken; cells = held_cells start front window }

@@ -1,31 +1,54 @@
-//! One direction of a TCP connection (RFC 9293, section 3.4), put together from segments that come in any order.
+//! Reassembles one direction of a TCP connection (RFC 9293, section 3.4) from segments in any
+//! order.
 //!
-//! [`TcpReassembler`] holds what came and was not yet handed out.
+//! The promise: as long as no bytes are skipped, the delivered bytes, followed by the available
+//! ones, are the longest prefix of the stream of which each byte was received. That is so for any
+//! order of the segments, for retransmissions, and however the stream is cut, if each segment
+//! begins less than 2^31 bytes from the first missing byte.
 //!
-//! - [`TcpReassembler::new`] takes the sequence number of the first byte: one more than the SYN's, or, where the SYN wasn't captured,
-//!   the first segment's own.
-//! - [`TcpReassembler::segment`] takes a segment by its sequence number, in the circle of 2^32, and [`TcpReassembler::put`] takes bytes by their
-//!   place in the stream. Where bytes come twice, the first stand.
-//! - [`TcpReassembler::available`] is what comes next, up to the first byte that is missing, and [`TcpReassembler::take`] hands it out.
-//! - [`TcpReassembler::held_behind`] tells how many bytes wait behind the first that is missing. A caller that no longer waits for it
-//!   takes what is available, and calls [`TcpReassembler::skip`], which tells how many bytes were missed.
-//!   Where more bytes than the limit were lost, none can be held behind them: a new [`TcpReassembler`] begins at the next segment.
+//! [`TcpReassembler`] keeps the bytes that were received and not yet delivered.
 //!
-//! [`reassemble`] does it for a list of segments, [`replay`] for segments and takes in any order. [`laws`] has what stands of
-//! streams of any length.
+//! - [`TcpReassembler::new`] takes the sequence number of the first byte: one more than the SYN's,
+//!   or that of the first segment if the SYN wasn't captured.
+//! - [`TcpReassembler::segment`] takes a segment by its sequence number, modulo 2^32;
+//!   [`TcpReassembler::put`] takes bytes by their position in the stream. If a byte comes twice,
+//!   the first one counts.
+//! - [`TcpReassembler::available`] returns the next bytes, up to the first missing one;
+//!   [`TcpReassembler::take`] consumes them.
+//! - [`TcpReassembler::held_behind`] returns how many out-of-order bytes are buffered after the
+//!   first missing one. A caller that no longer waits for that takes what is available and calls
+//!   [`TcpReassembler::skip`], which returns how many bytes were skipped. If more bytes than the
+//!   limit were lost, none after them can be buffered: a new [`TcpReassembler`] begins at the next
+//!   segment.
+//!
+//! [`reassemble`] does this for a list of segments, [`replay`] for segments and deliveries in any
+//! order. [`laws`] states theorems about streams of any length.
+//!
+//! - `specs/Cells.antt` defines what is buffered and what each call does to it.
+//! - `specs/Law.antt` defines what is delivered, by the stream and its segments alone; `Steps` does
+//!   so for [`replay`].
+//! - `specs/Pages.antt` and `Places` define how bytes are stored.
 //!
 //! # Cost
 //!
-//! What waits is held in pages of 1,024 places, of which only those are there in which a byte came. A segment takes time by its own
-//! bytes, and each byte that waited once more as it is put in order. Bytes are copied, compared and counted a page at a time: a page
-//! is looked up once for all of its places, up to three times as bytes are put into it, by the logarithm of how many pages there are. Where
-//! some bytes of a page stood before, the others are put between them one by one. Nothing else is searched, in whatever order segments
-//! come. A gap that is counted by [`TcpReassembler::missing`] or skipped takes a look-up for each of its places.
+//! Out-of-order bytes are kept in pages of 1,024 positions. Only pages in which a byte was received
+//! are allocated.
 //!
-//! Behind the first byte that is missing, memory grows with what came, and not with how far ahead it is: the first byte in a page
-//! takes the page, of 2,056 bytes, and its entry in a tree. Where all places wait that the limit of [`TcpReassembler::new`] lets, that is
-//! little more than 2 bytes for each byte of the limit. None is kept once nothing waits. What is available is the caller's to hand
-//! out.
+//! - A segment costs time by its own length, and each out-of-order byte once more when it becomes
+//!   in-order.
+//! - Bytes are copied, compared and counted a page at a time. If some positions of a page were
+//!   filled before, the others are filled one by one.
+//! - A page is looked up once for all of its positions, up to three times when bytes are written to
+//!   it, in time logarithmic in the number of pages. Nothing else is searched, in whatever order
+//!   segments come.
+//! - A gap that [`TcpReassembler::missing`] counts, or that is skipped, costs a look-up for each of
+//!   its positions.
+//!
+//! After the first missing byte, memory grows with the bytes received, not with how far ahead they
+//! are. The first byte in a page allocates the page, of 2,056 bytes, and its entry in a tree. If
+//! all positions within the limit of [`TcpReassembler::new`] are filled, that is little more than 2
+//! bytes for each byte of the limit. All of it is freed once no out-of-order byte is left. In-order
+//! bytes wait for the caller to take them.
 #![tactic(auto)]
 
 pub mod laws;

@@ -1,4 +1,4 @@
-//! Places in a row. Each has a mark and a byte, which stands where the mark is set.
+//! A row of positions, each with a mark and a byte. The byte is present if the mark is set.
 ghost use Rattle.std.specs.Prelude.{◌≡◌, ◌≤◌, ◌+◌, ◌++◌, length, OnOk, OnErr};
 ghost use Rattle.segments.specs.Cells.{Bytes, differing, fill, known, run};
 ghost use Rattle.segments.specs.Pages.{marked, set_marks};
@@ -6,7 +6,7 @@ ghost use Rattle.segments.specs.Places.{over};
 
 use std::alloc::AllocError;
 
-/// How many marks are set.
+/// Returns how many marks are set.
 pub(crate) fn count_marks(marks: &[bool]) -> usize
     ensures is { result ≡ set_marks marks.now }
     ensures within { result ≤ length marks.now }
@@ -20,7 +20,7 @@ pub(crate) fn count_marks(marks: &[bool]) -> usize
     count
 }
 
-/// The bytes in front of the first place at which none stands.
+/// Returns the bytes before the first position without a byte.
 pub(crate) fn front_before_gap<'a>(marks: &[bool], bytes: &'a [u8]) -> &'a [u8]
     requires { length bytes.now ≡ length marks.now }
     ensures { result.now ≡ run (marked marks.now bytes.now) }
@@ -33,7 +33,7 @@ pub(crate) fn front_before_gap<'a>(marks: &[bool], bytes: &'a [u8]) -> &'a [u8]
     bytes
 }
 
-/// At how many places other bytes stand than the new ones.
+/// Returns at how many positions a byte is present that differs from the new one.
 pub(crate) fn count_unlike(marks: &[bool], bytes: &[u8], new: &[u8]) -> usize
     requires bytes { length bytes.now ≡ length marks.now }
     requires new { length new.now ≡ length marks.now }
@@ -50,7 +50,7 @@ pub(crate) fn count_unlike(marks: &[bool], bytes: &[u8], new: &[u8]) -> usize
     count
 }
 
-/// Puts the new bytes at the places where none stand, one by one, and tells how many it put.
+/// Writes the new bytes to the positions without a byte, one by one, and returns how many it wrote.
 fn fill_each(marks: &mut [bool], bytes: &mut [u8], new: &[u8]) -> usize
     requires bytes { length bytes.old ≡ length marks.old }
     requires new { length new.now ≡ length marks.old }
@@ -69,7 +69,9 @@ fn fill_each(marks: &mut [bool], bytes: &mut [u8], new: &[u8]) -> usize
     count
 }
 
-/// The same, where it is known how many stand. Where none or all do, which is usual, they are copied at once, or left.
+/// Writes the new bytes to the positions without a byte, and returns how many it wrote. `standing`
+/// is how many bytes are present. If none or all are, which is usual, the new ones are copied at
+/// once, or not at all.
 pub(crate) fn fill_empty(standing: usize, marks: &mut [bool], bytes: &mut [u8], new: &[u8]) -> usize
     requires bytes { length bytes.old ≡ length marks.old }
     requires new { length new.now ≡ length marks.old }
@@ -89,7 +91,7 @@ pub(crate) fn fill_empty(standing: usize, marks: &mut [bool], bytes: &mut [u8], 
     fill_each(marks, bytes, new)
 }
 
-/// Puts the new bytes behind `out`, one by one, but at each place the one that stands there, where one does.
+/// Appends the new bytes to `out`, one by one, but a byte that is present in place of the new one.
 fn append_each(
     out: &mut Vec<u8>,
     marks: &[bool],
@@ -98,7 +100,8 @@ fn append_each(
 ) -> Result<(), AllocError>
     requires bytes { length bytes.now ≡ length marks.now }
     requires new { length new.now ≡ length marks.now }
-    ensures out { OnOk result (out.new.items ≡ out.old.items ++ over (marked marks.now bytes.now) new.now) }
+    ensures out { OnOk result
+        (out.new.items ≡ out.old.items ++ over (marked marks.now bytes.now) new.now) }
     ensures err { OnErr result ((s : Bytes) × (out.new.items ≡ out.old.items ++ s)) }
 {
     for i in 0..new.len() {
@@ -107,7 +110,8 @@ fn append_each(
     Ok(())
 }
 
-/// The same, where it is known how many stand. Where none or all do, which is usual, they are copied at once.
+/// Appends the new bytes to `out`, but a byte that is present in place of the new one. `standing`
+/// is how many bytes are present. If none or all are, which is usual, they are copied at once.
 pub(crate) fn append_standing(
     standing: usize,
     out: &mut Vec<u8>,
@@ -118,7 +122,8 @@ pub(crate) fn append_standing(
     requires bytes { length bytes.now ≡ length marks.now }
     requires new { length new.now ≡ length marks.now }
     requires standing { standing ≡ known (marked marks.now bytes.now) }
-    ensures out { OnOk result (out.new.items ≡ out.old.items ++ over (marked marks.now bytes.now) new.now) }
+    ensures out { OnOk result
+        (out.new.items ≡ out.old.items ++ over (marked marks.now bytes.now) new.now) }
     ensures err { OnErr result ((s : Bytes) × (out.new.items ≡ out.old.items ++ s)) }
 {
     if standing == 0 {

@@ -1,4 +1,4 @@
-//! A page: places, and the bytes that stand at them.
+//! A page of positions, with the bytes that are present there.
 ghost use Rattle.std.specs.Prelude.{◌≡◌, ◌<◌, ◌≤◌, ◌+◌, ◌++◌, None, length, replicate, take, drop, OnOk, OnErr};
 ghost use Rattle.segments.specs.Cells.{Bytes, cell, differing, known, put, run};
 ghost use Rattle.segments.specs.Pages.{page_length};
@@ -8,15 +8,15 @@ use crate::marks::{append_standing, count_marks, count_unlike, fill_empty, front
 use std::alloc::AllocError;
 use std::marker::Model;
 
-/// How many places a page has.
+/// The number of positions of a page.
 pub(crate) const PAGE: usize = 1024;
 
-/// Places, with a byte each, which stands where the mark is set.
+/// Positions with a byte each, which is present if the mark is set.
 #[derive(Drop)]
 pub(crate) struct Page {
     marks: [bool; PAGE],
     bytes: [u8; PAGE],
-    // How many marks are set, so that those of a page that is empty or full aren't looked at.
+    // How many marks are set. The marks of an empty or full page needn't be read.
     held: usize,
 }
 
@@ -32,7 +32,7 @@ impl Model for Page {
 }
 
 impl Page {
-    /// No byte stands.
+    /// Returns a page without bytes.
     pub(crate) fn new() -> Self
         ensures { result ≡ replicate page_length None }
     {
@@ -43,7 +43,7 @@ impl Page {
         }
     }
 
-    /// What stands at a place.
+    /// Returns the byte at a position, if one is present.
     pub(crate) fn place(&self, at: usize) -> Option<u8>
         requires { at < page_length }
         ensures { result ≡ cell self.now at }
@@ -55,7 +55,7 @@ impl Page {
         }
     }
 
-    /// How many bytes stand at so many places from one on.
+    /// Returns how many bytes are present at `n` positions from `from` on.
     pub(crate) fn known(&self, from: usize, n: usize) -> usize
         requires { from + n ≤ page_length }
         ensures is { result ≡ known (take n (drop from self.now)) }
@@ -70,7 +70,7 @@ impl Page {
         count_marks(&self.marks[from..from + n])
     }
 
-    /// The bytes that stand at so many places from one on, up to the first empty one.
+    /// Returns the bytes at `n` positions from `from` on, up to the first empty one.
     pub(crate) fn front(&self, from: usize, n: usize) -> &[u8]
         requires { from + n ≤ page_length }
         ensures { result.now ≡ run (take n (drop from self.now)) }
@@ -82,7 +82,7 @@ impl Page {
         front_before_gap(&self.marks[from..from + n], bytes)
     }
 
-    /// At how many places other bytes stand than these, the first of which is for a place.
+    /// Returns at how many positions from `at` on a byte is present that differs from the new one.
     pub(crate) fn unlike(&self, at: usize, new: &[u8]) -> usize
         requires { at + length new.now ≤ page_length }
         ensures is { result ≡ differing 0 new.now (take (length new.now) (drop at self.now)) }
@@ -92,7 +92,8 @@ impl Page {
         count_unlike(&self.marks[at..end], &self.bytes[at..end], new)
     }
 
-    /// Puts the bytes behind `out`, the first of which is for a place, but at each place the one that stands there, where one does.
+    /// Appends the new bytes, for the positions from `at` on, to `out`, but a byte that is present
+    /// in place of the new one.
     pub(crate) fn append_over(
         &self,
         at: usize,
@@ -100,7 +101,9 @@ impl Page {
         out: &mut Vec<u8>,
     ) -> Result<(), AllocError>
         requires { at + length new.now ≤ page_length }
-        ensures out { OnOk result (out.new.items ≡ out.old.items ++ over (take (length new.now) (drop at self.now)) new.now) }
+        ensures out { OnOk result
+            (out.new.items ≡ out.old.items ++ over
+            (take (length new.now) (drop at self.now)) new.now) }
         ensures err { OnErr result ((s : Bytes) × (out.new.items ≡ out.old.items ++ s)) }
     {
         let end = at + new.len();
@@ -114,11 +117,12 @@ impl Page {
         )
     }
 
-    /// Puts bytes from a place on where none stand, and tells how many it put.
+    /// Writes the bytes to the empty positions from `at` on, and returns how many it wrote.
     pub(crate) fn write(&mut self, at: usize, new: &[u8]) -> usize
         requires { at + length new.now ≤ page_length }
         ensures put { self.new ≡ put at new.now self.old }
-        ensures counted { known (take (length new.now) (drop at self.new)) ≡ known (take (length new.now) (drop at self.old)) + result }
+        ensures counted { known (take (length new.now) (drop at self.new)) ≡ known
+            (take (length new.now) (drop at self.old)) + result }
         ensures within { result ≤ length new.now }
     {
         let end = at + new.len();

@@ -1,4 +1,5 @@
-//! Places in pages, of which only those are there in which a byte came. Each call goes through the pages, and not through the places.
+//! Positions in pages. Only pages in which a byte was received are allocated. Each call visits
+//! pages, not single positions.
 ghost use Rattle.std.specs.Prelude.{◌≡◌, ◌<◌, ◌≤◌, ◌+◌, ◌-◌, ◌/◌, ◌%◌, ◌^◌, ◌++◌, ℕ, is_some, true, length, OnOk, OnErr};
 ghost use Rattle.segments.specs.Cells.{Bytes, differing, known, run};
 ghost use Rattle.segments.specs.Pages.{AreWhole, IsSame, IsWritten, page, page_length, place, places};
@@ -8,17 +9,17 @@ use crate::page::{PAGE, Page};
 use std::alloc::{AllocError, Global};
 use std::collections::BTreeMap;
 
-/// Pages by their number.
+/// Pages by their numbers.
 pub(crate) type Pages = BTreeMap<u64, Box<Page>>;
 
-/// The number of the page that has a place.
+/// Returns the number of the page that has the position.
 fn number_of(at: u64) -> u64
     ensures { result ≡ at / page_length }
 {
     at / PAGE as u64
 }
 
-/// Where in its page a place is.
+/// Returns the offset of the position within its page.
 fn within_page(at: u64) -> usize
     ensures is { result ≡ at % page_length }
     ensures low { result < page_length }
@@ -26,7 +27,7 @@ fn within_page(at: u64) -> usize
     (at % PAGE as u64) as usize
 }
 
-/// What stands at a place.
+/// Returns the byte at a position, if one is present.
 pub(crate) fn byte_at(pages: &Pages, at: u64) -> Option<u8>
     requires { AreWhole pages.now }
     ensures { result ≡ place pages.now at }
@@ -37,7 +38,7 @@ pub(crate) fn byte_at(pages: &Pages, at: u64) -> Option<u8>
     }
 }
 
-/// How many bytes stand at so many places of one page.
+/// Returns how many bytes are present at `n` positions of one page.
 fn count_in_page(pages: &Pages, first: u64, n: usize) -> usize
     requires whole { AreWhole pages.now }
     requires one { first % page_length + n ≤ page_length }
@@ -50,7 +51,7 @@ fn count_in_page(pages: &Pages, first: u64, n: usize) -> usize
     }
 }
 
-/// How many bytes stand at so many places from one on.
+/// Returns how many bytes are present at `n` positions from `first` on.
 pub(crate) fn count_known(pages: &Pages, first: u64, n: usize) -> usize
     requires whole { AreWhole pages.now }
     requires small { first + n < 2 ^ 64 }
@@ -68,7 +69,7 @@ pub(crate) fn count_known(pages: &Pages, first: u64, n: usize) -> usize
     count
 }
 
-/// At how many places of one page other bytes stand than these.
+/// Returns at how many positions of one page a byte is present that differs from the given one.
 fn unlike_in_page(pages: &Pages, first: u64, bytes: &[u8]) -> usize
     requires whole { AreWhole pages.now }
     requires one { first % page_length + length bytes.now ≤ page_length }
@@ -81,7 +82,7 @@ fn unlike_in_page(pages: &Pages, first: u64, bytes: &[u8]) -> usize
     }
 }
 
-/// At how many places from one on other bytes stand than these.
+/// Returns at how many positions from `first` on a byte is present that differs from the given one.
 pub(crate) fn count_unlike(pages: &Pages, first: u64, bytes: &[u8]) -> usize
     requires whole { AreWhole pages.now }
     requires small { first + length bytes.now < 2 ^ 64 }
@@ -99,7 +100,7 @@ pub(crate) fn count_unlike(pages: &Pages, first: u64, bytes: &[u8]) -> usize
     count
 }
 
-/// The bytes that stand at so many places of one page, up to the first empty one.
+/// Returns the bytes at `n` positions of one page, up to the first empty one.
 fn front_in_page(pages: &Pages, first: u64, n: usize) -> &[u8]
     requires whole { AreWhole pages.now }
     requires one { first % page_length + n ≤ page_length }
@@ -111,7 +112,7 @@ fn front_in_page(pages: &Pages, first: u64, n: usize) -> &[u8]
     }
 }
 
-/// Puts the bytes behind `out` that stand at so many places from one on, up to the first empty one.
+/// Appends the bytes at `n` positions from `first` on to `out`, up to the first empty one.
 pub(crate) fn append_front(
     pages: &Pages,
     first: u64,
@@ -137,7 +138,8 @@ pub(crate) fn append_front(
     Ok(())
 }
 
-/// Puts bytes of one page behind `out`, but at each place the one that stands there, where one does.
+/// Appends bytes for positions of one page to `out`, but a byte that is present in place of the
+/// given one.
 fn append_over_page(
     pages: &Pages,
     first: u64,
@@ -146,7 +148,9 @@ fn append_over_page(
 ) -> Result<(), AllocError>
     requires whole { AreWhole pages.now }
     requires one { first % page_length + length bytes.now ≤ page_length }
-    ensures out { OnOk result (out.new.items ≡ out.old.items ++ over (places (length bytes.now) first pages.now) bytes.now) }
+    ensures out { OnOk result
+        (out.new.items ≡ out.old.items ++ over (places (length bytes.now) first pages.now)
+        bytes.now) }
     ensures err { OnErr result ((s : Bytes) × (out.new.items ≡ out.old.items ++ s)) }
 {
     match pages.get(&number_of(first)) {
@@ -156,7 +160,8 @@ fn append_over_page(
     Ok(())
 }
 
-/// Puts bytes behind `out`, but at each place the one that stands there, where one does.
+/// Appends bytes for the positions from `first` on to `out`, but a byte that is present in place of
+/// the given one.
 pub(crate) fn append_over(
     pages: &Pages,
     first: u64,
@@ -165,7 +170,9 @@ pub(crate) fn append_over(
 ) -> Result<(), AllocError>
     requires whole { AreWhole pages.now }
     requires small { first + length bytes.now < 2 ^ 64 }
-    ensures out { OnOk result (out.new.items ≡ out.old.items ++ over (places (length bytes.now) first pages.now) bytes.now) }
+    ensures out { OnOk result
+        (out.new.items ≡ out.old.items ++ over (places (length bytes.now) first pages.now)
+        bytes.now) }
     ensures err { OnErr result ((s : Bytes) × (out.new.items ≡ out.old.items ++ s)) }
 {
     let mut done = 0;
@@ -178,7 +185,7 @@ pub(crate) fn append_over(
     Ok(())
 }
 
-/// Makes the page of that number, unless it is there.
+/// Allocates the page with this number, unless it exists.
 fn make_page(alloc: Global, pages: &mut Pages, number: u64) -> Result<(), AllocError>
     requires { AreWhole pages.old }
     ensures same { IsSame pages.old pages.new }
@@ -192,7 +199,7 @@ fn make_page(alloc: Global, pages: &mut Pages, number: u64) -> Result<(), AllocE
     Ok(())
 }
 
-/// Makes the pages of the places from one up to another.
+/// Allocates the pages of the positions from `first` to `last`.
 pub(crate) fn make_pages(
     alloc: Global,
     pages: &mut Pages,
@@ -201,7 +208,8 @@ pub(crate) fn make_pages(
 ) -> Result<(), AllocError>
     requires { AreWhole pages.old }
     ensures same { IsSame pages.old pages.new }
-    ensures made { OnOk result ((j : ℕ) → first ≤ j → j ≤ last → is_some (page pages.new (j / page_length)) ≡ true) }
+    ensures made { OnOk result
+        ((j : ℕ) → first ≤ j → j ≤ last → is_some (page pages.new (j / page_length)) ≡ true) }
 {
     for number in number_of(first)..number_of(last) + 1 {
         make_page(alloc, pages, number)?;
@@ -209,7 +217,7 @@ pub(crate) fn make_pages(
     Ok(())
 }
 
-/// Puts bytes at places of one page where none stand, and tells how many it put.
+/// Writes bytes to the empty positions of one page, and returns how many it wrote.
 fn write_in_page(pages: &mut Pages, at: u64, bytes: &[u8]) -> usize
     requires whole { AreWhole pages.old }
     requires there { is_some (page pages.old (at / page_length)) ≡ true }
@@ -223,10 +231,11 @@ fn write_in_page(pages: &mut Pages, at: u64, bytes: &[u8]) -> usize
     page.write(within_page(at), bytes)
 }
 
-/// Puts bytes from a place on where none stand, and tells how many it put.
+/// Writes bytes to the empty positions from `at` on, and returns how many it wrote.
 pub(crate) fn write_bytes(pages: &mut Pages, at: u64, bytes: &[u8]) -> usize
     requires whole { AreWhole pages.old }
-    requires there { (j : ℕ) → at ≤ j → j < at + length bytes.now → is_some (page pages.old (j / page_length)) ≡ true }
+    requires there { (j : ℕ) → at ≤ j → j < at + length bytes.now
+        → is_some (page pages.old (j / page_length)) ≡ true }
     requires small { at + length bytes.now < 2 ^ 64 }
     ensures { IsWritten at bytes.now pages.old pages.new result }
 {
@@ -241,7 +250,7 @@ pub(crate) fn write_bytes(pages: &mut Pages, at: u64, bytes: &[u8]) -> usize
     count
 }
 
-/// Lets the pages go whose places all stand in front of one.
+/// Frees the pages whose positions are all before `end`.
 pub(crate) fn remove_pages(pages: &mut Pages, first: u64, end: u64)
     requires { AreWhole pages.old }
     ensures whole { AreWhole pages.new }

@@ -1,4 +1,4 @@
-//! Places that a byte stands at or doesn't.
+//! Operations on a window of positions, each with or without a byte.
 ghost use Rattle.std.specs.Prelude.{◌≡◌, ◌≤◌, ◌++◌, length, drop, OnOk, OnErr};
 ghost use Rattle.segments.specs.Cells.{Bytes, differing, empties, fill, run};
 ghost use Rattle.segments.specs.Places.{over};
@@ -6,7 +6,7 @@ ghost use Rattle.segments.specs.Places.{over};
 use crate::window::Window;
 use std::alloc::AllocError;
 
-/// How many places are empty before the first byte.
+/// Returns how many positions are empty before the first byte.
 pub(crate) fn count_empty(window: &Window) -> usize
     ensures is { result ≡ empties window.now }
     ensures within { result ≤ length window.now }
@@ -19,7 +19,7 @@ pub(crate) fn count_empty(window: &Window) -> usize
     window.len()
 }
 
-/// At how many places other bytes stand than these, the first of which is for a place.
+/// Returns at how many positions from `at` on a byte is present that differs from the given one.
 pub(crate) fn count_differing(window: &Window, at: usize, bytes: &[u8]) -> usize
     ensures is { result ≡ differing at bytes.now window.now }
     ensures within { result ≤ length bytes.now }
@@ -31,7 +31,7 @@ pub(crate) fn count_differing(window: &Window, at: usize, bytes: &[u8]) -> usize
     window.differing(at, &bytes[..common])
 }
 
-/// Puts bytes behind `out`, but at each place the one that stands there, where one does.
+/// Appends the bytes to `out`, but a byte that is present in the window in place of the given one.
 fn append_over(out: &mut Vec<u8>, bytes: &[u8], window: &Window) -> Result<(), AllocError>
     ensures out { OnOk result (out.new.items ≡ out.old.items ++ over window.now bytes.now) }
     ensures err { OnErr result ((s : Bytes) × (out.new.items ≡ out.old.items ++ s)) }
@@ -42,7 +42,8 @@ fn append_over(out: &mut Vec<u8>, bytes: &[u8], window: &Window) -> Result<(), A
     Ok(())
 }
 
-/// Puts the bytes behind `out` that stand up to the first empty place, once bytes are put at the first places.
+/// Appends the bytes up to the first empty position to `out`, as if `bytes` had been written to the
+/// first positions.
 pub(crate) fn append_joined(
     out: &mut Vec<u8>,
     bytes: &[u8],
@@ -56,7 +57,7 @@ pub(crate) fn append_joined(
     Ok(())
 }
 
-/// Takes the first bytes off.
+/// Removes the first `n` bytes.
 pub(crate) fn drop_first(bytes: &mut Vec<u8>, n: usize)
     requires { n ≤ length bytes.old.items }
     ensures { bytes.new.items ≡ drop n bytes.old.items }

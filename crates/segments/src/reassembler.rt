@@ -1,4 +1,4 @@
-//! What is held of a stream.
+//! The reassembler of one direction of a stream.
 ghost use Rattle.std.specs.Prelude.{◌≡◌, ◌≤◌, ◌<◌, ◌+◌, ◌^◌, ◌↔◌, [], length, Err, IfErr, IfOk, OnOk, OnErr};
 ghost use Rattle.segments.specs.Cells.{ahead, differing_in, differing_located, gap, known_behind, located, placed, run, wanted, with_located, with_part, with_segment, without_front, IsBeyond, IsTooMuch};
 ghost use Rattle.segments.specs.declared.reassembler.SegmentError.TheVariants as segment_error;
@@ -10,12 +10,12 @@ use std::error::Error;
 use std::fmt;
 use std::marker::Model;
 
-/// Why a segment isn't taken. Nothing that is held is changed by it.
+/// Why a segment is refused. A refusal changes nothing.
 #[derive(Debug, PartialEq, Drop)]
 pub enum SegmentError {
-    /// It ends too far behind the first byte that is missing.
+    /// The segment ends too far after the first missing byte.
     TooMuch,
-    /// Memory ran out for its bytes.
+    /// The bytes can't be allocated.
     OutOfMemory,
 }
 
@@ -38,19 +38,20 @@ impl fmt::Display for SegmentError {
 
 impl Error for SegmentError {}
 
-/// The bytes of a stream that came and are not yet handed out.
+/// The bytes of a stream that were received and not yet delivered.
 ///
-/// Its value in a contract: at each place behind what was handed out, the byte that stands there, where one came.
+/// Its value in a contract: at each position after the delivered bytes, the byte received there, if
+/// any.
 #[derive(Drop)]
 pub struct TcpReassembler {
     first: u32,
     limit: u32,
-    // How many bytes were handed out, or are missed.
+    // How many bytes were delivered or skipped.
     taken: u64,
-    // What stands in order, behind `start` bytes that were handed out.
+    // The in-order bytes, after `start` bytes that were delivered.
     front: Vec<u8>,
     start: usize,
-    // What stands from the first byte on that is missing.
+    // The bytes received from the first missing byte on.
     window: Window,
 }
 
@@ -65,7 +66,7 @@ impl Model for TcpReassembler {
     ghost invariant = { λ s. IsSound s.start s.taken s.limit s.front.items s.window };
 }
 
-/// How far a sequence number is ahead of the one of a place.
+/// Returns how far a sequence number is ahead of that of a position, modulo 2^32.
 fn distance(first: u32, place: u64, seq: u32) -> u32
     ensures { result ≡ ahead first place seq }
 {
@@ -73,7 +74,8 @@ fn distance(first: u32, place: u64, seq: u32) -> u32
     seq.wrapping_sub(next)
 }
 
-/// How far ahead of the wanted place bytes begin, and which they are.
+/// Returns how far ahead of the next expected position the bytes begin, and those of them that
+/// aren't before it.
 fn locate(distance: u32, bytes: &[u8]) -> (u32, &[u8])
     ensures place { result.0 ≡ (located distance bytes.now).0 }
     ensures bytes { result.1.now ≡ (located distance bytes.now).1 }
@@ -87,7 +89,8 @@ fn locate(distance: u32, bytes: &[u8]) -> (u32, &[u8])
     }
 }
 
-/// How far ahead of the wanted place bytes of a place begin, and which they are.
+/// Returns how far ahead of the next expected position bytes at a position begin, and those of them
+/// that aren't before it.
 fn place_at(wanted: u64, place: u32, bytes: &[u8]) -> (u32, &[u8])
     ensures place { result.0 ≡ (placed wanted place bytes.now).0 }
     ensures bytes { result.1.now ≡ (placed wanted place bytes.now).1 }
@@ -102,8 +105,9 @@ fn place_at(wanted: u64, place: u32, bytes: &[u8]) -> (u32, &[u8])
 }
 
 impl TcpReassembler {
-    /// Holds nothing, and takes no memory. `first_place` is the sequence number of the stream's first byte: one more than the
-    /// SYN's. A segment that isn't next may end at most `limit` bytes behind the first byte that is missing.
+    /// Returns an empty reassembler, without allocating. `first_place` is the sequence number of
+    /// the stream's first byte: one more than the SYN's. An out-of-order segment may end at most
+    /// `limit` bytes after the first missing byte.
     pub fn new(alloc: Global, first_place: u32, limit: u32) -> Self
         ensures { result ≡ record { first = first_place; limit = limit; taken = 0; cells = [] } }
     {
@@ -117,14 +121,14 @@ impl TcpReassembler {
         }
     }
 
-    /// The bytes that come next, up to the first that is missing.
+    /// Returns the next bytes, up to the first missing one.
     pub fn available(&self) -> &[u8]
         ensures { result.now ≡ run self.now.cells }
     {
         &self.front[self.start..]
     }
 
-    /// Takes the first `n` bytes off what is available, which has at least as many.
+    /// Consumes the first `n` available bytes. The caller ensures that there are as many.
     pub fn take(&mut self, n: usize)
         requires { n ≤ length (run self.old.cells) }
         ensures { self.new ≡ without_front n self.old }
@@ -133,8 +137,8 @@ impl TcpReassembler {
         self.taken += n as u64;
     }
 
-    /// Moves what is held to the beginning, where it is at most as long as what was handed out, so that each byte is moved
-    /// no more often than another is handed out.
+    /// Moves the in-order bytes to the start of the buffer, if they are at most as long as the
+    /// delivered part. So a byte is moved no more often than another is delivered.
     fn make_room(&mut self)
         ensures { self.new ≡ self.old }
     {
@@ -146,7 +150,7 @@ impl TcpReassembler {
         }
     }
 
-    /// The place of the first byte that is missing.
+    /// Returns the position of the first missing byte.
     fn wanted(&self) -> u64
         ensures is { result ≡ wanted self.now }
         ensures small { result ≤ 2 ^ 62 }
@@ -154,7 +158,7 @@ impl TcpReassembler {
         self.taken + (self.front.len() - self.start) as u64
     }
 
-    /// Puts bytes at the wanted place.
+    /// Adds bytes at the next expected position.
     fn append(&mut self, bytes: &[u8]) -> Result<(), AllocError>
         requires { wanted self.old + length bytes.now ≤ 2 ^ 62 }
         ensures ok { OnOk result (self.new ≡ with_located (0, bytes.now) self.old) }
@@ -176,7 +180,7 @@ impl TcpReassembler {
         }
     }
 
-    /// Keeps bytes behind a byte that is missing.
+    /// Buffers out-of-order bytes, which begin `ahead` bytes after the first missing one.
     fn hold(&mut self, ahead: u32, bytes: &[u8]) -> Result<(), AllocError>
         requires some { 0 < length bytes.now }
         requires ahead { 0 < ahead }
@@ -189,7 +193,7 @@ impl TcpReassembler {
         Ok(())
     }
 
-    /// Moves the bytes that stand behind a gap of so many places to the front, on which none are.
+    /// Moves the bytes after a gap of `missed` positions to the in-order buffer, which is empty.
     fn pass(&mut self, missed: usize) -> Result<(), AllocError>
         requires empty { run self.old.cells ≡ [] }
         requires within { missed ≤ length self.old.cells }
@@ -212,12 +216,14 @@ impl TcpReassembler {
         }
     }
 
-    /// Takes a segment whose first byte has the sequence number `seq`. Its bytes stand where none stood; those of them that stand
-    /// in front of the first byte that is missing came before, and are dropped.
+    /// Takes a segment whose first byte has the sequence number `seq`. A byte that was received
+    /// before isn't replaced. Bytes before the first missing one were received before, and are
+    /// dropped.
     ///
-    /// - `TooMuch` exactly where it isn't empty, and begins behind the first byte that is missing and ends more than the limit
-    ///   behind it, or makes the stream longer than 2^62 bytes. Nothing changes.
-    /// - `OutOfMemory` where its bytes could not be held. Nothing changes.
+    /// - `TooMuch` exactly if the segment isn't empty, and either begins after the first missing
+    ///   byte and ends more than the limit after it, or makes the stream longer than 2^62 bytes.
+    ///   Changes nothing.
+    /// - `OutOfMemory` if its bytes can't be allocated. Changes nothing.
     pub fn segment(&mut self, seq: u32, bytes: &[u8]) -> Result<(), SegmentError>
         ensures ok { OnOk result (self.new ≡ with_segment seq bytes.now self.old) }
         ensures err { OnErr result (self.new ≡ self.old) }
@@ -228,22 +234,24 @@ impl TcpReassembler {
         self.add(ahead, rest)
     }
 
-    /// Takes bytes that stand from a place of the stream on, whose first byte stands at 0. It is what `segment` does, with a
-    /// place where that has a sequence number.
+    /// Takes bytes at a position of the stream, whose first byte is at 0: as
+    /// [`TcpReassembler::segment`], with a position in place of the sequence number.
     ///
-    /// - `TooMuch` exactly where there are any, and they begin behind the first byte that is missing and end more than the limit
-    ///   behind it, or make the stream longer than 2^62 bytes. Nothing changes.
-    /// - `OutOfMemory` where they could not be held. Nothing changes.
+    /// - `TooMuch` exactly if there are any bytes, and they either begin after the first missing
+    ///   byte and end more than the limit after it, or make the stream longer than 2^62 bytes.
+    ///   Changes nothing.
+    /// - `OutOfMemory` if they can't be allocated. Changes nothing.
     pub fn put(&mut self, place: u32, bytes: &[u8]) -> Result<(), SegmentError>
         ensures ok { OnOk result (self.new ≡ with_part place bytes.now self.old) }
         ensures err { OnErr result (self.new ≡ self.old) }
-        ensures too_much { (result ≡ Err segment_error.TooMuch) ↔ IsBeyond (placed (wanted self.old) place bytes.now) self.old }
+        ensures too_much { (result ≡ Err segment_error.TooMuch)
+            ↔ IsBeyond (placed (wanted self.old) place bytes.now) self.old }
     {
         let (ahead, rest) = place_at(self.wanted(), place, bytes);
         self.add(ahead, rest)
     }
 
-    /// Takes bytes that begin so far behind the first byte that is missing.
+    /// Takes bytes that begin `ahead` bytes after the first missing one.
     fn add(&mut self, ahead: u32, bytes: &[u8]) -> Result<(), SegmentError>
         ensures ok { OnOk result (self.new ≡ with_located (ahead, bytes.now) self.old) }
         ensures err { OnErr result (self.new ≡ self.old) }
@@ -266,8 +274,9 @@ impl TcpReassembler {
         Ok(())
     }
 
-    /// At how many places other bytes are held than those of a segment whose first byte has the sequence number `seq`. Bytes that were
-    /// handed out, or are available, aren't held any more.
+    /// Returns at how many positions a buffered byte differs from that of a segment whose first
+    /// byte has the sequence number `seq`. Bytes that were delivered, or are available, aren't
+    /// compared.
     pub fn differing(&self, seq: u32, bytes: &[u8]) -> usize
         ensures is { result ≡ differing_in seq bytes.now self.now }
         ensures within { result ≤ length bytes.now }
@@ -276,7 +285,8 @@ impl TcpReassembler {
         self.differing_at(ahead, rest)
     }
 
-    /// The same of bytes that begin so far behind the first byte that is missing.
+    /// Returns at how many positions a buffered byte differs from the given ones, which begin
+    /// `ahead` bytes after the first missing one.
     fn differing_at(&self, ahead: u32, bytes: &[u8]) -> usize
         ensures is { result ≡ differing_located (ahead, bytes.now) self.now }
         ensures within { result ≤ length bytes.now }
@@ -284,8 +294,8 @@ impl TcpReassembler {
         count_differing(&self.window, ahead as usize, bytes)
     }
 
-    /// How many bytes are held behind the first that is missing, at most the limit: 0 where nothing shows that one is. It
-    /// takes the same time however many are held.
+    /// Returns how many out-of-order bytes are buffered after the first missing one, at most the
+    /// limit; 0 if nothing shows that one is missing. Takes constant time.
     pub fn held_behind(&self) -> usize
         ensures is { result ≡ known_behind self.now.cells }
         ensures within { result ≤ self.now.limit }
@@ -293,8 +303,9 @@ impl TcpReassembler {
         self.window.held()
     }
 
-    /// How many bytes of memory it takes besides itself, at most: what stands in order by the room that was asked for, what waits by its pages. They are at
-    /// least as many as the bytes that are held.
+    /// Returns an upper bound of the memory in bytes that it has allocated: the capacity for
+    /// in-order bytes, and the pages of out-of-order ones. It is at least the number of buffered
+    /// bytes.
     pub fn capacity(&self) -> usize
         ensures { length (run self.now.cells) + known_behind self.now.cells ≤ result }
     {
@@ -303,8 +314,8 @@ impl TcpReassembler {
         front.saturating_add(behind)
     }
 
-    /// How many bytes are missing before the next that is held: 0 where bytes are available, or none are held behind those that
-    /// are missing. It takes time by their count.
+    /// Returns how many bytes are missing before the next buffered one; 0 if bytes are available,
+    /// or no out-of-order bytes are buffered. Takes time proportional to the result.
     pub fn missing(&self) -> usize
         ensures { result ≡ gap self.now.cells }
     {
@@ -317,11 +328,13 @@ impl TcpReassembler {
         count_empty(&self.window)
     }
 
-    /// Gives up the bytes that are missing at the front, and tells how many they are: what is held behind them comes next.
+    /// Skips the missing bytes, and returns how many there are. The buffered bytes after them are
+    /// available then.
     ///
-    /// Where bytes are available, or nothing is held behind those that are missing, none are given up, and nothing changes.
+    /// If bytes are available, or no out-of-order bytes are buffered, skips none, and changes
+    /// nothing.
     ///
-    /// - `OutOfMemory` where the bytes that come next could not be held in order. Nothing changes.
+    /// - `OutOfMemory` if the bytes that become available can't be allocated. Changes nothing.
     pub fn skip(&mut self) -> Result<usize, SegmentError>
         ensures missed { IfOk result (λ n. n ≡ gap self.old.cells) }
         ensures ok { OnOk result (self.new ≡ without_front (gap self.old.cells) self.old) }
@@ -336,7 +349,8 @@ impl TcpReassembler {
         Ok(missed)
     }
 
-    /// The bytes that come next, up to the first that is missing; those behind it are let go. It takes no memory.
+    /// Returns the next bytes, up to the first missing one, and frees the out-of-order ones.
+    /// Allocates nothing.
     pub fn into_available(self) -> Vec<u8>
         ensures { result.items ≡ run self.cells }
     {

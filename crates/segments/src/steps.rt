@@ -8,13 +8,13 @@ use std::alloc::Global;
 /// One call on a stream.
 #[derive(Drop)]
 pub enum Step<'a> {
-    /// A segment comes: the sequence number of its first byte, and its bytes.
+    /// A segment: the sequence number of its first byte, and its bytes.
     Segment(u32, &'a [u8]),
-    /// At most so many of the bytes that are available are handed out.
+    /// Delivers at most this many of the available bytes.
     Take(usize),
 }
 
-/// Takes one step; what it hands out is put behind `out`.
+/// Takes one step, and appends the bytes that it delivers to `out`.
 fn take_step(
     stream: &mut TcpReassembler,
     step: &Step,
@@ -35,12 +35,13 @@ fn take_step(
     }
 }
 
-/// What is handed out where segments come and bytes are taken in any order, and what is available after the last step.
+/// Returns the bytes delivered by a list of steps, and those available after the last step.
 ///
-/// The stream may have any length below 2^62; each segment begins less than 2^31 from the first byte that is missing as it comes.
+/// The stream may have any length below 2^62. Each segment must begin less than 2^31 bytes from the
+/// byte that is the first missing one when it comes.
 ///
-/// - `TooMuch` where [`TcpReassembler::segment`] refuses a segment so.
-/// - `OutOfMemory` where memory ran out.
+/// - `TooMuch` if [`TcpReassembler::segment`] refuses a segment so.
+/// - `OutOfMemory` if memory ran out.
 pub fn replay(
     alloc: Global,
     first_place: u32,
@@ -48,7 +49,9 @@ pub fn replay(
     steps: &[Step],
 ) -> Result<(Vec<u8>, Vec<u8>), SegmentError>
     ensures front { IfOk result (λ r. IsReplayed first_place steps.now r.0.items r.1.items) }
-    ensures told { IfOk result (λ r. r.0.items ≡ handed steps.now record { first = first_place; limit = limit; taken = 0; cells = [] }) }
+    ensures told { IfOk result
+        (λ r. r.0.items ≡ handed steps.now
+        record { first = first_place; limit = limit; taken = 0; cells = [] }) }
 {
     let mut stream = TcpReassembler::new(alloc, first_place, limit);
     let mut out = Vec::new(alloc);

@@ -1,17 +1,19 @@
-//! A whole stream, from the list of its segments.
+//! Reassembles a whole stream from a list of segments.
 ghost use Rattle.std.specs.Prelude.{◌≡◌, IfOk};
 ghost use Rattle.segments.specs.Law.{IsReassembled};
 
 use crate::reassembler::{SegmentError, TcpReassembler};
 use std::alloc::Global;
 
-/// What is handed out in total where each segment is taken in turn and all that is available is handed out after it.
+/// Returns all bytes delivered if each segment is taken in turn, and everything available is
+/// delivered after each.
 ///
-/// A segment is the sequence number of its first byte, and its bytes. Where the segments are parts of a stream of fewer than 2^31
-/// bytes, it is the longest front of that stream of which each byte stands in a segment.
+/// A segment is the sequence number of its first byte, and its bytes. If the segments are parts of
+/// a stream of fewer than 2^31 bytes, the result is the longest prefix of that stream of which each
+/// byte is in a segment.
 ///
-/// What refuses the first segment that [`TcpReassembler::segment`] doesn't take is the answer; `OutOfMemory` also where what is handed
-/// out could not be held.
+/// Returns the refusal of the first segment that [`TcpReassembler::segment`] refuses; `OutOfMemory`
+/// also if the delivered bytes can't be allocated.
 pub fn reassemble(
     alloc: Global,
     first_place: u32,

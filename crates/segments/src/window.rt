@@ -1,4 +1,4 @@
-//! Bytes that wait for others.
+//! The buffer of out-of-order bytes.
 ghost use Rattle.std.specs.Prelude.{◌≡◌, ◌≤◌, ◌<◌, ◌+◌, ◌^◌, ◌++◌, [], length, drop, OnOk, OnErr};
 ghost use Rattle.segments.specs.Cells.{Bytes, cell, differing, fill_at, known, run};
 ghost use Rattle.segments.specs.Places.{over};
@@ -11,20 +11,22 @@ use std::alloc::{AllocError, Global};
 use std::collections::BTreeMap;
 use std::marker::Model;
 
-/// What a page takes at most, in bytes: its 2,056, what the allocator takes besides, and its share of a tree whose nodes are half full.
+/// The maximum cost of a page, in bytes: its own 2,056, the allocator's overhead, and its share of
+/// a tree whose nodes are half full.
 const PAGE_COST: usize = 2_128;
 
-/// What a tree of one page takes besides.
+/// The additional cost of a tree of one page, in bytes.
 const TREE_COST: usize = 256;
 
-/// The places from one on, up to the last byte that came.
+/// The positions from the first one on, up to the last byte received.
 ///
-/// Memory is taken for the pages in which a byte came, however far ahead they are.
+/// Memory is allocated for the pages in which a byte was received, however far ahead they are.
 #[derive(Drop)]
 pub(crate) struct Window {
     alloc: Global,
     pages: Pages,
-    // The place in `pages` of the first, how many places there are, and how many bytes stand there.
+    // The position in `pages` of the first one, the number of positions, and how many bytes are
+    // present.
     begin: u64,
     len: usize,
     held: usize,
@@ -42,7 +44,7 @@ impl Model for Window {
 }
 
 impl Window {
-    /// No place. It takes no memory.
+    /// Returns a window without positions. Allocates nothing.
     pub(crate) fn new(alloc: Global) -> Self
         ensures { result ≡ [] }
     {
@@ -55,14 +57,14 @@ impl Window {
         }
     }
 
-    /// How many places there are.
+    /// Returns the number of positions.
     pub(crate) fn len(&self) -> usize
         ensures { result ≡ length self.now }
     {
         self.len
     }
 
-    /// What stands at a place.
+    /// Returns the byte at a position, if one is present.
     pub(crate) fn place(&self, at: usize) -> Option<u8>
         requires { at < length self.now }
         ensures { result ≡ cell self.now at }
@@ -70,7 +72,7 @@ impl Window {
         byte_at(&self.pages, self.begin + at as u64)
     }
 
-    /// How many bytes stand.
+    /// Returns how many bytes are present.
     pub(crate) fn held(&self) -> usize
         ensures is { result ≡ known self.now }
         ensures within { result ≤ length self.now }
@@ -78,7 +80,7 @@ impl Window {
         self.held
     }
 
-    /// How many bytes of memory the pages take, at most.
+    /// Returns an upper bound of the memory of the pages, in bytes.
     pub(crate) fn capacity(&self) -> usize {
         if self.pages.is_empty() {
             return 0;
@@ -87,7 +89,8 @@ impl Window {
         pages.saturating_add(TREE_COST)
     }
 
-    /// At how many places other bytes stand than these, the first of which is for a place.
+    /// Returns at how many positions from `at` on a byte is present that differs from the given
+    /// one.
     pub(crate) fn differing(&self, at: usize, bytes: &[u8]) -> usize
         requires { at + length bytes.now ≤ length self.now }
         ensures is { result ≡ differing at bytes.now self.now }
@@ -96,7 +99,7 @@ impl Window {
         count_unlike(&self.pages, self.begin + at as u64, bytes)
     }
 
-    /// Puts bytes behind `out`, but at each place the one that stands there, where one does.
+    /// Appends the bytes to `out`, but a byte that is present in place of the given one.
     pub(crate) fn append_over(&self, bytes: &[u8], out: &mut Vec<u8>) -> Result<(), AllocError>
         requires { length bytes.now ≤ length self.now }
         ensures out { OnOk result (out.new.items ≡ out.old.items ++ over self.now bytes.now) }
@@ -105,7 +108,7 @@ impl Window {
         append_over(&self.pages, self.begin, bytes, out)
     }
 
-    /// Puts the bytes behind `out` that stand from a place up to the first empty one.
+    /// Appends the bytes from a position up to the first empty one to `out`.
     pub(crate) fn append_run(&self, from: usize, out: &mut Vec<u8>) -> Result<(), AllocError>
         requires { from ≤ length self.now }
         ensures out { OnOk result (out.new.items ≡ out.old.items ++ run (drop from self.now)) }
@@ -114,7 +117,7 @@ impl Window {
         append_front(&self.pages, self.begin + from as u64, self.len - from, out)
     }
 
-    /// Lets the first places go, and the memory of their pages.
+    /// Removes the first `n` positions, and frees their pages.
     pub(crate) fn drop_front(&mut self, n: usize)
         requires { n ≤ length self.old }
         ensures { self.new ≡ drop n self.old }
@@ -130,7 +133,7 @@ impl Window {
         self.len -= n;
     }
 
-    /// Puts bytes from a place on where none stand.
+    /// Writes the bytes to the empty positions from `at` on.
     pub(crate) fn fill(&mut self, at: usize, bytes: &[u8]) -> Result<(), AllocError>
         requires some { 0 < length bytes.now }
         requires small { at + length bytes.now ≤ 2 ^ 62 }
@@ -138,7 +141,7 @@ impl Window {
         ensures err { OnErr result (self.new ≡ self.old) }
     {
         let end = at + bytes.len();
-        // There always is such a place: a stream has at most 2^62 bytes.
+        // Never fails: a stream has at most 2^62 bytes.
         let Some(end_place) = self.begin.checked_add(end as u64) else {
             return Err(AllocError);
         };

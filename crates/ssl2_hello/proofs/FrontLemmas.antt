@@ -1,4 +1,4 @@
--- The fields of fixed size: how many bytes they take, and that their lengths are those of the record.
+-- The fixed-size fields: how many bytes they have, and that their lengths fill the record.
 use Rattle.std.proofs.Common.{◌≡◌, ℕ, ◌+◌, ◌%◌, ◌<◌, ◌≤◌, true}
 use Rattle.std.specs.Prelude.{◌==◌, ◌&&◌, nat_le, nat_lt}
 use Rattle.std.proofs.lemmas.Bool.{eqb-true, ltb-true, leb-true, and_parts}
@@ -12,7 +12,8 @@ use Rattle.ssl2_hello.proofs.KnownLemmas.{Holds, ReadsOnly, reads_behind, reads_
 pub takes_record_length : Takes 2 record_length
 unfolding record_length
 takes_record_length =
-    takes_chain 2 0 _ _ (takes_number 2) (λ n. takes_chain 0 0 _ _ (takes_test _ _) (λ u. takes_done _))
+    takes_chain 2 0 _ _ (takes_number 2)
+    (λ n. takes_chain 0 0 _ _ (takes_test _ _) (λ u. takes_done _))
 
 takes_lengths : (version : ℕ) → Takes 6 (lengths version)
 unfolding lengths
@@ -48,8 +49,13 @@ record_length_stable = (tt, λ n. (stable_test _ _, λ u. tt))
 
 lengths_stable : (version : ℕ) → IsStable (lengths version)
 unfolding lengths
-lengths_stable version =
-    (tt, λ specs. (stable_test _ _, λ u. (tt, λ id. (stable_test _ _, λ v. (tt, λ challenge. (stable_test _ _, λ w. tt))))))
+lengths_stable version = (
+  tt,
+  λ specs. (
+    stable_test _ _,
+    λ u. (tt, λ id. (stable_test _ _, λ v. (tt, λ challenge. (stable_test _ _, λ w. tt)))),
+  ),
+)
 
 pub fields_stable : (n : ℕ) → IsStable (fixed_fields n)
 unfolding fixed_fields
@@ -75,7 +81,7 @@ pub beginning_stable : IsStable beginning
 unfolding beginning
 beginning_stable = (record_length_stable, fields_stable)
 
--- Which lengths are read.
+-- The lengths that are accepted.
 pub record AreAllowed (f : FixedFields) : Type 0 where
   pub whole : f.cipher_spec_length % 3 ≡ 0
   pub some : 0 < f.cipher_spec_length
@@ -83,7 +89,8 @@ pub record AreAllowed (f : FixedFields) : Type 0 where
   pub challenge_least : 16 ≤ f.challenge_length
   pub challenge_most : f.challenge_length ≤ 32
 
-allowed_by : (version specs id challenge : ℕ) → (specs % 3 == 0 && nat_lt 0 specs) ≡ true → nat_le id 32 ≡ true
+allowed_by : (version specs id challenge : ℕ) → (specs % 3 == 0 && nat_lt 0 specs) ≡ true
+    → nat_le id 32 ≡ true
     → (nat_le 16 challenge && nat_le challenge 32) ≡ true → AreAllowed (record {
       version = version;
       cipher_spec_length = specs;
@@ -109,9 +116,10 @@ lengths_allowed version =
     reads_number AreAllowed 2 _ (λ id.
     reads_tested AreAllowed _ _ _ (λ f.
     reads_number AreAllowed 2 _ (λ challenge.
-    reads_tested AreAllowed _ _ _ (λ g. reads_done AreAllowed _ (allowed_by version specs id challenge e f g)))))))
+    reads_tested AreAllowed _ _ _
+    (λ g. reads_done AreAllowed _ (allowed_by version specs id challenge e f g)))))))
 
--- And they are those of a record of n bytes.
+-- The lengths fill a record of n bytes.
 pub record Fills (n : ℕ) (f : FixedFields) : Type 0 where
   pub all : 9 + f.cipher_spec_length + f.session_id_length + f.challenge_length ≡ n
   pub allowed : AreAllowed f

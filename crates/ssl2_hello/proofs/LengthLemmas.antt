@@ -19,8 +19,10 @@ pub record HasLength (n : ℕ) (h : ClientHello) : Type 0 where
   pub all : hello_length h ≡ 2 + n
   pub allowed : HasAllowedLengths h
 
-has_length : (n c s l : ℕ) (f : FixedFields) (h : ClientHello) → Fills n f → c ≡ f.cipher_spec_length / 3
-    → s ≡ f.session_id_length → l ≡ f.challenge_length → c ≡ length h.cipher_specs → s ≡ length h.session_id
+has_length : (n c s l : ℕ) (f : FixedFields) (h : ClientHello) → Fills n f
+    → c ≡ f.cipher_spec_length / 3
+    → s ≡ f.session_id_length → l ≡ f.challenge_length → c ≡ length h.cipher_specs
+    → s ≡ length h.session_id
     → l ≡ length h.challenge → HasLength n h
 has_length n c s l f h fills isc iss isl ofc ofs ofl =
     let all = fills.all in
@@ -43,14 +45,19 @@ has_length n c s l f h fills isc iss isl ofc ofs ofl =
 message_length : (n : ℕ) → ReadsOnly (HasLength n) (message n)
 unfolding message
 message_length n =
-    reads_behind (Fills n) (HasLength n) (fixed_fields n) behind_fields (fields_filling n) (λ f fills.
+    reads_behind (Fills n) (HasLength n) (fixed_fields n) behind_fields (fields_filling n)
+    (λ f fills.
     reads_behind (λ specs. length specs ≡ f.cipher_spec_length / 3) (HasLength n)
-    (window f.cipher_spec_length (list (number 3))) (behind_specs f) (reads_numbers 3 f.cipher_spec_length (omega arith)) (λ specs c.
-    reads_behind (λ id. length id ≡ f.session_id_length) (HasLength n) (block f.session_id_length) (behind_id f specs)
+    (window f.cipher_spec_length (list (number 3))) (behind_specs f)
+    (reads_numbers 3 f.cipher_spec_length (omega arith)) (λ specs c.
+    reads_behind (λ id. length id ≡ f.session_id_length) (HasLength n) (block f.session_id_length)
+    (behind_id f specs)
     (reads_block f.session_id_length) (λ id s.
-    reads_behind (λ challenge. length challenge ≡ f.challenge_length) (HasLength n) (block f.challenge_length)
+    reads_behind (λ challenge. length challenge ≡ f.challenge_length) (HasLength n)
+    (block f.challenge_length)
     (behind_challenge f specs id) (reads_block f.challenge_length) (λ challenge l.
-    reads_done (HasLength n) _ (has_length n (length specs) (length id) (length challenge) f (record {
+    reads_done (HasLength n) _
+    (has_length n (length specs) (length id) (length challenge) f (record {
       version = f.version;
       cipher_specs = specs;
       session_id = id;
@@ -62,8 +69,10 @@ completed_holds P (Ok x) h = h
 completed_holds P (Err (Broken k)) h = tt
 completed_holds P (Err (Lacks n)) h = tt
 
-behind_record : (n : ℕ) (a : Answer ClientHello) (s : Bytes) (h : ClientHello) (r : Bytes) → Holds (HasLength n) a
-    → ◌and_then◌ {Y = ClientHello × Bytes} a (λ x. Ok (x.0, s)) ≡ Ok (h, r) → HasLength n h × (s ≡ r)
+behind_record : (n : ℕ) (a : Answer ClientHello) (s : Bytes) (h : ClientHello) (r : Bytes)
+    → Holds (HasLength n) a
+    → ◌and_then◌ {Y = ClientHello × Bytes} a (λ x. Ok (x.0, s)) ≡ Ok (h, r)
+    → HasLength n h × (s ≡ r)
 behind_record n (Ok x) s h r k e =
     let same : ◌≡◌ {A = ClientHello × Bytes} (x.0, s) (h, r) = cc in
     (subst (HasLength n) (ap (λ y. y.0) same) k, ap (λ y. y.1) same)
@@ -74,14 +83,16 @@ of_record : (n : ℕ) (b : Bytes) (h : ClientHello) (r : Bytes) → reading (in_
 unfolding split_at
 of_record n b h r e = go (ltb (length b) n) refl e
   where
-    go : (t : Bool) → ltb (length b) n ≡ t → ◌and_then◌ {X = Bytes × Bytes} {Y = ClientHello × Bytes}
+    go : (t : Bool) → ltb (length b) n ≡ t
+        → ◌and_then◌ {X = Bytes × Bytes} {Y = ClientHello × Bytes}
         (cond {A = Answer Bytes} t (Err (Lacks (n - length b))) (Ok (take n b, drop n b)))
         (λ w. completed (reading (message n) w.0) and_then λ x. Ok (x.0, w.1)) ≡ Ok (h, r)
         → HasLength n h × (length b ≡ n + length r)
     go true f e = absurd cc
     go false f e =
         let (has, is) = behind_record n (completed (reading (message n) (take n b))) (drop n b) h r
-        (completed_holds (HasLength n) (reading (message n) (take n b)) ((message_length n).holds (take n b))) e in
+        (completed_holds (HasLength n) (reading (message n) (take n b))
+        ((message_length n).holds (take n b))) e in
         (has, omega (arith, length-drop n b, ltb-false (length b) n f, ap length is))
 
 hello_has : (b : Bytes) (h : ClientHello) (r : Bytes) → reading client_hello b ≡ Ok (h, r)
@@ -90,7 +101,8 @@ unfolding client_hello
 hello_has b h r e =
     let (n, m, first, then) = first_value record_length in_record b h r e in
     let (has, behind) = of_record n m h r then in
-    let taken : length b ≡ 2 + length m = subst (Took 2 (length b)) first (takes_record_length.took b) in
+    let taken : length b ≡ 2 + length m =
+    subst (Took 2 (length b)) first (takes_record_length.took b) in
     let all = has.all in
     (omega (arith, taken, behind, all), has.allowed)
 

@@ -1,4 +1,4 @@
--- How many bytes a layout of a fixed size takes.
+-- How many bytes a fixed-size layout consumes.
 use Rattle.std.proofs.Common.{◌≡◌, ℕ, ◌+◌, ◌-◌, ◌<◌, length, take, drop, Ok, Err, Bool, true, false, cond, ltb, refl, arith}
 use Rattle.std.specs.Prelude.{⊤}
 use Rattle.std.proofs.lemmas.Bool.{ltb-true, ltb-false}
@@ -10,7 +10,7 @@ use Rattle.layouts.specs.Reading.{reading, split_at, number_at, ◌and_then◌}
 use Rattle.layouts.specs.Stable.{IsStable, CountsMissing}
 use Rattle.layouts.specs.declared.result.ErrorKind.{ErrorKind}
 
--- Of n bytes, k are taken, and missing where there are fewer.
+-- Of n bytes, k are consumed, or the missing ones are counted.
 abbrev pub Took : {A : Type 0} → ℕ → ℕ → Answer A → Type 0
 Took k n (Ok x) = n ≡ k + length x.1
 Took k n (Err (Broken e)) = ⊤
@@ -36,7 +36,8 @@ number_took k b = go (ltb (length b) k) refl
   where
     go : (t : Bool) → ltb (length b) k ≡ t
         → Took k (length b) (◌and_then◌ {Y = ℕ × Bytes}
-        (cond {A = Answer Bytes} t (Err (Lacks (k - length b))) (Ok (take k b, drop k b))) (λ x. Ok (number_of x.0, x.1)))
+        (cond {A = Answer Bytes} t (Err (Lacks (k - length b))) (Ok (take k b, drop k b)))
+        (λ x. Ok (number_of x.0, x.1)))
     go true e = ltb-true (length b) k e
     go false e = omega (arith, length-drop k b, ltb-false (length b) k e)
 
@@ -53,10 +54,12 @@ takes_test t k = record { took = test_took t k }
 pub takes_done : {A : Type 0} (a : A) → Takes 0 (done a)
 takes_done a = record { took = λ b. omega arith }
 
-pub takes_chain : {A B : Type 0} (j k : ℕ) (l : Layout A) (f : A → Layout B) → Takes j l → ((a : A) → Takes k (f a))
+pub takes_chain : {A B : Type 0} (j k : ℕ) (l : Layout A) (f : A → Layout B) → Takes j l
+    → ((a : A) → Takes k (f a))
     → Takes (j + k) (chain l f)
 takes_chain j k l f h g = record {
-  took = λ b. took_then j k (length b) (reading l b) (λ x. reading (f x.0) x.1) (h.took b) (λ x. (g x.0).took x.1);
+  took = λ b. took_then j k (length b) (reading l b) (λ x. reading (f x.0) x.1) (h.took b)
+      (λ x. (g x.0).took x.1);
 }
 
 pub stable_test : (t : Bool) (k : ErrorKind) → IsStable (test t k)

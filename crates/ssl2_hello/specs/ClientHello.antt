@@ -1,5 +1,6 @@
--- A ClientHello in the form of SSL 2.0, by which a client may begin SSL 3.0 and TLS too: V2ClientHello (RFC 5246, appendix E.2; RFC 6101,
--- appendix E), CLIENT-HELLO (Hickman, The SSL Protocol, 1995).
+-- A ClientHello in the form of SSL 2.0, with which a client may also begin SSL 3.0 and TLS:
+-- V2ClientHello (RFC 5246, appendix E.2; RFC 6101, appendix E), CLIENT-HELLO (Hickman, The SSL
+-- Protocol, 1995).
 use Rattle.std.specs.Prelude.{ℕ, ◌+◌, ◌*◌, ◌<◌, ◌≤◌, List, length}
 use Rattle.layouts.specs.Bytes.{Bytes}
 use Rattle.layouts.specs.Layout.{Layout, done, number, block, window, list, complete, ◌>>=◌}
@@ -7,7 +8,7 @@ use Rattle.layouts.specs.Items.{items_in}
 use Rattle.ssl2_hello.specs.Front.{record_length, fixed_fields}
 use Rattle.ssl2_hello.specs.declared.client_hello.Ssl2ClientHello.{Ssl2ClientHello}
 
--- A hello, apart from where it lies in memory.
+-- A hello, wherever it lies in memory.
 pub record ClientHello : Type 0 where
   pub version : ℕ
   pub cipher_specs : List ℕ
@@ -29,19 +30,25 @@ message n = do
   specs ← window f.cipher_spec_length (list (number 3))
   id ← block f.session_id_length
   challenge ← block f.challenge_length
-  done (record { version = f.version; cipher_specs = specs; session_id = id; challenge = challenge })
+  done (record {
+    version = f.version;
+    cipher_specs = specs;
+    session_id = id;
+    challenge =
+        challenge;
+  })
 
--- The message in its record, which it fills; in a shorter record it is refused for good.
+-- The message in its record, which it must fill; a shorter record is refused, not Incomplete.
 unfoldable pub client_hello : Layout ClientHello
 client_hello = do
   n ← record_length
   window n (complete (message n))
 
--- How many bytes it has: 2 of the header, 9 of the other fields of fixed size, and its parts.
+-- Its length: 2 bytes of header, 9 of the other fixed-size fields, and its parts.
 abbrev pub hello_length : ClientHello → ℕ
 hello_length h = 11 + 3 * length h.cipher_specs + length h.session_id + length h.challenge
 
--- How many there are of each.
+-- The allowed lengths of the parts.
 pub record HasAllowedLengths (h : ClientHello) : Type 0 where
   pub cipher_specs : 0 < length h.cipher_specs
   pub session_id : length h.session_id ≤ 32

@@ -1,4 +1,4 @@
--- The fields of fixed size that a ClientHello in the form of SSL 2.0 begins with, in its record.
+-- The fixed-size fields at the beginning of a ClientHello in the form of SSL 2.0, in its record.
 use Rattle.std.specs.Prelude.{ℕ, ◌+◌, ◌-◌, ◌%◌, ◌≤◌, ◌==◌, ◌&&◌, ◌||◌, nat_le, nat_lt, Bool, length, is_ok, IsOkAnd}
 use Rattle.layouts.specs.Bytes.{Bytes}
 use Rattle.layouts.specs.Layout.{Layout, done, number, test, ◌>>=◌, ◌>>◌}
@@ -20,19 +20,22 @@ view_fixed_fields f = record {
   challenge_length = f.challenge_length;
 }
 
--- uint16 msg_length: its highest bit is set, and the others are the length of what follows in the record (RFC 5246, appendix E.2).
+-- uint16 msg_length: its highest bit is set, and the other bits are the length of what follows in
+-- the record (RFC 5246, appendix E.2).
 unfoldable pub record_length : Layout ℕ
 record_length = do
   n ← number 2
   test (nat_le 0x8000 n) Tag
   done (n - 0x8000)
 
--- SSL 2.0 is version 0x0002 there; SSL 3.0 and TLS have the major version 3, and any minor one (RFC 5246, appendix E.1).
+-- SSL 2.0 is version 0x0002; SSL 3.0 and TLS have the major version 3, and any minor one (RFC 5246,
+-- appendix E.1).
 abbrev pub is_version : ℕ → Bool
 is_version v = v == 0x0002 || nat_le 0x0300 v && nat_le v 0x03ff
 
--- How long the three parts are that follow. The CipherSpecs are of 3 bytes each, and there is one at least; the session id is one of SSL 3.0
--- (opaque SessionID<0..32>), which those of SSL 2.0 fit, of 16 bytes or none; the challenge has 16 to 32 bytes.
+-- The lengths of the three parts that follow. There is at least one CipherSpec, of 3 bytes each.
+-- The session ID is one of SSL 3.0 (opaque SessionID<0..32>); those of SSL 2.0, of 16 bytes or
+-- none, fit too. The challenge has 16 to 32 bytes.
 unfoldable pub lengths : ℕ → Layout FixedFields
 lengths version = do
   specs ← number 2
@@ -41,9 +44,16 @@ lengths version = do
   test (nat_le id 32) Verify
   challenge ← number 2
   test (nat_le 16 challenge && nat_le challenge 32) Verify
-  done (record { version = version; cipher_spec_length = specs; session_id_length = id; challenge_length = challenge })
+  done (record {
+    version = version;
+    cipher_spec_length = specs;
+    session_id_length =
+        id;
+    challenge_length = challenge;
+  })
 
--- uint8 msg_type, which is 1; Version version; and the lengths, which are those of what follows in a record of n bytes: 9 bytes stand in front.
+-- uint8 msg_type, which is 1; Version version; and the lengths, which add up to a record of n bytes
+-- with the 9 bytes before them.
 unfoldable pub fixed_fields : ℕ → Layout FixedFields
 fixed_fields n = do
   msg_type ← number 1
@@ -54,7 +64,7 @@ fixed_fields n = do
   test (9 + f.cipher_spec_length + f.session_id_length + f.challenge_length == n) LengthValue
   done f
 
--- What the first 11 bytes of a stream tell.
+-- The first 11 bytes of a stream.
 unfoldable pub beginning : Layout FixedFields
 beginning = do
   n ← record_length
@@ -63,6 +73,6 @@ beginning = do
 abbrev pub begins_ssl2_hello_in : Bytes → Bool
 begins_ssl2_hello_in b = is_ok (reading beginning b)
 
--- The bytes begin with a record that is there whole.
+-- The bytes begin with a whole record.
 abbrev pub HasWholeRecord : Bytes → Type 0
 HasWholeRecord b = IsOkAnd (reading record_length b) (λ x. x.0 ≤ length x.1)

@@ -1,4 +1,4 @@
-//! What a client offers in the form of SSL 2.0.
+//! The CipherSpecs of a ClientHello in the form of SSL 2.0.
 ghost use Rattle.std.specs.Prelude.{◌≡◌};
 ghost use Rattle.std.specs.Option.{option_map};
 ghost use Rattle.ssl2_hello.specs.CipherSpec.{suite_of};
@@ -6,13 +6,13 @@ ghost use Rattle.ssl2_hello.specs.CipherSpec.{suite_of};
 use layouts::Number;
 use tls_base::TlsCipherSuiteID;
 
-/// A CipherSpec: the V2CipherSpec of RFC 5246, appendix E.2, its three bytes as one number, big-endian.
+/// A CipherSpec: the V2CipherSpec of RFC 5246, appendix E.2, as one big-endian number of 3 bytes.
 #[derive(Clone, Copy, Debug, Default, PartialEq, Eq)]
 pub struct CipherSpec(pub u32);
 
 impl CipherSpec {
-    /// The cipher suite of SSL 3.0 and TLS that it is: its last 2 bytes, where its first is 0 (RFC 5246, appendix E.2). `None` for those of
-    /// SSL 2.0 itself.
+    /// The cipher suite of SSL 3.0 and TLS: the last 2 bytes, if the first is 0 (RFC 5246, appendix
+    /// E.2). `None` for a CipherSpec of SSL 2.0 itself.
     pub fn suite(&self) -> Option<TlsCipherSuiteID>
         ensures { option_map (λ s. s.0) result ≡ suite_of self.now.0 }
     {

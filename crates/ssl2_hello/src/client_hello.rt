@@ -13,15 +13,15 @@ use tls_base::TlsVersion;
 pub struct Ssl2ClientHello<'a> {
     /// The version that the client offers: 0x0002 is SSL 2.0.
     pub version: TlsVersion,
-    /// What the client offers, in its order; at least one.
+    /// The CipherSpecs that the client offers, in its order; at least one.
     pub cipher_specs: Items<'a, CipherSpec>,
-    /// 0 to 32 bytes; those of SSL 2.0 have 16, and a client of TLS 1.2 has none.
+    /// 0 to 32 bytes. Session IDs of SSL 2.0 have 16; a TLS 1.2 client sends none.
     pub session_id: &'a [u8],
-    /// 16 to 32 bytes, which correspond to the random of a ClientHello of TLS.
+    /// 16 to 32 bytes, which serve as the random of the ClientHello.
     pub challenge: &'a [u8],
 }
 
-/// Reads the message in a record of `n` bytes.
+/// Parses the message in a record of `n` bytes.
 #[tactic(auto, using(layouts::proofs::OneAnswerLemmas::read_allowed), unfolding(crate::specs::ClientHello::message))]
 fn message(i: &[u8], n: u16) -> IResult<&[u8], Ssl2ClientHello>
     ensures { Gives view_client_hello (message_layout n) i.now result }
@@ -39,7 +39,7 @@ fn message(i: &[u8], n: u16) -> IResult<&[u8], Ssl2ClientHello>
     Ok((i, hello))
 }
 
-/// Reads all of a record as the message.
+/// Parses the message, which must fill the record.
 fn in_record(bytes: &[u8], n: u16) -> IResult<&[u8], Ssl2ClientHello>
     ensures { Gives view_client_hello (complete (message_layout n)) bytes.now result }
 {
@@ -49,18 +49,22 @@ fn in_record(bytes: &[u8], n: u16) -> IResult<&[u8], Ssl2ClientHello>
     }
 }
 
-/// Reads a ClientHello in the form of SSL 2.0, in its record (RFC 5246, appendix E.2; RFC 6101, appendix E): 2 bytes of header, of which the
-/// first bit is set and the others are the length of what follows, in bytes; 1 byte of message type, 2 of version, 2 each of the lengths of
-/// CipherSpecs, session id and challenge in bytes, and these three. All numbers are big-endian.
+/// Parses a ClientHello in the form of SSL 2.0, in its record (RFC 5246, appendix E.2; RFC 6101,
+/// appendix E): a header of 2 bytes, whose first bit is set and whose other bits are the length of
+/// what follows, in bytes; 1 byte of message type, 2 of version, 2 each for the lengths of
+/// CipherSpecs, session ID and challenge in bytes, and these three. All numbers are big-endian.
 ///
-/// - `Incomplete` of the missing bytes, where they are missing of the header or else of the record.
-/// - `Error` of kind `Tag` where the first bit isn't set, the type isn't 1, or the version is neither 0x0002 nor 0x0300 to 0x03ff.
-/// - `Error` of kind `LengthValue` where there is no CipherSpec, the length of these is no multiple of 3, or the three lengths don't fill the
-///   record.
-/// - `Error` of kind `Verify` where the session id is longer than 32 bytes, or the challenge isn't of 16 to 32.
-/// - `Error` of kind `Complete` where the record ends within the lengths.
+/// - `Incomplete` with the count of bytes missing of the header or else of the record.
+/// - `Error` of kind `Tag` if the first bit isn't set, the type isn't 1, or the version is neither
+///   0x0002 nor 0x0300 to 0x03ff.
+/// - `Error` of kind `LengthValue` if there is no CipherSpec, their length is no multiple of 3, or
+///   the three lengths don't fill the record.
+/// - `Error` of kind `Verify` if the session ID is longer than 32 bytes, or the challenge doesn't
+///   have 16 to 32.
+/// - `Error` of kind `Complete` if the record ends within the lengths.
 ///
-/// The record is judged once it is there whole; [`crate::begins_ssl2_hello`] tells from its first bytes whether it will be read.
+/// The record is checked once it is whole; [`crate::begins_ssl2_hello`] decides from its first
+/// bytes whether it will parse.
 #[tactic(auto, using(layouts::proofs::OneAnswerLemmas::read_allowed), unfolding(crate::specs::ClientHello::client_hello))]
 pub fn parse_ssl2_client_hello(i: &[u8]) -> IResult<&[u8], Ssl2ClientHello>
     ensures { Gives view_client_hello client_hello_layout i.now result }

@@ -1,4 +1,4 @@
-//! The fields of fixed size that a hello begins with.
+//! The fixed-size fields at the beginning of a hello.
 ghost use Rattle.std.specs.Prelude.{◌≡◌};
 ghost use Rattle.layouts.specs.Answers.{Gives};
 ghost use Rattle.ssl2_hello.specs.Front.{record_length as record_length_layout, fixed_fields as fixed_fields_layout, lengths as lengths_layout, view_fixed_fields};
@@ -7,10 +7,10 @@ ghost use Rattle.ssl2_hello.specs.Front.{beginning as beginning_layout, begins_s
 use layouts::{ErrorKind, IResult, number1, number2, refused};
 use tls_base::TlsVersion;
 
-/// The type of the message.
+/// The message type.
 const CLIENT_HELLO: u8 = 1;
 
-/// How many bytes the message has in front of its CipherSpecs.
+/// The length of the message before its CipherSpecs, in bytes.
 const FRONT_LEN: u32 = 9;
 
 /// The version, and the lengths of what follows, in bytes.
@@ -22,10 +22,10 @@ pub(crate) struct FixedFields {
     pub(crate) challenge_length: u16,
 }
 
-/// Reads the header of a record of 2 bytes: the length of what follows.
+/// Parses the record header of 2 bytes, which gives the length of what follows.
 ///
-/// - `Incomplete` of the missing bytes where there are fewer than 2.
-/// - `Error` of kind `Tag` where the first bit isn't set.
+/// - `Incomplete` with the count of missing bytes if there are fewer than 2.
+/// - `Error` of kind `Tag` if the first bit isn't set.
 #[tactic(auto, using(layouts::proofs::OneAnswerLemmas::read_allowed), unfolding(crate::specs::Front::record_length))]
 pub(crate) fn record_length(i: &[u8]) -> IResult<&[u8], u16>
     ensures { Gives (λ n. n) record_length_layout i.now result }
@@ -37,7 +37,7 @@ pub(crate) fn record_length(i: &[u8]) -> IResult<&[u8], u16>
     Ok((i, n - 0x8000))
 }
 
-/// Reads the lengths of what follows.
+/// Parses the lengths of what follows.
 #[tactic(auto, using(layouts::proofs::OneAnswerLemmas::read_allowed), unfolding(crate::specs::Front::lengths))]
 fn lengths(i: &[u8], version: TlsVersion) -> IResult<&[u8], FixedFields>
     ensures { Gives view_fixed_fields (lengths_layout version.0) i.now result }
@@ -63,7 +63,7 @@ fn lengths(i: &[u8], version: TlsVersion) -> IResult<&[u8], FixedFields>
     Ok((i, fields))
 }
 
-/// Reads the fields of fixed size of a hello in a record of `n` bytes.
+/// Parses the fixed-size fields of a hello in a record of `n` bytes.
 #[tactic(auto, using(layouts::proofs::OneAnswerLemmas::read_allowed), unfolding(crate::specs::Front::fixed_fields))]
 pub(crate) fn fixed_fields(i: &[u8], n: u16) -> IResult<&[u8], FixedFields>
     ensures { Gives view_fixed_fields (fixed_fields_layout n) i.now result }
@@ -87,7 +87,7 @@ pub(crate) fn fixed_fields(i: &[u8], n: u16) -> IResult<&[u8], FixedFields>
     Ok((i, fields))
 }
 
-/// Reads what the first 11 bytes of a stream tell.
+/// Parses the first 11 bytes of a stream: the header of the record and the fixed-size fields.
 #[tactic(auto, using(layouts::proofs::OneAnswerLemmas::read_allowed), unfolding(crate::specs::Front::beginning))]
 fn beginning(i: &[u8]) -> IResult<&[u8], FixedFields>
     ensures { Gives view_fixed_fields beginning_layout i.now result }
@@ -96,11 +96,13 @@ fn beginning(i: &[u8]) -> IResult<&[u8], FixedFields>
     fixed_fields(i, n)
 }
 
-/// Whether a stream begins with a ClientHello in the form of SSL 2.0 (RFC 5246, appendix E.2), as far as its first 11 bytes tell: the header of
-/// a record, the type of a ClientHello, version 0x0002 or the major version 3, and lengths of CipherSpecs, session id and challenge that are
-/// allowed and fill the record. Fewer than 11 bytes are no such hello.
+/// Whether a stream begins with a ClientHello in the form of SSL 2.0 (RFC 5246, appendix E.2),
+/// judging by its first 11 bytes: the header of a record, the type of a ClientHello, version 0x0002
+/// or the major version 3, and lengths of CipherSpecs, session ID and challenge that are allowed
+/// and fill the record. Fewer than 11 bytes are no such hello.
 ///
-/// Where it holds, [`crate::parse_ssl2_client_hello`] reads the hello once its record is there whole, and asks for more bytes until then.
+/// If so, [`crate::parse_ssl2_client_hello`] parses the hello once its record is whole, and returns
+/// `Incomplete` until then.
 pub fn begins_ssl2_hello(bytes: &[u8]) -> bool
     ensures { result ≡ begins_ssl2_hello_in bytes.now }
 {

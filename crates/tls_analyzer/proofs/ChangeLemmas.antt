@@ -1,11 +1,12 @@
--- A flow that goes on from a state alone.
+-- A flow that goes on from a state.
 use Rattle.std.proofs.Common.{◌≡◌, Bool, true, false, refl, ap}
 use Rattle.tls_flow.specs.Steps.{follow, silence}
 use Rattle.tls_flow.specs.Table.{is_waiting, outcome_at}
 use Rattle.tls_flow.specs.declared.event.Event.{Event}
 use Rattle.tls_flow.specs.declared.flow.Flow.{Flow}
 
-pub state_alone : (f : Flow) (e : Event) → (follow (record silence { state = f.state }) e).state ≡ (follow f e).state
+pub state_alone : (f : Flow) (e : Event)
+    → (follow (record silence { state = f.state }) e).state ≡ (follow f e).state
 state_alone f e = go (is_waiting (outcome_at f.state)) refl
   where
     go : (b : Bool) → is_waiting (outcome_at f.state) ≡ b

@@ -1,4 +1,4 @@
--- A piece that is cut in two says what it says whole.
+-- A piece in two parts has the same events as whole.
 use Rattle.std.proofs.Common.{
   ◌≡◌,
   ℕ,
@@ -48,7 +48,7 @@ use Rattle.tls_stream.specs.declared.ear.Standing.TheVariants.{Speaks, AtFault, 
 use Rattle.tls_analyzer.specs.History.{history, letter_of, with_letter}
 use Rattle.tls_analyzer.specs.Noting.{has_sealed, is_sealed}
 
--- The side with a further piece.
+-- The side with another piece.
 abbrev pub with_piece : Ear → Bytes → Ear
 with_piece e q = record e { direction = fed e.direction q }
 
@@ -61,22 +61,29 @@ says_further e q t = go e.standing
     go Over = refl
 
 told_further : (e : Ear) (q : Bytes) → told (with_piece e q) ≡ with_piece (told e) q
-told_further e q = ap (λ x. record e { direction = record e.direction { stream = x } }) (go e.direction.fault)
+told_further e q =
+    ap (λ x. record e { direction = record e.direction { stream = x } }) (go e.direction.fault)
   where
-    go : (f : Option Fault) → stream.told_tls13 (with_more f e.direction.stream q) ≡ with_more f (stream.told_tls13
+    go : (f : Option Fault)
+        → stream.told_tls13 (with_more f e.direction.stream q) ≡ with_more f (stream.told_tls13
         e.direction.stream) q
     go (Some f) = refl
     go None = refl
 
-told_if_further : (b : Bool) (e f : Ear) (q : Bytes) → IsToldIf b e f → IsToldIf b (with_piece e q) (with_piece f q)
+told_if_further : (b : Bool) (e f : Ear) (q : Bytes) → IsToldIf b e f
+    → IsToldIf b (with_piece e q) (with_piece f q)
 told_if_further true e f q same = λ t.
-    ap (λ x. says x t) (told_further e q) ∙ says_further (told e) q t ∙ same (q ++ t) ∙ sym (says_further f q t)
-told_if_further false e f q same = λ t. says_further e q t ∙ same (q ++ t) ∙ sym (says_further f q t)
+    ap (λ x. says x t) (told_further e q) ∙ says_further (told e) q t ∙ same (q ++ t)
+    ∙ sym (says_further f q t)
+told_if_further false e f q same = λ t. says_further e q t ∙ same (q ++ t)
+    ∙ sym (says_further f q t)
 
-first_further : (e f : Ear) (v : Said) (q : Bytes) → IsFirst e v f → IsFirst (with_piece e q) v (with_piece f q)
-first_further e f v q first t = says_further e q t ∙ first (q ++ t) ∙ ap (λ vs. v ∷ vs) (sym (says_further f q t))
+first_further : (e f : Ear) (v : Said) (q : Bytes) → IsFirst e v f
+    → IsFirst (with_piece e q) v (with_piece f q)
+first_further e f v q first t = says_further e q t ∙ first (q ++ t)
+    ∙ ap (λ vs. v ∷ vs) (sym (says_further f q t))
 
--- The conversation with a further piece of that side.
+-- The conversation with another piece of this side.
 abbrev pub further : Conversation → Side → Bytes → Conversation
 further c ToServer q = record c { client = with_piece c.client q }
 further c FromServer q = record c { server = with_piece c.server q }
@@ -115,7 +122,7 @@ past_on : (c m d : Conversation) (s : Side) (vs ws : List Said) → IsPast c s v
 past_on c m d s vs [] first last = subst (λ x. IsPast c s vs x) (sym last) first
 past_on c m d s vs (w ∷ ws) first last = (last.0, past_on c m last.0 s vs ws first last.1, last.2)
 
--- They say the same whatever comes of that side, and are the same but for that.
+-- Both say the same whatever follows of this side, and are equal otherwise.
 record IsAlike (s : Side) (c d : Conversation) : Type 0 where
   side : SaysAs (ear c s) (ear d s)
   other : ear c (other s) ≡ ear d (other s)
@@ -127,23 +134,28 @@ told_alike true e f g same alike = λ t. same t ∙ alike t
 told_alike false e f g same alike = λ t. same t ∙ alike t
 
 tells_alike : (c d : Conversation) (e : Event) → c.is_tls13 ≡ d.is_tls13 → tells d e ≡ tells c e
-tells_alike c d e same = ap (λ b. not b && chooses_tls13 e.symbol.kind e.symbol.direction) (sym same)
+tells_alike c d e same =
+    ap (λ b. not b && chooses_tls13 e.symbol.kind e.symbol.direction) (sym same)
 
-behind_last : (c m d : Conversation) (s : Side) (v : Said) → IsBehind c s v m → IsAlike s m d → IsBehind c s v d
+behind_last : (c m d : Conversation) (s : Side) (v : Said) → IsBehind c s v m → IsAlike s m d
+    → IsBehind c s v d
 behind_last c m d s v behind alike = record {
   side = (
     behind.side.0,
     behind.side.1,
     told_alike (tells c (event_of s v)) behind.side.0 (ear m s) (ear d s) behind.side.2 alike.side,
   );
-  other = subst (λ x. IsToldIf (tells c (event_of s v)) (ear c (other s)) x) alike.other behind.other;
+  other = subst (λ x. IsToldIf (tells c (event_of s v)) (ear c (other s)) x) alike.other
+      behind.other;
   is_tls13 = sym alike.is_tls13 ∙ behind.is_tls13;
   flow = sym alike.flow ∙ behind.flow;
 }
 
-behind_first : (c m d : Conversation) (s : Side) (v : Said) → IsAlike s c m → IsBehind m s v d → IsBehind c s v d
+behind_first : (c m d : Conversation) (s : Side) (v : Said) → IsAlike s c m → IsBehind m s v d
+    → IsBehind c s v d
 behind_first c m d s v alike behind =
-    let same : tells m (event_of s v) ≡ tells c (event_of s v) = tells_alike c m (event_of s v) alike.is_tls13 in
+    let same : tells m (event_of s v) ≡ tells c (event_of s v) =
+    tells_alike c m (event_of s v) alike.is_tls13 in
     record {
       side = (
         behind.side.0,
@@ -157,14 +169,17 @@ behind_first c m d s v alike behind =
       flow = behind.flow ∙ ap (λ x. follow x (event_of s v)) (sym alike.flow);
     }
 
-past_first : (c m d : Conversation) (s : Side) (v : Said) (vs : List Said) → IsAlike s c m → IsPast m s (v ∷ vs) d
+past_first : (c m d : Conversation) (s : Side) (v : Said) (vs : List Said) → IsAlike s c m
+    → IsPast m s (v ∷ vs) d
     → IsPast c s (v ∷ vs) d
 past_first c m d s v [] alike past =
     (c, refl, behind_first c m d s v alike (subst (λ x. IsBehind x s v d) past.1 past.2))
-past_first c m d s v (w ∷ ws) alike past = (past.0, past_first c m past.0 s w ws alike past.1, past.2)
+past_first c m d s v (w ∷ ws) alike past =
+    (past.0, past_first c m past.0 s w ws alike past.1, past.2)
 
--- A conversation that was fed says what it says with the piece.
-fed_alike : (c d : Conversation) (s : Side) (q : Bytes) → IsFedBy c s q d → IsAlike s (further c s q) d
+-- A conversation that was fed a piece says what it says with that piece.
+fed_alike : (c d : Conversation) (s : Side) (q : Bytes) → IsFedBy c s q d
+    → IsAlike s (further c s q) d
 fed_alike c d ToServer q fed = record {
   side = λ t. says_further c.client q t ∙ fed.side t;
   other = sym fed.other;
@@ -178,21 +193,25 @@ fed_alike c d FromServer q fed = record {
   flow = sym fed.flow;
 }
 
-pub fed_further : (c d : Conversation) (s : Side) (p q : Bytes) → IsFedBy c s p d → IsFedBy c s (p ++ q) (further d s q)
+pub fed_further : (c d : Conversation) (s : Side) (p q : Bytes) → IsFedBy c s p d
+    → IsFedBy c s (p ++ q) (further d s q)
 fed_further c d ToServer p q fed = record {
-  side = λ t. ap (says c.client) (append_assoc p q t) ∙ fed.side (q ++ t) ∙ sym (says_further d.client q t);
+  side = λ t. ap (says c.client) (append_assoc p q t) ∙ fed.side (q ++ t)
+      ∙ sym (says_further d.client q t);
   other = fed.other;
   is_tls13 = fed.is_tls13;
   flow = fed.flow;
 }
 fed_further c d FromServer p q fed = record {
-  side = λ t. ap (says c.server) (append_assoc p q t) ∙ fed.side (q ++ t) ∙ sym (says_further d.server q t);
+  side = λ t. ap (says c.server) (append_assoc p q t) ∙ fed.side (q ++ t)
+      ∙ sym (says_further d.server q t);
   other = fed.other;
   is_tls13 = fed.is_tls13;
   flow = fed.flow;
 }
 
-fed_on : (c m d : Conversation) (s : Side) (p q : Bytes) → IsFedBy c s p m → IsFedBy m s q d → IsFedBy c s (p ++ q) d
+fed_on : (c m d : Conversation) (s : Side) (p q : Bytes) → IsFedBy c s p m → IsFedBy m s q d
+    → IsFedBy c s (p ++ q) d
 fed_on c m d s p q first last = record {
   side = λ t. ap (says (ear c s)) (append_assoc p q t) ∙ first.side (q ++ t) ∙ last.side t;
   other = last.other ∙ first.other;
@@ -200,13 +219,15 @@ fed_on c m d s p q first last = record {
   flow = last.flow ∙ first.flow;
 }
 
--- What is said by two pieces is said by both at once.
-pub record IsJoined (c : Conversation) (s : Side) (p : Bytes) (vs : List Said) (d : Conversation) : Type 0 where
+-- What two pieces say is what both say joined.
+pub record IsJoined (c : Conversation) (s : Side) (p : Bytes) (vs : List Said)
+    (d : Conversation) : Type 0 where
   pub begun : Conversation
   pub fed : IsFedBy c s p begun
   pub past : IsPast begun s vs d
 
-pub joined : (c a m b d : Conversation) (s : Side) (p q : Bytes) (vs ws : List Said) → IsFedBy c s p a
+pub joined : (c a m b d : Conversation) (s : Side) (p q : Bytes) (vs ws : List Said)
+    → IsFedBy c s p a
     → IsPast a s vs m → IsFedBy m s q b
     → IsPast b s ws d → IsJoined c s (p ++ q) (ws ++ vs) d
 joined c a m b d s p q vs (w ∷ ws) fed past fed_again past_again = record {
@@ -226,12 +247,14 @@ joined c a m b d s p q (v ∷ vs) [] fed past fed_again past_again = record {
   past = subst (λ x. IsPast (further a s q) s (v ∷ vs) x) (sym past_again) (
     further past.0 s q,
     past_further a past.0 s vs q past.1,
-    behind_last (further past.0 s q) (further m s q) b s v (behind_further past.0 m s v q past.2) (fed_alike m b s q
+    behind_last (further past.0 s q) (further m s q) b s v (behind_further past.0 m s v q past.2)
+        (fed_alike m b s q
         fed_again),
   );
 }
 
-pub history_on : (s : Side) (h : List ℕ) (vs ws : List Said) → history s (history s h vs) ws ≡ history s h (ws ++ vs)
+pub history_on : (s : Side) (h : List ℕ) (vs ws : List Said)
+    → history s (history s h vs) ws ≡ history s h (ws ++ vs)
 history_on s h vs [] = refl
 history_on s h vs (w ∷ ws) = ap (λ g. with_letter s g (letter_of w)) (history_on s h vs ws)
 
@@ -249,4 +272,5 @@ sealed_on vs (w ∷ ws) = ap (λ b. b || is_sealed w) (sealed_on vs ws)
     ∙ or_on (has_sealed vs) (has_sealed ws) (is_sealed w)
 
 pub longer : (vs ws : List Said) (n : ℕ) → n ≤ length ws → n ≤ length (ws ++ vs)
-longer vs ws n few = let e : length (ws ++ vs) ≡ length ws + length vs = length-append ws vs in omega (arith, few, e)
+longer vs ws n few = let e : length (ws ++ vs) ≡ length ws + length vs = length-append ws vs in
+    omega (arith, few, e)

@@ -1,4 +1,4 @@
--- The first bytes of a side, which tell whether it speaks TLS, in however many pieces.
+-- The first bytes of a side, which decide whether it is TLS, in any number of pieces.
 use Rattle.std.proofs.Common.{
   ◌≡◌,
   ℕ,
@@ -58,7 +58,7 @@ use Rattle.tls_analyzer.specs.declared.analyzer.Hearing.TheVariants.{Unknown, Cl
 use Rattle.tls_analyzer.specs.declared.analyzer.Analyzer.{Analyzer}
 use Rattle.tls_analyzer.proofs.AnalyzerLemmas.{IsKnown, both_known, heard_next, hearing_with, known_next, next_on}
 
--- What waits of a side, once its vector is another one.
+-- The stored first bytes of a side, in a new vector.
 pub client_waits : (t : Analyzer) (s : Side) (v : Vec ℕ) (w : Bytes) → s ≡ ToServer → v.items ≡ w
     → Waits t s w (record t { client_first = v })
 client_waits t s v w at items = (v, items, ap (λ r. with_waiting t r v) (sym at))
@@ -67,22 +67,27 @@ pub server_waits : (t : Analyzer) (s : Side) (v : Vec ℕ) (w : Bytes) → s ≡
     → Waits t s w (record t { server_first = v })
 server_waits t s v w at items = (v, items, ap (λ r. with_waiting t r v) (sym at))
 
-pub client_waits_on : {E : Type 0} (t : Analyzer) (s : Side) (v : Vec ℕ) (b : Bytes) (r : Result Unit E) → s ≡ ToServer
+pub client_waits_on : {E : Type 0} (t : Analyzer) (s : Side) (v : Vec ℕ) (b : Bytes)
+    (r : Result Unit E) → s ≡ ToServer
     → v.items ≡ (if is_ok r then t.client_first.items ++ b else t.client_first.items)
     → OnOk r (Waits t s ((waiting t s).items ++ b) (record t { client_first = v }))
 client_waits_on t s v b (Ok x) at items =
-    client_waits t s v ((waiting t s).items ++ b) at (items ∙ ap (λ r. (waiting t r).items ++ b) (sym at))
+    client_waits t s v ((waiting t s).items ++ b) at
+    (items ∙ ap (λ r. (waiting t r).items ++ b) (sym at))
 client_waits_on t s v b (Err e) at items = tt
 
-pub server_waits_on : {E : Type 0} (t : Analyzer) (s : Side) (v : Vec ℕ) (b : Bytes) (r : Result Unit E) → s ≡ FromServer
+pub server_waits_on : {E : Type 0} (t : Analyzer) (s : Side) (v : Vec ℕ) (b : Bytes)
+    (r : Result Unit E) → s ≡ FromServer
     → v.items ≡ (if is_ok r then t.server_first.items ++ b else t.server_first.items)
     → OnOk r (Waits t s ((waiting t s).items ++ b) (record t { server_first = v }))
 server_waits_on t s v b (Ok x) at items =
-    server_waits t s v ((waiting t s).items ++ b) at (items ∙ ap (λ r. (waiting t r).items ++ b) (sym at))
+    server_waits t s v ((waiting t s).items ++ b) at
+    (items ∙ ap (λ r. (waiting t r).items ++ b) (sym at))
 server_waits_on t s v b (Err e) at items = tt
 
--- The first bytes, from what waits and what comes.
-pub front_is : (w f g b x : Bytes) (n : ℕ) → x ≡ f ++ g → f ≡ w → g ≡ take n b → n ≡ 5 - length w → x ≡ front w b
+-- The first bytes, from those stored and those that come.
+pub front_is : (w f g b x : Bytes) (n : ℕ) → x ≡ f ++ g → f ≡ w → g ≡ take n b → n ≡ 5 - length w
+    → x ≡ front w b
 front_is w f g b x n whole waits comes count =
     whole ∙ ap (λ y. y ++ g) waits ∙ ap (λ y. w ++ y) comes ∙ ap (λ k. w ++ take k b) count
 
@@ -95,7 +100,8 @@ pub first_tls : {E : Type 0} (r : Result Unit E) (t m o u : Analyzer) (s : Side)
 first_tls (Ok x) t m o u s b long tls waits first last =
     let w : Bytes = (waiting t s).items in
     let n : ℕ = 5 - length w in
-    subst (λ c. IsFirstBy c (begins_tls (front w b)) t s w b u) (sym long) (subst (λ c. IsFirstBy false c t s w b u)
+    subst (λ c. IsFirstBy c (begins_tls (front w b)) t s w b u) (sym long)
+    (subst (λ c. IsFirstBy false c t s w b u)
     (sym tls) (
       m,
       waits,
@@ -105,23 +111,28 @@ first_tls (Ok x) t m o u s b long tls waits first last =
     ))
 first_tls (Err e) t m o u s b long tls waits first last = tt
 
-pub first_other : (t m n : Analyzer) (s : Side) (b : Bytes) → nat_lt (length b) (5 - length (waiting t s).items) ≡ false
-    → begins_tls (front (waiting t s).items b) ≡ false → Waits t s [] m → IsNext m s (front (waiting t s).items b) n
+pub first_other : (t m n : Analyzer) (s : Side) (b : Bytes)
+    → nat_lt (length b) (5 - length (waiting t s).items) ≡ false
+    → begins_tls (front (waiting t s).items b) ≡ false → Waits t s [] m
+    → IsNext m s (front (waiting t s).items b) n
     → IsFirstHeard t s (waiting t s).items b (with_hearing n s Other)
 first_other t m n s b long other waits first =
     let w : Bytes = (waiting t s).items in
     subst (λ c. IsFirstBy c (begins_tls (front w b)) t s w b (with_hearing n s Other)) (sym long)
-    (subst (λ c. IsFirstBy false c t s w b (with_hearing n s Other)) (sym other) (m, n, waits, first, refl))
+    (subst (λ c. IsFirstBy false c t s w b (with_hearing n s Other)) (sym other)
+    (m, n, waits, first, refl))
 
--- A piece that is too short leaves the front as it is, whichever of the two has its bytes.
+-- If a piece is too short, the first bytes are the same whether they are stored or new.
 front_moves : (w p q : Bytes) → length p < 5 - length w → front (w ++ p) q ≡ front w (p ++ q)
 front_moves w p q short =
-    let more : 5 - length (w ++ p) ≡ 5 - length w - length p = let e : length (w ++ p) ≡ length w + length p =
+    let more : 5 - length (w ++ p) ≡ 5 - length w - length p =
+    let e : length (w ++ p) ≡ length w + length p =
     length-append w p in
     omega (arith, e) in
     let whole : length p + (5 - length w - length p) ≡ 5 - length w = omega (arith, short) in
     append_assoc w p (take (5 - length (w ++ p)) q) ∙ ap (λ n. w ++ (p ++ take n q)) more
-    ∙ ap (λ b. w ++ b) (sym (take-append-add p q (5 - length w - length p))) ∙ ap (λ n. w ++ take n (p ++ q)) whole
+    ∙ ap (λ b. w ++ b) (sym (take-append-add p q (5 - length w - length p)))
+    ∙ ap (λ n. w ++ take n (p ++ q)) whole
 
 short_moves : (w p q : Bytes) → length p < 5 - length w
     → nat_lt (length q) (5 - length (w ++ p)) ≡ nat_lt (length (p ++ q)) (5 - length w)
@@ -133,17 +144,21 @@ short_moves w p q short = go (nat_lt (length q) (5 - length (w ++ p))) refl
     more : length (p ++ q) ≡ length p + length q
     more = length-append p q
 
-    go : (b : Bool) → nat_lt (length q) (5 - length (w ++ p)) ≡ b → b ≡ nat_lt (length (p ++ q)) (5 - length w)
-    go true is = let few : length q < 5 - length (w ++ p) = ltb-true (length q) (5 - length (w ++ p)) is in
+    go : (b : Bool) → nat_lt (length q) (5 - length (w ++ p)) ≡ b
+        → b ≡ nat_lt (length (p ++ q)) (5 - length w)
+    go true is = let few : length q < 5 - length (w ++ p) =
+        ltb-true (length q) (5 - length (w ++ p)) is in
         sym (lt-ltb (length (p ++ q)) (5 - length w) (omega (arith, few, both, more, short)))
-    go false is = let many : 5 - length (w ++ p) ≤ length q = ltb-false (length q) (5 - length (w ++ p)) is in
+    go false is = let many : 5 - length (w ++ p) ≤ length q =
+        ltb-false (length q) (5 - length (w ++ p)) is in
         sym (le-ltb (length (p ++ q)) (5 - length w) (omega (arith, many, both, more, short)))
 
--- One that is long enough has all of it.
+-- If it is long enough, it completes them.
 front_stays : (w p q : Bytes) → 5 - length w ≤ length p → front w (p ++ q) ≡ front w p
 front_stays w p q long = ap (λ b. w ++ b) (take-append-le (5 - length w) p q long)
 
-long_stays : (w p q : Bytes) → 5 - length w ≤ length p → nat_lt (length (p ++ q)) (5 - length w) ≡ false
+long_stays : (w p q : Bytes) → 5 - length w ≤ length p
+    → nat_lt (length (p ++ q)) (5 - length w) ≡ false
 long_stays w p q long = let more : length (p ++ q) ≡ length p + length q = length-append p q in
     le-ltb (length (p ++ q)) (5 - length w) (omega (arith, long, more))
 
@@ -157,21 +172,30 @@ waiting_with t FromServer v = refl
 
 waiting_is : (t m : Analyzer) (s : Side) (w : Bytes) → Waits t s w m → (waiting m s).items ≡ w
 waiting_is t m s w waits =
-    ap (λ x. (waiting x s).items) waits.2 ∙ ap (λ (v : Vec ℕ). v.items) (waiting_with t s waits.0) ∙ waits.1
+    ap (λ x. (waiting x s).items) waits.2
+    ∙ ap (λ (v : Vec ℕ). v.items) (waiting_with t s waits.0) ∙ waits.1
 
-with_twice : (t : Analyzer) (s : Side) (v w : Vec ℕ) → with_waiting (with_waiting t s v) s w ≡ with_waiting t s w
+with_twice : (t : Analyzer) (s : Side) (v w : Vec ℕ)
+    → with_waiting (with_waiting t s v) s w ≡ with_waiting t s w
 with_twice t ToServer v w = refl
 with_twice t FromServer v w = refl
 
-waits_again : (t m u : Analyzer) (s : Side) (v w : Bytes) → Waits t s v m → Waits m s w u → Waits t s w u
-waits_again t m u s v w first last =
-    (last.0, last.1, last.2 ∙ ap (λ x. with_waiting x s last.0) first.2 ∙ with_twice t s first.0 last.0)
+waits_again : (t m u : Analyzer) (s : Side) (v w : Bytes) → Waits t s v m → Waits m s w u
+    → Waits t s w u
+waits_again t m u s v w first last = (
+  last.0,
+  last.1,
+  last.2 ∙ ap (λ x. with_waiting x s last.0) first.2
+      ∙ with_twice t s first.0 last.0,
+)
 
-first_again : (short tls : Bool) (t m u : Analyzer) (s : Side) (w p q : Bytes) → Waits t s (w ++ p) m
+first_again : (short tls : Bool) (t m u : Analyzer) (s : Side) (w p q : Bytes)
+    → Waits t s (w ++ p) m
     → front (w ++ p) q ≡ front w (p ++ q)
     → IsFirstBy short tls m s (w ++ p) q u → IsFirstBy short tls t s w (p ++ q) u
 first_again true tls t m u s w p q waits same heard =
-    subst (λ b. Waits t s b u) (append_assoc w p q) (waits_again t m u s (w ++ p) ((w ++ p) ++ q) waits heard)
+    subst (λ b. Waits t s b u) (append_assoc w p q)
+    (waits_again t m u s (w ++ p) ((w ++ p) ++ q) waits heard)
 first_again false true t m u s w p q waits same heard = (
   heard.0,
   waits_again t m heard.0 s (w ++ p) [] waits heard.1,
@@ -189,38 +213,49 @@ over_other : (t : Analyzer) (s : Side) → hearing t s ≡ Other → is_over t s
 over_other t s other = ap (λ h. over_by h (outcome_at t.hearer.flow.state)) other
 
 -- A side of which nothing is known gets a piece, and then another.
-both_short : (t m u : Analyzer) (s : Side) (p q : Bytes) → hearing t s ≡ Unknown → length p < 5 - length (waiting t s).items
-    → Waits t s ((waiting t s).items ++ p) m → IsHeardOn m s q u → IsFirstHeard t s (waiting t s).items (p ++ q) u
+both_short : (t m u : Analyzer) (s : Side) (p q : Bytes) → hearing t s ≡ Unknown
+    → length p < 5 - length (waiting t s).items
+    → Waits t s ((waiting t s).items ++ p) m → IsHeardOn m s q u
+    → IsFirstHeard t s (waiting t s).items (p ++ q) u
 both_short t m u s p q unknown short waits last =
     let w : Bytes = (waiting t s).items in
     let heard : IsFirstHeard m s (waiting m s).items q u =
     subst (λ h. IsHeardBy h m s q u) (hearing_waits t m s (w ++ p) waits ∙ unknown) last in
-    let here : IsFirstHeard m s (w ++ p) q u = subst (λ b. IsFirstHeard m s b q u) (waiting_is t m s (w ++ p) waits)
+    let here : IsFirstHeard m s (w ++ p) q u =
+    subst (λ b. IsFirstHeard m s b q u) (waiting_is t m s (w ++ p) waits)
     heard in
-    first_again (nat_lt (length (p ++ q)) (5 - length w)) (begins_tls (front w (p ++ q))) t m u s w p q waits
+    first_again (nat_lt (length (p ++ q)) (5 - length w)) (begins_tls (front w (p ++ q))) t m u s
+    w p q waits
     (front_moves w p q short)
-    (subst (λ b. IsFirstBy b (begins_tls (front w (p ++ q))) m s (w ++ p) q u) (short_moves w p q short)
-    (subst (λ b. IsFirstBy (nat_lt (length q) (5 - length (w ++ p))) (begins_tls b) m s (w ++ p) q u) (front_moves w p q
+    (subst (λ b. IsFirstBy b (begins_tls (front w (p ++ q))) m s (w ++ p) q u)
+    (short_moves w p q short)
+    (subst (λ b. IsFirstBy (nat_lt (length q) (5 - length (w ++ p))) (begins_tls b) m s (w ++ p) q
+    u) (front_moves w p q
     short) here))
 
 both_long : (tls : Bool) (t m u : Analyzer) (s : Side) (w p q : Bytes) → 5 - length w ≤ length p
     → IsFirstBy false tls t s w p m → IsHeardOn m s q u
     → IsFirstBy false tls t s w (p ++ q) u
 both_long true t m u s w p q long first last =
-    let known : IsKnown (hearing (told_tls first.0 s) s) = subst IsKnown (sym (hearing_with (record first.0 {
+    let known : IsKnown (hearing (told_tls first.0 s) s) =
+    subst IsKnown (sym (hearing_with (record first.0 {
       is_tls =
           true;
     }) s Clear))
     (λ e. absurd cc) in (
       first.0,
       first.1,
-      subst (λ b. IsNext (told_tls first.0 s) s b u) (append_assoc w p q) (next_on (told_tls first.0 s) m u s (w ++ p) q
+      subst (λ b. IsNext (told_tls first.0 s) s b u) (append_assoc w p q)
+          (next_on (told_tls first.0 s) m u s (w ++ p) q
           first.2
-          (heard_next m u s q (hearing m s) (known_next (told_tls first.0 s) m s (w ++ p) known first.2) last)),
+          (heard_next m u s q (hearing m s)
+          (known_next (told_tls first.0 s) m s (w ++ p) known first.2) last)),
     )
 both_long false t m u s w p q long first last =
-    let other : hearing m s ≡ Other = ap (λ x. hearing x s) first.4 ∙ hearing_with first.1 s Other in
-    let next : IsNext m s q u = heard_next m u s q (hearing m s) (subst IsKnown (sym other) (λ e. absurd cc)) last in
+    let other : hearing m s ≡ Other = ap (λ x. hearing x s) first.4
+    ∙ hearing_with first.1 s Other in
+    let next : IsNext m s q u =
+    heard_next m u s q (hearing m s) (subst IsKnown (sym other) (λ e. absurd cc)) last in
     let same : u ≡ m = subst (λ b. IsNextBy b m s q u) (over_other m s other) next in (
       first.0,
       first.1,
@@ -237,15 +272,17 @@ both_first t m u s p q unknown first last = go (nat_lt (length p) (5 - length w)
     w : Bytes
     w = (waiting t s).items
 
-    go : (b : Bool) → nat_lt (length p) (5 - length w) ≡ b → IsFirstBy b (begins_tls (front w p)) t s w p m
+    go : (b : Bool) → nat_lt (length p) (5 - length w) ≡ b
+        → IsFirstBy b (begins_tls (front w p)) t s w p m
         → IsFirstHeard t s w (p ++ q) u
     go true is by = both_short t m u s p q unknown (ltb-true (length p) (5 - length w) is) by last
     go false is by = let long : 5 - length w ≤ length p = ltb-false (length p) (5 - length w) is in
-        subst (λ b. IsFirstBy b (begins_tls (front w (p ++ q))) t s w (p ++ q) u) (sym (long_stays w p q long))
+        subst (λ b. IsFirstBy b (begins_tls (front w (p ++ q))) t s w (p ++ q) u)
+        (sym (long_stays w p q long))
         (subst (λ b. IsFirstBy false (begins_tls b) t s w (p ++ q) u) (sym (front_stays w p q long))
         (both_long (begins_tls (front w p)) t m u s w p q long by last))
 
--- Two pieces of a side are heard as one.
+-- Two pieces of a side are read like one.
 pub both_heard : (t m u : Analyzer) (s : Side) (p q : Bytes) → IsHeardOn t s p m → IsHeardOn m s q u
     → IsHeardOn t s (p ++ q) u
 both_heard t m u s p q first last = go (hearing t s) refl

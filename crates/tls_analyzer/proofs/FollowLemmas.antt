@@ -1,4 +1,4 @@
--- What is heard of a side event by event, up to the one by which it is over.
+-- The events of a side one by one, up to the one that ends it.
 use Rattle.std.proofs.Common.{
   ◌≡◌,
   ℕ,
@@ -61,7 +61,7 @@ use Rattle.tls_analyzer.specs.declared.analyzer.Analyzer.{Analyzer}
 use Rattle.tls_analyzer.proofs.KnownLemmas.{known_next, known_same}
 use Rattle.tls_analyzer.proofs.AnalyzerLemmas.{hearing_is, sealed_twice, with_again}
 
--- It was fed, and n events were taken off, in front of none of which it was over.
+-- The side was fed, and n events were taken, before none of which it was over.
 pub record IsOn (t : Analyzer) (s : Side) (p : Bytes) (u : Analyzer) (n : ℕ) : Type 0 where
   pub begun : Conversation
   pub said : List Said
@@ -74,12 +74,14 @@ pub record IsOn (t : Analyzer) (s : Side) (p : Bytes) (u : Analyzer) (n : ℕ) :
   pub count : length said ≡ n
   pub ready : IsReady (ear u.hearer.conversation s)
 
-with_same : (t : Analyzer) (s : Side) (h : Hearer) → record t { hearer = h } ≡ with_hearing (record t { hearer = h }) s
+with_same : (t : Analyzer) (s : Side) (h : Hearer)
+    → record t { hearer = h } ≡ with_hearing (record t { hearer = h }) s
     (hearing t s)
 with_same t ToServer h = refl
 with_same t FromServer h = refl
 
-pub on_begun : (t : Analyzer) (h : Hearer) (s : Side) (p : Bytes) → IsFed t.hearer s p h → IsReady (ear h.conversation s)
+pub on_begun : (t : Analyzer) (h : Hearer) (s : Side) (p : Bytes) → IsFed t.hearer s p h
+    → IsReady (ear h.conversation s)
     → IsOn t s p (record t { hearer = h }) 0
 on_begun t h s p fed ready = record {
   begun = h.conversation;
@@ -94,14 +96,16 @@ on_begun t h s p fed ready = record {
   ready = ready;
 }
 
--- Whether it is over is told by what was said.
+-- Its events decide whether it is over.
 over_is : (t u : Analyzer) (s : Side) (p : Bytes) (n : ℕ) (on : IsOn t s p u n)
     → is_over u s ≡ over_behind (hearing t s) s (known_of t.hearer) on.said
 over_is t u s p n on =
-    ap (λ h. over_by h (outcome_at u.hearer.flow.state)) (hearing_is t u s (hearing_behind (hearing t s) on.said) on.same)
-    ∙ ap (λ (k : Known). over_by (hearing_behind (hearing t s) on.said) (outcome_at k.flow.state)) on.known
+    ap (λ h. over_by h (outcome_at u.hearer.flow.state))
+    (hearing_is t u s (hearing_behind (hearing t s) on.said) on.same)
+    ∙ ap (λ (k : Known). over_by (hearing_behind (hearing t s) on.said) (outcome_at k.flow.state))
+    on.known
 
--- The talk behind an event, by whether that is encrypted.
+-- The analyzer after an event, by whether that is encrypted.
 abbrev pub next_analyzer : Analyzer → Side → Hearer → Bool → Analyzer
 next_analyzer u s h b = with_hearing (record u { hearer = h }) s (sealed_if b (hearing u s))
 
@@ -112,43 +116,54 @@ hearer_with t FromServer h = refl
 value : {a b : Bool} → Some a ≡ Some b → a ≡ b
 value e = cc
 
--- What the hearer took off, by whether it is encrypted.
-pub taken_sealed : (o : Option Said) (t : Analyzer) (h : Hearer) (s : Side) → IsNextTaken o t.hearer s (Some true) h
+-- The event that was removed, by whether it is encrypted.
+pub taken_sealed : (o : Option Said) (t : Analyzer) (h : Hearer) (s : Side)
+    → IsNextTaken o t.hearer s (Some true) h
     → IsTaken o t s true (with_hearing (record t { hearer = h }) s Encrypted)
 taken_sealed (Some v) t h s some =
-    let its : (with_hearing (record t { hearer = h }) s Encrypted).hearer ≡ h = hearer_with (record t { hearer = h }) s
+    let its : (with_hearing (record t { hearer = h }) s Encrypted).hearer ≡ h =
+    hearer_with (record t { hearer = h }) s
     Encrypted in (
       refl,
       subst (λ x. IsNoted t.hearer s v x) (sym its) some.1,
       ap (λ b. with_hearing (record t { hearer = h }) s (sealed_if b (hearing t s))) (value some.0)
-          ∙ ap (λ x. with_hearing (record t { hearer = x }) s (sealed_if (is_sealed v) (hearing t s))) (sym its),
+          ∙ ap (λ x. with_hearing (record t { hearer = x }) s
+          (sealed_if (is_sealed v) (hearing t s))) (sym its),
     )
 taken_sealed None t h s none = absurd cc
 
-pub taken_plain : (o : Option Said) (t : Analyzer) (h : Hearer) (s : Side) → IsNextTaken o t.hearer s (Some false) h
+pub taken_plain : (o : Option Said) (t : Analyzer) (h : Hearer) (s : Side)
+    → IsNextTaken o t.hearer s (Some false) h
     → IsTaken o t s true (record t { hearer = h })
 taken_plain (Some v) t h s some = (
   refl,
   some.1,
-  with_same t s h ∙ ap (λ b. with_hearing (record t { hearer = h }) s (sealed_if b (hearing t s))) (value some.0),
+  with_same t s h ∙ ap (λ b. with_hearing (record t { hearer = h }) s (sealed_if b (hearing t s)))
+      (value some.0),
 )
 taken_plain None t h s none = absurd cc
 
-pub taken_none : (o : Option Said) (t : Analyzer) (h : Hearer) (s : Side) → IsNextTaken o t.hearer s None h
+pub taken_none : (o : Option Said) (t : Analyzer) (h : Hearer) (s : Side)
+    → IsNextTaken o t.hearer s None h
     → IsTaken o t s false (record t { hearer = h })
 taken_none (Some v) t h s some = absurd cc
 taken_none None t h s none = (refl, ap (λ x. record t { hearer = x }) none.1)
 
-next_same : (t u : Analyzer) (h : Hearer) (s : Side) (p : Bytes) (n : ℕ) (b : Bool) (on : IsOn t s p u n)
-    → next_analyzer u s h b ≡ with_hearing (record t { hearer = h }) s (sealed_if (has_sealed on.said || b) (hearing t s))
+next_same : (t u : Analyzer) (h : Hearer) (s : Side) (p : Bytes) (n : ℕ) (b : Bool)
+    (on : IsOn t s p u n)
+    → next_analyzer u s h b ≡ with_hearing (record t { hearer = h }) s
+    (sealed_if (has_sealed on.said || b) (hearing t s))
 next_same t u h s p n b on =
     ap (λ x. with_hearing (record x { hearer = h }) s (sealed_if b (hearing u s))) on.same
     ∙ with_again t s u.hearer h (hearing_behind (hearing t s) on.said) (sealed_if b (hearing u s))
-    ∙ ap (λ x. with_hearing (record t { hearer = h }) s (sealed_if b x)) (hearing_is t u s (hearing_behind (hearing t s)
+    ∙ ap (λ x. with_hearing (record t { hearer = h }) s (sealed_if b x))
+    (hearing_is t u s (hearing_behind (hearing t s)
     on.said) on.same)
-    ∙ ap (λ x. with_hearing (record t { hearer = h }) s x) (sealed_twice (has_sealed on.said) b (hearing t s))
+    ∙ ap (λ x. with_hearing (record t { hearer = h }) s x)
+    (sealed_twice (has_sealed on.said) b (hearing t s))
 
-on_some : (t u w : Analyzer) (s : Side) (p : Bytes) (n : ℕ) (v : Said) → IsOn t s p u n → is_over u s ≡ false
+on_some : (t u w : Analyzer) (s : Side) (p : Bytes) (n : ℕ) (v : Said) → IsOn t s p u n
+    → is_over u s ≡ false
     → IsNoted u.hearer s v w.hearer
     → (IsReady (ear u.hearer.conversation s) → IsReady (ear w.hearer.conversation s))
     → w ≡ next_analyzer u s w.hearer (is_sealed v)
@@ -166,10 +181,12 @@ on_some t u w s p n v on clear noted_it kept same = record {
   ready = kept on.ready;
 }
 
--- An event was taken off.
-pub on_next : (t u w : Analyzer) (s : Side) (p : Bytes) (n : ℕ) → IsOn t s p u n → is_over u s ≡ false
+-- An event was removed.
+pub on_next : (t u w : Analyzer) (s : Side) (p : Bytes) (n : ℕ) → IsOn t s p u n
+    → is_over u s ≡ false
     → IsTaken (front_of (ear u.hearer.conversation s)) u s true w
-    → (IsReady (ear u.hearer.conversation s) → IsReady (ear w.hearer.conversation s)) → IsOn t s p w (n + 1)
+    → (IsReady (ear u.hearer.conversation s) → IsReady (ear w.hearer.conversation s))
+    → IsOn t s p w (n + 1)
 on_next t u w s p n on clear taken kept = go (front_of (ear u.hearer.conversation s)) taken
   where
     go : (o : Option Said) → IsTaken o u s true w → IsOn t s p w (n + 1)
@@ -180,7 +197,8 @@ silent : (vs : List Said) → first_in vs ≡ None → vs ≡ []
 silent [] e = refl
 silent (v ∷ vs) e = absurd cc
 
-left_by : (b : Bool) (s : Side) (vs : List Said) (c : Conversation) → b ≡ false → (says (ear c s) [] ≡ [])
+left_by : (b : Bool) (s : Side) (vs : List Said) (c : Conversation) → b ≡ false
+    → (says (ear c s) [] ≡ [])
     ⊎ (2 ^ 64 - 1 ≤ length vs) → IsLeft b s vs c c
 left_by b s vs c clear all = subst (λ b. IsLeft b s vs c c) (sym clear) (refl, all)
 
@@ -188,7 +206,8 @@ over_left : (b : Bool) (s : Side) (vs : List Said) (c : Conversation) → b ≡ 
 over_left b s vs c over = subst (λ b. IsLeft b s vs c c) (sym over) (refl, refl, refl)
 
 on_left : (t u : Analyzer) (s : Side) (p : Bytes) (n : ℕ) (on : IsOn t s p u n)
-    → IsLeft (over_behind (hearing t s) s (known_of t.hearer) on.said) s on.said u.hearer.conversation
+    → IsLeft (over_behind (hearing t s) s (known_of t.hearer) on.said) s on.said
+    u.hearer.conversation
     u.hearer.conversation
     → IsFollowed t s p u
 on_left t u s p n on left = record {
@@ -205,36 +224,46 @@ on_left t u s p n on left = record {
 }
 
 -- The side is over.
-pub on_over : (t u : Analyzer) (s : Side) (p : Bytes) (n : ℕ) → IsOn t s p u n → is_over u s ≡ true → IsFollowed t s p u
+pub on_over : (t u : Analyzer) (s : Side) (p : Bytes) (n : ℕ) → IsOn t s p u n → is_over u s ≡ true
+    → IsFollowed t s p u
 on_over t u s p n on over = on_left t u s p n on
-    (over_left (over_behind (hearing t s) s (known_of t.hearer) on.said) s on.said u.hearer.conversation
+    (over_left (over_behind (hearing t s) s (known_of t.hearer) on.said) s on.said
+    u.hearer.conversation
     (sym (over_is t u s p n on) ∙ over))
 
-on_clear : (t u : Analyzer) (s : Side) (p : Bytes) (n : ℕ) (on : IsOn t s p u n) → is_over u s ≡ false
-    → (says (ear u.hearer.conversation s) [] ≡ []) ⊎ (2 ^ 64 - 1 ≤ length on.said) → IsFollowed t s p u
+on_clear : (t u : Analyzer) (s : Side) (p : Bytes) (n : ℕ) (on : IsOn t s p u n)
+    → is_over u s ≡ false
+    → (says (ear u.hearer.conversation s) [] ≡ []) ⊎ (2 ^ 64 - 1 ≤ length on.said)
+    → IsFollowed t s p u
 on_clear t u s p n on clear all = on_left t u s p n on
-    (left_by (over_behind (hearing t s) s (known_of t.hearer) on.said) s on.said u.hearer.conversation
+    (left_by (over_behind (hearing t s) s (known_of t.hearer) on.said) s on.said
+    u.hearer.conversation
     (sym (over_is t u s p n on) ∙ clear) all)
 
--- It says no more for now.
-pub on_none : (t u w : Analyzer) (s : Side) (p : Bytes) (n : ℕ) → IsOn t s p u n → is_over u s ≡ false
+-- The side has no event for now.
+pub on_none : (t u w : Analyzer) (s : Side) (p : Bytes) (n : ℕ) → IsOn t s p u n
+    → is_over u s ≡ false
     → IsTaken (front_of (ear u.hearer.conversation s)) u s false w → IsFollowed t s p w
 on_none t u w s p n on clear taken = go (front_of (ear u.hearer.conversation s)) refl taken
   where
-    go : (o : Option Said) → o ≡ front_of (ear u.hearer.conversation s) → IsTaken o u s false w → IsFollowed t s p w
+    go : (o : Option Said) → o ≡ front_of (ear u.hearer.conversation s) → IsTaken o u s false w
+        → IsFollowed t s p w
     go (Some v) front some = absurd cc
     go None front none = subst (λ x. IsFollowed t s p x) (sym none.1)
-        (on_clear t u s p n on clear (inl (silent (says (ear u.hearer.conversation s) []) (on.ready ∙ sym front))))
+        (on_clear t u s p n on clear
+        (inl (silent (says (ear u.hearer.conversation s) []) (on.ready ∙ sym front))))
 
 -- As many events were taken as are counted.
-pub on_end : (t u : Analyzer) (s : Side) (p : Bytes) (n : ℕ) → IsOn t s p u n → n ≡ 2 ^ 64 - 1 → IsFollowed t s p u
+pub on_end : (t u : Analyzer) (s : Side) (p : Bytes) (n : ℕ) → IsOn t s p u n → n ≡ 2 ^ 64 - 1
+    → IsFollowed t s p u
 on_end t u s p n on end = go (is_over u s) refl
   where
     go : (b : Bool) → is_over u s ≡ b → IsFollowed t s p u
     go true over = on_over t u s p n on over
     go false clear = on_clear t u s p n on clear (inr (omega (arith, on.count, end)))
 
-pub next_clear : (t u : Analyzer) (s : Side) (p : Bytes) → is_over t s ≡ false → IsFollowed t s p u → IsNext t s p u
+pub next_clear : (t u : Analyzer) (s : Side) (p : Bytes) → is_over t s ≡ false → IsFollowed t s p u
+    → IsNext t s p u
 next_clear t u s p clear followed = subst (λ b. IsNextBy b t s p u) (sym clear) followed
 
 pub next_over : (t : Analyzer) (s : Side) (p : Bytes) → is_over t s ≡ true → IsNext t s p t

@@ -1,4 +1,4 @@
--- What is heard of a side, event by event.
+-- The events of a side, one by one.
 use Rattle.std.proofs.Common.{◌≡◌, Option, Some, None, ◌∙◌, ap}
 use Rattle.std.specs.Borrow.{Bor}
 use Rattle.std.specs.Option.{option_copied, option_map}
@@ -16,23 +16,29 @@ use Rattle.tls_flow.specs.Bytes.{HandshakeMessage, kind_of_datagrams, kind_of_me
 use Rattle.tls_flow.specs.declared.symbol.Kind.{Kind}
 use Rattle.tls_analyzer.specs.Noting.{followed, stepped}
 
--- What is seen of a value that is lent is what is seen of the value.
-pub copied_view : {A B : Type 0} (f : A → B) (r : Option (Bor A)) (o : Option A) → option_copied r ≡ o
+-- The view of a borrowed value is the view of the value.
+pub copied_view : {A B : Type 0} (f : A → B) (r : Option (Bor A)) (o : Option A)
+    → option_copied r ≡ o
     → option_map (λ m. f m.now) r ≡ option_map f o
 copied_view f (Some b) o e = ap (option_map f) e
 copied_view f None o e = ap (option_map f) e
 
--- An event that is made of the message that was read.
-pub same_event : (s : Side) (v : Said) (m : Option HandshakeMessage) (k : Kind) (e : Event) → m ≡ message_in v
+-- An event built from the parsed message.
+pub same_event : (s : Side) (v : Said) (m : Option HandshakeMessage) (k : Kind) (e : Event)
+    → m ≡ message_in v
     → k ≡ kind_of_message m → e ≡ event_with s v k → e ≡ event_of s v
 same_event s v m k e is_m is_k is_e = is_e ∙ ap (event_with s v) (is_k ∙ ap kind_of_message is_m)
 
-pub same_step : (s : Side) (v : Said) (m : Option HandshakeMessage) (k : Kind) (e : Event) (w x : Flow) (f : HandshakeSummary)
-    → m ≡ message_in v → k ≡ kind_of_message m → e ≡ event_with s v k → x ≡ stepped s w f e → x ≡ followed s w f v
-same_step s v m k e w x f is_m is_k is_e is = is ∙ ap (stepped s w f) (same_event s v m k e is_m is_k is_e)
+pub same_step : (s : Side) (v : Said) (m : Option HandshakeMessage) (k : Kind) (e : Event)
+    (w x : Flow) (f : HandshakeSummary)
+    → m ≡ message_in v → k ≡ kind_of_message m → e ≡ event_with s v k → x ≡ stepped s w f e
+    → x ≡ followed s w f v
+same_step s v m k e w x f is_m is_k is_e is =
+    is ∙ ap (stepped s w f) (same_event s v m k e is_m is_k is_e)
 
--- The same of DTLS.
-pub same_step_in_datagram : (s : Side) (v : datagrams.Event) (m : Option HandshakeMessage) (k : Kind) (w x : Flow)
+-- An event of DTLS built from the parsed message.
+pub same_step_in_datagram : (s : Side) (v : datagrams.Event) (m : Option HandshakeMessage)
+    (k : Kind) (w x : Flow)
     → m ≡ message_in_datagram v → k ≡ kind_of_datagrams m → x ≡ in_datagrams.followed_with s w v k
     → x ≡ in_datagrams.followed s w v
 same_step_in_datagram s v m k w x is_m is_k is =

@@ -1,4 +1,4 @@
--- What a talk leaves as it is of both sides' hellos.
+-- The analyzer leaves both sides' hellos as they are.
 use Rattle.std.proofs.Common.{◌≡◌, ◌-◌, List, [], ◌∷◌, ◌++◌, length, Bool, true, false, refl, sym, ◌∙◌, ap, subst}
 use Rattle.std.specs.Prelude.{nat_lt}
 use Rattle.layouts.specs.Bytes.{Bytes}
@@ -39,21 +39,25 @@ noted_keeps s f (Handshake m) = bytes_keep s m f
 noted_keeps s f (Alert a) = alert_keeps s a.description f
 noted_keeps s f _ = stays s f
 
-known_keeps : (s : Side) (k : Known) (vs : List Said) → KeepsHellos s k.handshake (known s k vs).handshake
+known_keeps : (s : Side) (k : Known) (vs : List Said)
+    → KeepsHellos s k.handshake (known s k vs).handshake
 known_keeps s k [] = stays s k.handshake
 known_keeps s k (v ∷ vs) =
-    keeps_on s k.handshake (known s k vs).handshake (noted s (known s k vs).handshake v) (known_keeps s k vs)
+    keeps_on s k.handshake (known s k vs).handshake (noted s (known s k vs).handshake v)
+    (known_keeps s k vs)
     (noted_keeps s (known s k vs).handshake v)
 
 same_keeps : (s : Side) (t u : Analyzer) → summary_in u ≡ summary_in t → Keeps s t u
-same_keeps s t u same = subst (λ f. KeepsHellos s (summary_in t) f) (sym same) (stays s (summary_in t))
+same_keeps s t u same =
+    subst (λ f. KeepsHellos s (summary_in t) f) (sym same) (stays s (summary_in t))
 
 next_keeps : (t u : Analyzer) (s : Side) (b : Bytes) → IsNext t s b u → Keeps s t u
 next_keeps t u s b next = go (is_over t s) next
   where
     go : (over : Bool) → IsNextBy over t s b u → Keeps s t u
     go true same = same_keeps s t u (ap summary_in same)
-    go false followed = subst (λ f. KeepsHellos s (summary_in t) f) (sym (ap (λ (k : Known). k.handshake) followed.known))
+    go false followed = subst (λ f. KeepsHellos s (summary_in t) f)
+        (sym (ap (λ (k : Known). k.handshake) followed.known))
         (known_keeps s (known_of t.hearer) followed.said)
 
 waits_same : (t u : Analyzer) (s : Side) (w : Bytes) → Waits t s w u → summary_in u ≡ summary_in t
@@ -68,18 +72,20 @@ told_same : (t : Analyzer) (s : Side) → summary_in (told_tls t s) ≡ summary_
 told_same t ToServer = refl
 told_same t FromServer = refl
 
--- From a talk with the same facts on.
+-- From an analyzer with the same summary.
 keeps_from : (t m u : Analyzer) (s : Side) → summary_in m ≡ summary_in t → Keeps s m u → Keeps s t u
 keeps_from t m u s same keeps = subst (λ f. KeepsHellos s f (summary_in u)) same keeps
 
-first_keeps : (short tls : Bool) (t u : Analyzer) (s : Side) (w b : Bytes) → IsFirstBy short tls t s w b u → Keeps s t u
+first_keeps : (short tls : Bool) (t u : Analyzer) (s : Side) (w b : Bytes)
+    → IsFirstBy short tls t s w b u → Keeps s t u
 first_keeps true tls t u s w b heard = same_keeps s t u (waits_same t u s (w ++ b) heard)
 first_keeps false true t u s w b heard =
     keeps_from t (told_tls heard.0 s) u s (told_same heard.0 s ∙ waits_same t heard.0 s [] heard.1)
     (next_keeps (told_tls heard.0 s) u s (w ++ b) heard.2)
 first_keeps false false t u s w b heard =
     keeps_from t heard.0 u s (waits_same t heard.0 s [] heard.2)
-    (subst (λ f. KeepsHellos s (summary_in heard.0) f) (sym (ap summary_in heard.4 ∙ with_same heard.1 s Other))
+    (subst (λ f. KeepsHellos s (summary_in heard.0) f)
+    (sym (ap summary_in heard.4 ∙ with_same heard.1 s Other))
     (next_keeps heard.0 heard.1 s (front w b) heard.3))
 
 pub heard_keeps : (t u : Analyzer) (s : Side) (b : Bytes) → IsHeardOn t s b u → Keeps s t u
@@ -89,7 +95,8 @@ heard_keeps t u s b heard = go (hearing t s) heard
     w = (waiting t s).items
 
     go : (h : Hearing) → IsHeardBy h t s b u → Keeps s t u
-    go Unknown first = first_keeps (nat_lt (length b) (5 - length w)) (begins_tls (front w b)) t u s w b first
+    go Unknown first =
+        first_keeps (nat_lt (length b) (5 - length w)) (begins_tls (front w b)) t u s w b first
     go Clear next = next_keeps t u s b next
     go Encrypted next = next_keeps t u s b next
     go Other next = next_keeps t u s b next

@@ -1,4 +1,4 @@
--- What is known behind events.
+-- What is known after events.
 use Rattle.std.proofs.Common.{◌≡◌, List, [], ◌∷◌, ◌++◌, refl, ◌∙◌, ap}
 use Rattle.tls_stream.specs.Item.{Event as Said}
 use Rattle.tls_flow.specs.declared.flow.Flow.{Flow}
@@ -11,10 +11,12 @@ use Rattle.tls_analyzer.specs.declared.hearer.Hearer.{Hearer}
 abbrev both : Flow → HandshakeSummary → Known
 both w f = record { flow = w; handshake = f }
 
-pub known_same : (h i : Hearer) → i.flow ≡ h.flow → i.handshake ≡ h.handshake → known_of i ≡ known_of h
-known_same h i flow same = ap (λ w. both w (view_summary i.handshake)) flow ∙ ap (λ f. both h.flow (view_summary f)) same
+pub known_same : (h i : Hearer) → i.flow ≡ h.flow → i.handshake ≡ h.handshake
+    → known_of i ≡ known_of h
+known_same h i flow same = ap (λ w. both w (view_summary i.handshake)) flow
+    ∙ ap (λ f. both h.flow (view_summary f)) same
 
--- One event more.
+-- One more event.
 pub known_next : (s : Side) (h i : Hearer) (k : Known) (v : Said) → IsNoted h s v i → known_of h ≡ k
     → known_of i ≡ known_by s k v
 known_next s h i k v noted_it is =
@@ -22,6 +24,7 @@ known_next s h i k v noted_it is =
     ∙ ap (λ f. both (followed s h.flow (view_summary h.handshake) v) f) noted_it.handshake
     ∙ ap (λ x. known_by s x v) is
 
-pub known_on : (s : Side) (k : Known) (vs ws : List Said) → known s (known s k vs) ws ≡ known s k (ws ++ vs)
+pub known_on : (s : Side) (k : Known) (vs ws : List Said)
+    → known s (known s k vs) ws ≡ known s k (ws ++ vs)
 known_on s k vs [] = refl
 known_on s k vs (w ∷ ws) = ap (λ x. known_by s x w) (known_on s k vs ws)

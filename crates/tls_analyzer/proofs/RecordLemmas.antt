@@ -1,11 +1,11 @@
--- Records, counted byte by byte.
+-- Counting records byte by byte.
 use Rattle.std.proofs.Common.{◌≡◌, ℕ, zero, suc, ◌+◌, ◌-◌, ◌≤◌, List, [], ◌∷◌, length, drop, refl, sym}
 use Rattle.std.proofs.Common.{◌∙◌, ap, arith, true, rules, nat_lt}
 use Rattle.std.proofs.lemmas.List.{drop-drop, length-drop}
 use Rattle.tls_analyzer.specs.Records.{with_byte, with_bytes}
 use Rattle.tls_analyzer.specs.declared.records.Records.{Records}
 
--- Bytes of a fragment change how many are left.
+-- The bytes of a fragment only change how many are left.
 passed_front : (n : ℕ) (bs : List ℕ) (r : Records) → n ≤ r.left → n ≤ length bs
     → with_bytes bs r ≡ with_bytes (drop n bs) (record r { left = r.left - n })
 passed_front zero bs r h k = ap (λ n. with_bytes bs (record r { left = n }))
@@ -19,8 +19,9 @@ passed_front (suc n) (b ∷ bs) r h k =
     ∙ passed_front n bs (record r { left = r.left - 1 }) (omega (arith, h)) (omega (arith, k))
     ∙ ap (λ m. with_bytes (drop n bs) (record r { left = m })) less
 
--- Some of them are passed.
-pub passed : (n i : ℕ) (bs : List ℕ) (r s : Records) (all : Records) → n ≤ r.left → i + n ≤ length bs
+-- Some of them are skipped.
+pub passed : (n i : ℕ) (bs : List ℕ) (r s : Records) (all : Records) → n ≤ r.left
+    → i + n ≤ length bs
     → s ≡ record r { left = r.left - n }
     → with_bytes (drop i bs) r ≡ all → with_bytes (drop (i + n) bs) s ≡ all
 passed n i bs r s all h k s_is inv =

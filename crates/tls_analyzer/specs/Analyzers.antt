@@ -1,4 +1,4 @@
--- What is heard of a connection, and of which side (RFC 8446, section 5.1).
+-- What is read of a connection, and of which side (RFC 8446, section 5.1).
 use Rattle.std.specs.Prelude.{◌≡◌, ◌^◌, ◌-◌, ◌⊎◌, ◌≤◌, ⊤, ℕ, Bool, true, false, not, nat_lt, Option, Some, None, List, [], ◌∷◌, ◌++◌, length, take}
 use Rattle.std.specs.Global.{Vec}
 use Rattle.layouts.specs.Bytes.{Bytes}
@@ -22,7 +22,7 @@ use Rattle.tls_analyzer.specs.declared.analyzer.Hearing.{Hearing}
 use Rattle.tls_analyzer.specs.declared.analyzer.Hearing.TheVariants.{Unknown, Clear, Encrypted, Other}
 use Rattle.tls_analyzer.specs.declared.analyzer.Analyzer.{Analyzer}
 
--- How a side is heard.
+-- What is known of a side.
 abbrev pub hearing : Analyzer → Side → Hearing
 hearing t ToServer = t.client
 hearing t FromServer = t.server
@@ -31,7 +31,7 @@ abbrev pub with_hearing : Analyzer → Side → Hearing → Analyzer
 with_hearing t ToServer h = record t { client = h }
 with_hearing t FromServer h = record t { server = h }
 
--- The bytes of a side that wait: too few came to tell whether it speaks TLS.
+-- The stored first bytes of a side: too few to decide whether it is TLS.
 abbrev pub waiting : Analyzer → Side → Vec ℕ
 waiting t ToServer = t.client_first
 waiting t FromServer = t.server_first
@@ -40,11 +40,11 @@ abbrev pub with_waiting : Analyzer → Side → Vec ℕ → Analyzer
 with_waiting t ToServer v = record t { client_first = v }
 with_waiting t FromServer v = record t { server_first = v }
 
--- The same analyzer, but for those, which are w.
+-- The analyzer with w as the stored first bytes, and otherwise the same.
 abbrev pub Waits : Analyzer → Side → Bytes → Analyzer → Type 0
 Waits t s w u = (v : Vec ℕ) × (v.items ≡ w) × (u ≡ with_waiting t s v)
 
--- Nothing came.
+-- Nothing was read.
 pub record IsNew (t : Analyzer) : Type 0 where
   pub begun : IsBegun default_limit t.hearer.conversation
   pub flow : t.hearer.flow ≡ silence
@@ -61,42 +61,43 @@ over_by Encrypted o = not (is_waiting o)
 over_by Other o = true
 over_by _ o = false
 
--- A side is heard no further once it is encrypted and the handshake ended, or where it doesn't speak TLS.
+-- A side is skipped once it is encrypted and the handshake has ended, or if it isn't TLS.
 abbrev pub is_over : Analyzer → Side → Bool
 is_over t s = over_by (hearing t s) (outcome_at t.hearer.flow.state)
 
--- The side is encrypted from here on, where one of its events was.
+-- The side is encrypted from here on, if one of its events was.
 abbrev pub sealed_if : Bool → Hearing → Hearing
 sealed_if true h = Encrypted
 sealed_if false h = h
 
--- What stands in front of a side is followed, noted and taken off.
+-- A side's next event is followed, recorded and removed.
 abbrev pub IsTaken : Option Said → Analyzer → Side → Bool → Analyzer → Type 0
 IsTaken (Some v) t s taken u =
     (taken ≡ true) × IsNoted t.hearer s v u.hearer
     × (u ≡ with_hearing (record t { hearer = u.hearer }) s (sealed_if (is_sealed v) (hearing t s)))
 IsTaken None t s taken u = (taken ≡ false) × (u ≡ t)
 
--- How a side is heard behind these events of it, the latest of them in front, and whether it is over.
+-- What is known of a side after these events of it, the latest first, and whether it is over.
 abbrev pub hearing_behind : Hearing → List Said → Hearing
 hearing_behind h vs = sealed_if (has_sealed vs) h
 
 abbrev pub over_behind : Hearing → Side → Known → List Said → Bool
 over_behind h s k vs = over_by (hearing_behind h vs) (outcome_at (known s k vs).flow.state)
 
--- The side wasn't over in front of any of these.
+-- The side wasn't over before any of these.
 abbrev pub AreHeard : Hearing → Side → Known → List Said → Type 0
 AreHeard h s k [] = ⊤
 AreHeard h s k (v ∷ vs) = (over_behind h s k vs ≡ false) × AreHeard h s k vs
 
--- What is left: of a side that is over whatever it says; of another nothing for now, unless as many events were taken as a u64
--- counts.
+-- What is left: for a side that is over, anything; for another, nothing for now, unless 2^64 - 1
+-- events were taken.
 abbrev pub IsLeft : Bool → Side → List Said → Conversation → Conversation → Type 0
-IsLeft true s vs c d = (ear d (other s) ≡ ear c (other s)) × (d.is_tls13 ≡ c.is_tls13) × (d.flow ≡ c.flow)
+IsLeft true s vs c d = (ear d (other s) ≡ ear c (other s)) × (d.is_tls13 ≡ c.is_tls13)
+    × (d.flow ≡ c.flow)
 IsLeft false s vs c d = (d ≡ c) × ((says (ear c s) [] ≡ []) ⊎ (2 ^ 64 - 1 ≤ length vs))
 
--- A side that isn't over gets a further piece. Each event that it says by it is followed and noted, in order, up to the one by which it
--- is over.
+-- A side that isn't over gets another piece. Each of its events is followed and recorded, in order,
+-- up to the one that ends the side.
 pub record IsFollowed (t : Analyzer) (s : Side) (p : Bytes) (u : Analyzer) : Type 0 where
   pub begun : Conversation
   pub behind : Conversation
@@ -104,12 +105,13 @@ pub record IsFollowed (t : Analyzer) (s : Side) (p : Bytes) (u : Analyzer) : Typ
   pub fed : IsFedBy t.hearer.conversation s p begun
   pub past : IsPast begun s said behind
   pub heard : AreHeard (hearing t s) s (known_of t.hearer) said
-  pub left : IsLeft (over_behind (hearing t s) s (known_of t.hearer) said) s said behind u.hearer.conversation
+  pub left : IsLeft (over_behind (hearing t s) s (known_of t.hearer) said) s said behind
+      u.hearer.conversation
   pub known : known_of u.hearer ≡ known s (known_of t.hearer) said
   pub history : u.hearer.history.items ≡ history s t.hearer.history.items said
   pub same : u ≡ with_hearing (record t { hearer = u.hearer }) s (hearing_behind (hearing t s) said)
 
--- Of a side that is over nothing is heard.
+-- A side that is over is skipped.
 abbrev pub IsNextBy : Bool → Analyzer → Side → Bytes → Analyzer → Type 0
 IsNextBy true t s b u = u ≡ t
 IsNextBy false t s b u = IsFollowed t s b u
@@ -117,48 +119,54 @@ IsNextBy false t s b u = IsFollowed t s b u
 abbrev pub IsNext : Analyzer → Side → Bytes → Analyzer → Type 0
 IsNext t s b u = IsNextBy (is_over t s) t s b u
 
--- The side speaks TLS.
+-- The side is TLS.
 abbrev pub told_tls : Analyzer → Side → Analyzer
 told_tls t s = with_hearing (record t { is_tls = true }) s Clear
 
--- The first bytes of a side, of which w wait and b come: as many as the header of a record has, 5.
+-- The first bytes of a side, from the stored w and the new b: up to the 5 of a record's header.
 abbrev pub front : Bytes → Bytes → Bytes
 front w b = w ++ take (5 - length w) b
 
--- By whether they are fewer, and by whether they begin with such a header: of what doesn't, the bytes of a header are heard.
+-- By whether there are fewer than 5, and whether they begin with such a header. If they don't, just
+-- these 5 bytes are read.
 abbrev pub IsFirstBy : Bool → Bool → Analyzer → Side → Bytes → Bytes → Analyzer → Type 0
 IsFirstBy true tls t s w b u = Waits t s (w ++ b) u
-IsFirstBy false true t s w b u = (m : Analyzer) × Waits t s [] m × IsNext (told_tls m s) s (w ++ b) u
+IsFirstBy false true t s w b u =
+    (m : Analyzer) × Waits t s [] m × IsNext (told_tls m s) s (w ++ b) u
 IsFirstBy false false t s w b u =
     (m n : Analyzer) × Waits t s [] m × IsNext m s (front w b) n × (u ≡ with_hearing n s Other)
 
--- The first bytes of a side are heard.
+-- The first bytes of a side are read.
 abbrev pub IsFirstHeard : Analyzer → Side → Bytes → Bytes → Analyzer → Type 0
-IsFirstHeard t s w b u = IsFirstBy (nat_lt (length b) (5 - length w)) (begins_tls (front w b)) t s w b u
+IsFirstHeard t s w b u =
+    IsFirstBy (nat_lt (length b) (5 - length w)) (begins_tls (front w b)) t s w b u
 
 abbrev pub IsHeardBy : Hearing → Analyzer → Side → Bytes → Analyzer → Type 0
 IsHeardBy Unknown t s b u = IsFirstHeard t s (waiting t s).items b u
 IsHeardBy h t s b u = IsNext t s b u
 
--- The bytes that a side says next are heard.
+-- The next bytes of a side are read.
 abbrev pub IsHeardOn : Analyzer → Side → Bytes → Analyzer → Type 0
 IsHeardOn t s b u = IsHeardBy (hearing t s) t s b u
 
--- The side begins with a ClientHello in SSL 2.0's form; what it says behind it is TLS.
+-- The side begins with a ClientHello of SSL 2.0's form. What follows it is TLS.
 abbrev pub IsHeardInSsl2 : Analyzer → Side → ssl2.ClientHello → Analyzer → Type 0
-IsHeardInSsl2 t s x u = IsHelloNoted t.hearer s x u.hearer × (u ≡ with_hearing (record t { hearer = u.hearer; is_tls = true }) s Clear)
+IsHeardInSsl2 t s x u = IsHelloNoted t.hearer s x u.hearer
+    × (u ≡ with_hearing (record t { hearer = u.hearer; is_tls = true }) s Clear)
 
--- The side doesn't speak TLS, whatever it says: what is heard of it is what 5 bytes are heard as that are no header of a record.
+-- The side isn't TLS, whatever it sends: it is treated as if it had sent 5 bytes that are no header
+-- of a record.
 abbrev pub IsHeardAsNone : Analyzer → Side → Analyzer → Type 0
-IsHeardAsNone t s u = (n : Analyzer) × IsNext t s (0 ∷ 0 ∷ 0 ∷ 0 ∷ 0 ∷ []) n × (u ≡ with_hearing n s Other)
+IsHeardAsNone t s u = (n : Analyzer) × IsNext t s (0 ∷ 0 ∷ 0 ∷ 0 ∷ 0 ∷ []) n
+    × (u ≡ with_hearing n s Other)
 
--- These pieces are heard one after the other, each of its side.
+-- These pieces are read in order, each of its side.
 abbrev pub AreHeardOn : Analyzer → List (Side × Bytes) → Analyzer → Type 0
 AreHeardOn t [] u = u ≡ t
 AreHeardOn t (p ∷ ps) u = (m : Analyzer) × IsHeardOn t p.0 p.1 m × AreHeardOn m ps u
 
--- It is what was heard of these pieces from the beginning, whatever the cuts: what the turns say that they make, in which a side's pieces
--- up to the other side's next are joined.
+-- The analyzer after these pieces from the beginning, whatever the cuts: it depends on the turns,
+-- which are a side's pieces up to the other side's next one, joined.
 pub record IsAnalyzerOf (ps : List (Side × Bytes)) (t : Analyzer) : Type 0 where
   pub begun : Analyzer
   pub new : IsNew begun

@@ -7,11 +7,13 @@ use Rattle.dtls_stream.specs.DatagramRecord.{ConnectionId, DatagramRecord, Encry
 use Rattle.tls_detection.specs.Front.{is_datagram_version, is_within}
 use Rattle.tls_analyzer.specs.declared.datagram_records.DatagramRecords.{DatagramRecords}
 
--- A type of records that there is, 26 that of acknowledgments of DTLS 1.3 (RFC 9147, section 7), and a version of DTLS.
+-- A known content type, including 26, the acknowledgments of DTLS 1.3 (RFC 9147, section 7), and a
+-- version of DTLS.
 abbrev pub is_known : RecordHeader → Bool
-is_known h = (is_within 20 24 h.content_type || h.content_type == 26) && is_datagram_version h.version
+is_known h = (is_within 20 24 h.content_type || h.content_type == 26)
+    && is_datagram_version h.version
 
--- The same of a record of any form. One in that of DTLS 1.3 is one where it is spoken.
+-- Whether a record of any form counts. One in the form of DTLS 1.3 counts if that was negotiated.
 abbrev pub is_record : Bool → DatagramRecord → Bool
 is_record is_13 (Plaintext r) = is_known r.header
 is_record is_13 (ConnectionId r) = is_datagram_version r.header.fields.version
@@ -21,12 +23,13 @@ is_record is_13 (Encrypted r) = is_13
 abbrev pub no_datagrams : DatagramRecords
 no_datagrams = record { count = 0 }
 
--- One more for each record, up to the first that is none. The count stays where it can't be held.
+-- Counts each record up to the first that doesn't count. The count saturates.
 abbrev pub with_records : Bool → List DatagramRecord → DatagramRecords → DatagramRecords
 with_records is_13 [] r = r
 with_records is_13 (x ∷ xs) r =
-    if is_record is_13 x then with_records is_13 xs (record { count = min (r.count + 1) (2 ^ 64 - 1) }) else r
+    if is_record is_13 x then
+    with_records is_13 xs (record { count = min (r.count + 1) (2 ^ 64 - 1) }) else r
 
--- The records in front of a datagram, whose connection ids have that length.
+-- Counts the records at the beginning of a datagram, with connection IDs of this length.
 abbrev pub with_datagram : Bool → ℕ → Bytes → DatagramRecords → DatagramRecords
 with_datagram is_13 id_length b r = with_records is_13 (items_in (datagram_record13 id_length) b) r

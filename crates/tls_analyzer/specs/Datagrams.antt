@@ -1,4 +1,5 @@
--- What an analyzer of datagrams comes to, record by record (RFC 6347, RFC 9147): what its peers take. What an association drops changes nothing.
+-- The state of a datagram analyzer, record by record (RFC 6347, RFC 9147). What a peer would drop
+-- changes nothing.
 use Rattle.std.specs.Prelude.{◌≡◌, ℕ, zero, suc, Bool, true, false, not, ◌&&◌, ◌||◌, ◌==◌, nat_lt, is_some, if◌then◌else◌, Option, Some, None, Ok, Err, List, [], ◌∷◌, length}
 use Rattle.std.specs.Str.{bytes_eq}
 use Rattle.layouts.specs.Bytes.{Bytes}
@@ -30,12 +31,13 @@ use Rattle.tls_analyzer.specs.declared.account.Progress.{Progress}
 use Rattle.tls_analyzer.specs.declared.speaker.Speaker.{Speaker}
 use Rattle.tls_analyzer.specs.declared.datagram_analyzer.DatagramAnalyzer.{DatagramAnalyzer}
 
--- What an event of that side adds to what is known, where m is the handshake message that it is.
+-- The summary after an event of this side, where m is its handshake message.
 abbrev pub noted_by : Side → Option HandshakeMessage → HandshakeSummary → HandshakeSummary
 noted_by s (Some m) f = of_datagrams s m f
 noted_by s None f = f
 
-abbrev pub noted_in_datagram_with : Side → HandshakeSummary → Event → Option HandshakeMessage → HandshakeSummary
+abbrev pub noted_in_datagram_with : Side → HandshakeSummary → Event → Option HandshakeMessage
+    → HandshakeSummary
 noted_in_datagram_with s f (Handshake h) m = noted_by s m f
 noted_in_datagram_with s f (Alert a) m = of_alert a.description f
 noted_in_datagram_with s f e m = f
@@ -59,14 +61,15 @@ abbrev pub followed_by : Flow → Option Followed → Flow
 followed_by f (Some e) = follow f e
 followed_by f None = f
 
--- The flow with an event of that side, where k is the kind of the handshake message.
+-- The flow after an event of this side, where k is the kind of its handshake message.
 abbrev pub followed_with : Side → Flow → Event → Kind → Flow
 followed_with s f e k = followed_by f (event_in_datagram_with s e k)
 
 abbrev pub followed : Side → Flow → Event → Flow
 followed s f e = followed_with s f e (kind_in_datagram e)
 
--- What both sides came to, and how far one of them has come: whether it changed its cipher, and whether it said a record that is encrypted.
+-- What both sides have sent, and how far one of them has come: whether it has sent its
+-- ChangeCipherSpec, and whether it has sent an encrypted record.
 pub record Told : Type 0 where
   pub flow : Flow
   pub handshake : HandshakeSummary
@@ -83,8 +86,8 @@ told_of a p = record {
   is_encrypted = p.is_encrypted;
 }
 
--- The server's hello says that a session is taken up, by the session id of the client. Where the client's is empty, what follows tells whether
--- the ticket is taken up that it offers (RFC 5077, section 3.4).
+-- The server's hello resumes a session if it repeats the client's session ID. If the client's is
+-- empty, what follows decides whether the offered ticket is accepted (RFC 5077, section 3.4).
 abbrev pub takes_up : Option Bytes → Option Bytes → Bool → Bool
 takes_up None server ticket = ticket
 takes_up (Some id) None ticket = false
@@ -93,21 +96,23 @@ takes_up (Some id) (Some same) ticket = bytes_eq id same
 abbrev pub may_resume : HandshakeSummary → Bool
 may_resume f = takes_up (client_session_id f) (server_session_id f) (offers_ticket f)
 
--- How the handshake stands behind a ChangeCipherSpec of that side.
+-- The outcome that a ChangeCipherSpec of this side would give.
 abbrev pub behind_change : Side → Flow → Outcome
 behind_change s f = outcome_at (followed s f ChangeCipherSpec).state
 
--- The handshake comes to that side's ChangeCipherSpec: it is still one behind it. That of a server, behind which the client's is to come, needs a
--- session that is taken up (RFC 5246, section 7.3).
+-- The handshake has reached this side's ChangeCipherSpec: it doesn't fail with it. A server's, if
+-- the client's is still to come, needs a resumed session (RFC 5246, section 7.3).
 abbrev pub has_come_to_change : Side → Flow → HandshakeSummary → Bool
 has_come_to_change s f a =
     not (is_waiting (outcome_at f.state) && is_failed (behind_change s f))
     && (is_client s || not (is_waiting (behind_change s f)) || may_resume a)
 
--- A ChangeCipherSpec counts once of each side, and where the handshake has come to it, which is behind the ServerHello. Any other is dropped: it
--- was sent again (RFC 6347, section 4.2.4), or has nothing to change to.
+-- A ChangeCipherSpec counts once for each side, and only if the handshake has reached it, which is
+-- after the ServerHello. Any other is dropped: it is a retransmission (RFC 6347, section 4.2.4), or
+-- there is nothing to change to.
 abbrev pub awaits_change : Side → Told → Bool
-awaits_change s t = not t.has_changed && is_some t.handshake.server && has_come_to_change s t.flow t.handshake
+awaits_change s t = not t.has_changed && is_some t.handshake.server
+    && has_come_to_change s t.flow t.handshake
 
 abbrev pub saying : Side → Told → Event → Told
 saying s t e = record {
@@ -118,29 +123,29 @@ saying s t e = record {
   is_encrypted = t.is_encrypted || is_sealed e;
 }
 
--- The side says an event.
+-- An event of the side.
 abbrev pub said : Side → Told → Event → Told
 said s t e = if is_change e && not (awaits_change s t) then t else saying s t e
 
--- It says these, the first of them in front.
+-- Events of the side, in order.
 abbrev pub said_all : Side → Told → List Event → Told
 said_all s t [] = t
 said_all s t (e ∷ es) = said_all s (said s t e) es
 
--- What is allowed of a side: messages of so many bytes, and fragments of 16 of them at a time.
+-- The limits for a side: the length of a message, and fragments of 16 messages at a time.
 abbrev pub allowed : Limits
 allowed = record { message = default_limit; ahead = 16 }
 
--- What one side said so far: what was heard of its messages, and how far it has come.
+-- The state of one side: its reassembly, and how far it has come.
 pub record Spoken : Type 0 where
   pub heard : Heard
-  -- whether a fragment of it was taken, and whether the messages in front of it are missing
+  -- whether a fragment of it was added, and whether the messages before it are missing
   pub is_begun : Bool
   pub lacks_front : Bool
   pub has_changed : Bool
   pub is_encrypted : Bool
 
--- What an analyzer came to.
+-- The state of an analyzer.
 pub record Analyzer : Type 0 where
   pub client : Spoken
   pub server : Spoken
@@ -151,31 +156,69 @@ pub record Analyzer : Type 0 where
   pub is_dtls : Bool
 
 abbrev pub none_spoken : Spoken
-none_spoken = record { heard = none_heard; is_begun = false; lacks_front = false; has_changed = false; is_encrypted = false }
+none_spoken =
+    record {
+      heard = none_heard;
+      is_begun = false;
+      lacks_front = false;
+      has_changed =
+          false;
+      is_encrypted = false;
+    }
 
 -- Nothing came.
 abbrev pub untold : Analyzer
-untold = record { client = none_spoken; server = none_spoken; flow = silence; handshake = nothing; history = []; is_dtls = false }
+untold = record {
+  client = none_spoken;
+  server = none_spoken;
+  flow = silence;
+  handshake =
+      nothing;
+  history = [];
+  is_dtls = false;
+}
 
 abbrev pub spoken : Analyzer → Side → Spoken
 spoken k ToServer = k.client
 spoken k FromServer = k.server
 
--- A side is heard no further once it is encrypted and the handshake ended.
+-- A side is skipped once it is encrypted and the handshake has ended.
 abbrev pub is_over : Analyzer → Side → Bool
 is_over k s = (spoken k s).is_encrypted && not (is_waiting (outcome_at k.flow.state))
 
 abbrev pub told_to : Analyzer → Spoken → Told
-told_to k p = record { flow = k.flow; handshake = k.handshake; history = k.history; has_changed = p.has_changed; is_encrypted = p.is_encrypted }
+told_to k p =
+    record {
+      flow = k.flow;
+      handshake = k.handshake;
+      history = k.history;
+      has_changed =
+          p.has_changed;
+      is_encrypted = p.is_encrypted;
+    }
 
 abbrev pub spoken_by : Spoken → Heard → Told → Spoken
 spoken_by p h t = record p { heard = h; has_changed = t.has_changed; is_encrypted = t.is_encrypted }
 
 abbrev pub with_told : Analyzer → Side → Heard → Told → Analyzer
-with_told k ToServer h t = record k { client = spoken_by k.client h t; flow = t.flow; handshake = t.handshake; history = t.history }
-with_told k FromServer h t = record k { server = spoken_by k.server h t; flow = t.flow; handshake = t.handshake; history = t.history }
+with_told k ToServer h t =
+    record k {
+      client = spoken_by k.client h t;
+      flow = t.flow;
+      handshake = t.handshake;
+      history =
+          t.history;
+    }
+with_told k FromServer h t =
+    record k {
+      server = spoken_by k.server h t;
+      flow = t.flow;
+      handshake = t.handshake;
+      history =
+          t.history;
+    }
 
--- A side's messages and other records are followed and noted.
+-- A side's events are followed and recorded.
 abbrev pub stepped : Analyzer → Side → Step → Analyzer
 stepped k s x = with_told k s x.0 (said_all s (told_to k (spoken k s)) x.1)
 
@@ -183,12 +226,13 @@ abbrev pub fragment_in : Answer Fragment → Option Fragment
 fragment_in (Ok x) = Some x.0
 fragment_in (Err e) = None
 
--- The fragment of a handshake message that stands first in a record.
+-- The handshake fragment that a record begins with.
 abbrev pub first_fragment : RawRecord → Option Fragment
-first_fragment r = if r.header.content_type == 22 then fragment_in (reading fragment r.fragment) else None
+first_fragment r = if r.header.content_type == 22 then
+    fragment_in (reading fragment r.fragment) else None
 
--- The message behind those that are missing: a second ClientHello, or the ServerHello behind a HelloVerifyRequest (RFC 6347, section 4.2.2,
--- where the first messages have the number 0).
+-- The first message after the missing ones: a second ClientHello, or the ServerHello after a
+-- HelloVerifyRequest (RFC 6347, section 4.2.2, which numbers the first messages 0).
 abbrev pub hello_type : Side → ℕ
 hello_type ToServer = 1
 hello_type FromServer = 2
@@ -196,11 +240,12 @@ hello_type FromServer = 2
 abbrev pub is_behind_front : Side → Fragment → Bool
 is_behind_front s f = f.msg_type == hello_type s && f.message_seq == 1
 
--- The first fragment of a side tells at which number its messages begin.
+-- The first fragment of a side gives the number at which its messages begin.
 abbrev pub begun : Side → Fragment → Spoken → Spoken
 begun s f p =
     if p.is_begun then p
-    else if is_behind_front s f then record p { heard = nothing_from 1; is_begun = true; lacks_front = true }
+    else if is_behind_front s f then
+    record p { heard = nothing_from 1; is_begun = true; lacks_front = true }
     else record p { is_begun = true }
 
 abbrev pub with_spoken : Analyzer → Side → Spoken → Analyzer
@@ -211,8 +256,9 @@ abbrev pub begun_by : Option Fragment → Analyzer → Side → Analyzer
 begun_by None k s = k
 begun_by (Some f) k s = with_spoken k s (begun s f (spoken k s))
 
--- The epoch of the records that a side's peer takes (section 4.1): 1 behind its ChangeCipherSpec. Those of an epoch that hasn't begun, or
--- that is over, are dropped. A further one begins behind the handshake, by a ChangeCipherSpec that is encrypted.
+-- The epoch of the records that a side's peer accepts (section 4.1): 1 after the side's
+-- ChangeCipherSpec. Records of an epoch that hasn't begun or is over are dropped. Later epochs
+-- begin after the handshake, with an encrypted ChangeCipherSpec.
 abbrev pub epoch_of : Spoken → ℕ
 epoch_of p = if p.has_changed then 1 else 0
 
@@ -220,15 +266,18 @@ epoch_of p = if p.has_changed then 1 else 0
 abbrev pub is_hello : Fragment → Bool
 is_hello f = f.msg_type == 1 || f.msg_type == 2 || f.msg_type == 3
 
--- Behind the ServerHello no hello is awaited (RFC 5246, section 7.3; RFC 6347, section 4.2.4, figure 1). One that wasn't heard is dropped.
+-- After the ServerHello no hello is due (RFC 5246, section 7.3; RFC 6347, section 4.2.4, figure 1).
+-- A new one is dropped.
 abbrev pub is_late : Option Fragment → Analyzer → Side → Bool
 is_late None k s = false
-is_late (Some f) k s = is_some k.handshake.server && is_hello f && not (nat_lt f.message_seq (spoken k s).heard.next)
+is_late (Some f) k s =
+    is_some k.handshake.server && is_hello f && not (nat_lt f.message_seq (spoken k s).heard.next)
 
--- Whether a record of that side is taken.
+-- Whether a record of this side is read.
 abbrev pub takes : Analyzer → Side → RawRecord → Bool
 takes k s r =
-    k.is_dtls && not (is_over k s) && r.header.epoch == epoch_of (spoken k s) && not (is_late (first_fragment r) k s)
+    k.is_dtls && not (is_over k s) && r.header.epoch == epoch_of (spoken k s)
+    && not (is_late (first_fragment r) k s)
 
 abbrev pub taken : Analyzer → Side → RawRecord → Analyzer
 taken k s r = stepped k s (record_step allowed (spoken k s).heard r)
@@ -236,19 +285,21 @@ taken k s r = stepped k s (record_step allowed (spoken k s).heard r)
 abbrev pub record_heard_in : Analyzer → Side → RawRecord → Analyzer
 record_heard_in k s r = if takes k s r then taken (begun_by (first_fragment r) k s) s r else k
 
--- A record of that side comes. The first of epoch 0 tells that it is DTLS.
+-- A record of this side. The first one of epoch 0 shows that it is DTLS.
 abbrev pub record_heard : Analyzer → Side → RawRecord → Analyzer
 record_heard k s r = record_heard_in (record k { is_dtls = k.is_dtls || r.header.epoch == 0 }) s r
 
--- Bytes that are an encrypted record of DTLS 1.3 (RFC 9147, section 4).
+-- The bytes are an encrypted record of DTLS 1.3 (RFC 9147, section 4).
 abbrev pub is_sealed_record : Answer Ciphertext → Bool
 is_sealed_record (Ok x) = true
 is_sealed_record (Err e) = false
 
--- Where a record in the form of DTLS 1.3 comes next, and that is spoken, the side is encrypted. One that comes before its peer knows that is dropped.
+-- If a record in the form of DTLS 1.3 comes next, and DTLS 1.3 was negotiated, the side is
+-- encrypted. A record that comes before its peer knows that is dropped.
 abbrev pub is_sealed_next : Analyzer → Side → Bytes → Bool
 is_sealed_next k s b =
-    is_13 (outcome_at k.flow.state) && is_sealed_record (reading (ciphertext (connection_id_length s k.handshake)) b)
+    is_13 (outcome_at k.flow.state)
+    && is_sealed_record (reading (ciphertext (connection_id_length s k.handshake)) b)
 
 abbrev pub sealed : Spoken → Spoken
 sealed p = record p { is_encrypted = true }
@@ -256,27 +307,31 @@ sealed p = record p { is_encrypted = true }
 abbrev pub sealed_by : Analyzer → Side → Bytes → Analyzer
 sealed_by k s b = if is_sealed_next k s b then with_spoken k s (sealed (spoken k s)) else k
 
-abbrev pub next_heard : Answer RawRecord → Analyzer → Side → Bytes → (Analyzer → Bytes → Analyzer) → Analyzer
+abbrev pub next_heard : Answer RawRecord → Analyzer → Side → Bytes
+    → (Analyzer → Bytes → Analyzer) → Analyzer
 next_heard (Err e) k s b more = sealed_by k s b
-next_heard (Ok x) k s b more = if is_known x.0.header then more (record_heard k s x.0) x.1 else sealed_by k s b
+next_heard (Ok x) k s b more = if is_known x.0.header then
+    more (record_heard k s x.0) x.1 else sealed_by k s b
 
--- At most n records of a datagram, one after the other. What is no whole record of DTLS is dropped, and what stands behind it (section
--- 4.1.2.7): so is a datagram that begins with none, since other protocols may use the same ports (RFC 7983). In DTLS 1.3 encrypted records may
--- stand behind the others, of which the first tells that the side is encrypted.
+-- At most n records of a datagram, in order. Bytes that are no whole DTLS record are dropped with
+-- what follows them (section 4.1.2.7); so is a datagram that begins with such bytes, since other
+-- protocols may use the same ports (RFC 7983). In DTLS 1.3 encrypted records may follow the others,
+-- and the first one marks the side as encrypted.
 unfoldable pub records_heard : ℕ → Analyzer → Side → Bytes → Analyzer
 records_heard zero k s b = k
-records_heard (suc n) k s b = next_heard (reading datagram_record b) k s b (λ k b. records_heard n k s b)
+records_heard (suc n) k s b =
+    next_heard (reading datagram_record b) k s b (λ k b. records_heard n k s b)
 
--- A datagram of that side comes. A record takes bytes, so there are no more of them than bytes.
+-- A datagram of this side. A record has at least one byte, so there are no more records than bytes.
 abbrev pub heard : Analyzer → Side → Bytes → Analyzer
 heard k s d = records_heard (length d) k s d
 
--- All of these come, one after the other.
+-- All of these datagrams, in order.
 abbrev pub heard_all : Analyzer → List (Side × Bytes) → Analyzer
 heard_all k [] = k
 heard_all k (d ∷ ds) = heard_all (heard k d.0 d.1) ds
 
--- What the program holds of one side, and of the analyzer.
+-- The program's data of one side, and of the analyzer, agree with the state.
 pub record IsSpoken (p : Spoken) (t : Speaker) : Type 0 where
   pub stands : Stands allowed p.heard t.messages
   pub is_begun : t.is_begun ≡ p.is_begun
@@ -296,16 +351,17 @@ abbrev pub speaker_of : DatagramAnalyzer → Side → Speaker
 speaker_of t ToServer = t.client
 speaker_of t FromServer = t.server
 
--- A side was heard.
+-- The side's events were followed and recorded.
 pub record IsStepped (s : Side) (x : Step) (t u : Told) (n : Kept) : Type 0 where
   pub stands : Stands allowed x.0 n
   pub told : u ≡ said_all s t x.1
 
--- A speaker heard a record: what its side said then is told, by the account and the progress before and after.
+-- A speaker read a record and its events were added, in terms of the account and the progress
+-- before and after.
 abbrev pub SpeakerHears : Side → Heard → RawRecord → Account → Account → Speaker → Speaker → Type 0
 SpeakerHears s h r a b t u =
     IsStepped s (record_step allowed h r) (told_of a t.progress) (told_of b u.progress) u.messages
 
--- The same side, as far as its messages go.
+-- Another state of the same side, apart from its messages.
 abbrev pub IsSameSide : Speaker → Speaker → Type 0
 IsSameSide t u = (u.is_begun ≡ t.is_begun) × (u.lacks_front ≡ t.lacks_front)

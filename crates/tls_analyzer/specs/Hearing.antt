@@ -1,4 +1,4 @@
--- What is known behind a piece of one side's stream.
+-- The state after a piece of one side's stream.
 use Rattle.std.specs.Prelude.{◌≡◌, Bool, true, false, cond, Option, Some, None, List, [], ◌∷◌, ◌++◌}
 use Rattle.layouts.specs.Bytes.{Bytes}
 use Rattle.tls_stream.specs.Item.{Event as Said}
@@ -17,28 +17,29 @@ use Rattle.tls_analyzer.specs.declared.hearer.Hearer.{Hearer}
 abbrev pub known_of : Hearer → Known
 known_of h = record { flow = h.flow; handshake = view_summary h.handshake }
 
--- The side gets a further piece, and nothing is noted.
+-- The side gets another piece, and nothing is recorded.
 pub record IsFed (h : Hearer) (s : Side) (p : Bytes) (i : Hearer) : Type 0 where
   pub conversation : IsFedBy h.conversation s p i.conversation
   pub flow : i.flow ≡ h.flow
   pub handshake : i.handshake ≡ h.handshake
   pub history : i.history ≡ h.history
 
--- The side says v next, which is followed and noted.
+-- The side says v next, which is followed and recorded.
 pub record IsNoted (h : Hearer) (s : Side) (v : Said) (i : Hearer) : Type 0 where
   pub behind : IsBehind h.conversation s v i.conversation
   pub flow : i.flow ≡ followed s h.flow (view_summary h.handshake) v
   pub handshake : view_summary i.handshake ≡ noted s (view_summary h.handshake) v
   pub history : i.history.items ≡ with_letter s h.history.items (letter_of v)
 
--- The side says a ClientHello in SSL 2.0's form (RFC 5246, appendix E.2), which is followed and noted as any.
+-- The side sends a ClientHello of SSL 2.0's form (RFC 5246, appendix E.2), which is followed and
+-- recorded like any other.
 pub record IsHelloNoted (h : Hearer) (s : Side) (x : ssl2.ClientHello) (i : Hearer) : Type 0 where
   pub conversation : i.conversation ≡ h.conversation
   pub flow : i.flow ≡ stepped s h.flow (view_summary h.handshake) (plain kind.ClientHello s)
   pub handshake : view_summary i.handshake ≡ asked_in_ssl2 s x (view_summary h.handshake)
   pub history : i.history.items ≡ with_letter s h.history.items (Some (byte "c"))
 
--- What the side says next is taken off, if it says something: whether it is encrypted.
+-- The side's next event is removed, if there is one; the answer is whether it is encrypted.
 abbrev pub IsNextTaken : Option Said → Hearer → Side → Option Bool → Hearer → Type 0
 IsNextTaken (Some v) h s r i = (r ≡ Some (is_sealed v)) × IsNoted h s v i
 IsNextTaken None h s r i = (r ≡ None) × (i ≡ h)
@@ -48,12 +49,12 @@ is_same ToServer ToServer = true
 is_same FromServer FromServer = true
 is_same _ _ = false
 
--- A piece in front of the turns is one with the first, where that is of its side.
+-- A piece before the turns joins the first turn if that is of the same side.
 abbrev pub onto : Side × Bytes → List (Side × Bytes) → List (Side × Bytes)
 onto p [] = p ∷ []
 onto p (t ∷ ts) = cond (is_same p.0 t.0) ((p.0, p.1 ++ t.1) ∷ ts) (p ∷ t ∷ ts)
 
--- What each side says until the other does: its pieces joined.
+-- The pieces of each side up to the other side's next one, joined.
 abbrev pub turns : List (Side × Bytes) → List (Side × Bytes)
 turns [] = []
 turns (p ∷ ps) = onto p (turns ps)

@@ -1,4 +1,4 @@
--- What both sides said, as a text with a letter for each event, as Zeek's ssl_history has it.
+-- The history of both sides, with a letter for each event, as in Zeek's ssl_history.
 use Rattle.std.specs.Prelude.{ℕ, ◌-◌, ◌==◌, Bool, true, false, nat_lt, if◌then◌else◌, Option, Some, None, List, [], ◌∷◌, ◌++◌, length}
 use Rattle.std.specs.Str.{byte}
 use Rattle.layouts.specs.Bytes.{Bytes}
@@ -11,8 +11,9 @@ use Rattle.tls_flow.specs.declared.symbol.Direction.TheVariants.{ToServer, FromS
 use Rattle.tls_flow.specs.declared.symbol.Kind.{Kind}
 use Rattle.tls_flow.specs.declared.symbol.Kind.TheVariants as kind
 
--- The letter of a handshake message by its type (RFC 8446, section 4, and RFC 5246, section 7.4; of DTLS RFC 6347, section 4.3.2; RFC 6066,
--- sections 5 and 8; RFC 4680, section 3), as the server's. Types without a letter of their own share z.
+-- The letter of a handshake message by its type (RFC 8446, section 4, and RFC 5246, section 7.4; of
+-- DTLS RFC 6347, section 4.3.2; RFC 6066, sections 5 and 8; RFC 4680, section 3), in the server's
+-- lower case. All other types share z.
 abbrev pub letter_of_type : ℕ → ℕ
 letter_of_type n =
     -- hello_request, client_hello, server_hello, hello_verify_request
@@ -20,7 +21,8 @@ letter_of_type n =
     else if n == 1 then byte "c"
     else if n == 2 then byte "s"
     else if n == 3 then byte "v"
-    -- new_session_ticket, end_of_early_data, hello_retry_request of a draft of TLS 1.3, encrypted_extensions
+    -- new_session_ticket, end_of_early_data, hello_retry_request of a draft of TLS 1.3,
+    -- encrypted_extensions
     else if n == 4 then byte "t"
     else if n == 5 then byte "e"
     else if n == 6 then byte "j"
@@ -51,11 +53,13 @@ abbrev pub letter_of_first : Bytes → ℕ
 letter_of_first [] = byte "z"
 letter_of_first (n ∷ b) = letter_of_type n
 
--- The letter of a whole handshake message of TLS of that kind. A HelloRetryRequest is a ServerHello of a random of its own (RFC 8446, section 4.1.4).
+-- The letter of a whole TLS handshake message of this kind. A HelloRetryRequest is a ServerHello
+-- with a fixed random (RFC 8446, section 4.1.4).
 abbrev pub letter_of_message : Kind → Bytes → ℕ
 letter_of_message k b = if is_retry k then byte "j" else letter_of_first b
 
--- The letter of what a side of TLS says, where k is the kind of a handshake message. What is encrypted has none, and what is refused.
+-- The letter of a TLS side's event, where k is the kind of its handshake message. Encrypted records
+-- and faults have none.
 abbrev pub letter_with : Kind → stream.Event → Option ℕ
 letter_with k (stream.Handshake b) = Some (letter_of_message k b)
 letter_with k stream.ChangeCipherSpec = Some (byte "i")
@@ -67,11 +71,11 @@ letter_with k _ = None
 abbrev pub letter_of : stream.Event → Option ℕ
 letter_of v = letter_with (kind_said v) v
 
--- The letter of a handshake message of DTLS.
+-- The letter of a DTLS handshake message.
 abbrev pub letter_of_datagram_message : Kind → ℕ → ℕ
 letter_of_datagram_message k n = if is_retry k then byte "j" else letter_of_type n
 
--- The same of DTLS.
+-- The letter of a DTLS side's event, where k is the kind of its handshake message.
 abbrev pub letter_in_datagram_with : Kind → datagrams.Event → Option ℕ
 letter_in_datagram_with k (datagrams.Handshake m) = Some (letter_of_datagram_message k m.msg_type)
 letter_in_datagram_with k datagrams.ChangeCipherSpec = Some (byte "i")
@@ -81,17 +85,17 @@ letter_in_datagram_with k _ = None
 abbrev pub letter_in_datagram : datagrams.Event → Option ℕ
 letter_in_datagram e = letter_in_datagram_with (kind_in_datagram e) e
 
--- The client's are in upper case, whose letters stand 32 in front of the others.
+-- The client's letters are upper case, whose ASCII codes are 32 lower.
 abbrev pub cased : Side → ℕ → ℕ
 cased ToServer n = n - 32
 cased FromServer n = n
 
--- What is kept of them: the first 100.
+-- The first 100 letters are kept.
 abbrev pub with_letter : Side → List ℕ → Option ℕ → List ℕ
 with_letter s h None = h
 with_letter s h (Some n) = if nat_lt (length h) 100 then h ++ cased s n ∷ [] else h
 
--- The history behind these events of a side, the latest of them in front.
+-- The history after these events of a side, the latest first.
 abbrev pub history : Side → List ℕ → List stream.Event → List ℕ
 history s h [] = h
 history s h (v ∷ vs) = with_letter s (history s h vs) (letter_of v)

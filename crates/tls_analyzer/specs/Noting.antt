@@ -1,4 +1,4 @@
--- What a connection's events say of it, in all.
+-- What a connection's events show, in all.
 use Rattle.std.specs.Prelude.{Bool, true, false, ◌||◌, if◌then◌else◌, List, [], ◌∷◌, Option}
 use Rattle.tls_stream.specs.Item.{Event as Said, Handshake, Alert, ApplicationData, Encrypted}
 use Rattle.tls_flow.specs.declared.symbol.Direction.{Direction as Side}
@@ -9,7 +9,7 @@ use Rattle.tls_flow.specs.Bytes.{HandshakeMessage}
 use Rattle.tls_stream.specs.FlowEvents.{event_of, message_in}
 use Rattle.tls_summary.specs.HandshakeSummary.{HandshakeSummary, is_stray, of_alert, of_message_if}
 
--- One step: what an event of that side adds, where m is the handshake message that it is.
+-- The summary after an event of this side, where m is its handshake message.
 abbrev pub noted_with : Side → HandshakeSummary → Said → Option HandshakeMessage → HandshakeSummary
 noted_with s f (Handshake b) m = of_message_if s m f
 noted_with s f (Alert a) m = of_alert a.description f
@@ -18,33 +18,35 @@ noted_with s f _ m = f
 abbrev pub noted : Side → HandshakeSummary → Said → HandshakeSummary
 noted s f v = noted_with s f v (message_in v)
 
--- The handshake behind an event of that side, by what was known in front of it: a hello that is none of the handshake is no step of it.
+-- The flow after an event of this side, given the summary before it. A hello that doesn't belong to
+-- the handshake is no step.
 abbrev pub stepped : Side → Flow → HandshakeSummary → Event → Flow
 stepped s w f e = if is_stray s e.symbol.kind f then w else follow w e
 
 abbrev pub followed : Side → Flow → HandshakeSummary → Said → Flow
 followed s w f v = stepped s w f (event_of s v)
 
--- What is known of a connection: where its handshake stands, and what both sides said.
+-- What is known of a connection: the flow of its handshake, and the summary.
 pub record Known : Type 0 where
   pub flow : Flow
   pub handshake : HandshakeSummary
 
 abbrev pub known_by : Side → Known → Said → Known
-known_by s k v = record { flow = followed s k.flow k.handshake v; handshake = noted s k.handshake v }
+known_by s k v =
+    record { flow = followed s k.flow k.handshake v; handshake = noted s k.handshake v }
 
--- What is known behind these events of that side, the latest of them in front.
+-- What is known after these events of this side, the latest first.
 abbrev pub known : Side → Known → List Said → Known
 known s k [] = k
 known s k (v ∷ vs) = known_by s (known s k vs) v
 
--- Whether what follows in its direction can't be read.
+-- Whether what follows in this direction is encrypted.
 abbrev pub is_sealed : Said → Bool
 is_sealed (Encrypted r) = true
 is_sealed (ApplicationData b) = true
 is_sealed _ = false
 
--- Whether one of these is so.
+-- Whether this holds for one of these events.
 abbrev pub has_sealed : List Said → Bool
 has_sealed [] = false
 has_sealed (v ∷ vs) = has_sealed vs || is_sealed v

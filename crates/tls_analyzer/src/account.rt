@@ -1,4 +1,4 @@
-//! What both sides of a conversation in DTLS came to say.
+//! What both sides of a DTLS conversation have sent.
 ghost use Rattle.std.specs.Prelude.{◌≡◌, OnOk};
 ghost use Rattle.std.specs.Option.{option_map};
 ghost use Rattle.tls_flow.specs.Bytes.{view_heard};
@@ -18,13 +18,13 @@ use tls_summary::{HandshakeSummary, KnownCertificates};
 /// How far a side has come.
 #[derive(Clone, Copy, Debug, PartialEq, Eq)]
 pub(crate) struct Progress {
-    /// It changed its cipher.
+    /// Whether it has sent its ChangeCipherSpec.
     pub(crate) has_changed: bool,
-    /// It said a record that is encrypted.
+    /// Whether it has sent an encrypted record.
     pub(crate) is_encrypted: bool,
 }
 
-/// The flow of both sides' events, what they say, and their history.
+/// The flow, the summary and the history of both sides.
 #[derive(Drop)]
 pub(crate) struct Account {
     pub(crate) flow: Flow,
@@ -45,7 +45,7 @@ fn is_sealed(event: &Event<'_>) -> bool
     matches!(event, Event::Encrypted(_))
 }
 
-/// Notes what one event of a side says, where `message` is the handshake message that it is.
+/// Updates the summary with an event of a side; `message` is its handshake message, if it is one.
 fn note(
     handshake: &mut HandshakeSummary,
     alloc: Global,
@@ -54,7 +54,9 @@ fn note(
     message: Option<&HandshakeMessage<'_>>,
     known: Option<&mut KnownCertificates>,
 ) -> Result<(), AllocError>
-    ensures { OnOk result (view_summary handshake.new ≡ noted_in_datagram_with side (view_summary handshake.old) (view_event event.now)
+    ensures { OnOk result
+        (view_summary handshake.new ≡ noted_in_datagram_with side (view_summary handshake.old)
+        (view_event event.now)
         (option_map (λ m. view_heard m.now) message.entry)) }
 {
     match event {
@@ -69,7 +71,7 @@ fn note(
     Ok(())
 }
 
-/// Follows an event, if it counts as one of a conversation, where `kind` is that of the handshake message.
+/// Follows an event that counts for the conversation; `kind` is the kind of its handshake message.
 fn follow(flow: &mut Flow, event: &Event<'_>, kind: Kind, side: Direction)
     ensures { flow.new ≡ followed_with side flow.old (view_event event.now) kind }
 {
@@ -78,14 +80,14 @@ fn follow(flow: &mut Flow, event: &Event<'_>, kind: Kind, side: Direction)
     }
 }
 
-/// The handshake is still to end.
+/// Whether the handshake hasn't ended yet.
 fn is_waiting(outcome: Outcome) -> bool
     ensures { result ≡ is_still outcome }
 {
     matches!(outcome, Outcome::Waiting)
 }
 
-/// The handshake ended without success.
+/// Whether the handshake ended without success.
 fn is_failed(outcome: Outcome) -> bool
     ensures { result ≡ is_failure outcome }
 {
@@ -95,7 +97,7 @@ fn is_failed(outcome: Outcome) -> bool
     )
 }
 
-/// How the handshake stands behind a ChangeCipherSpec of that side.
+/// The outcome that a ChangeCipherSpec of this side would give.
 #[tactic(auto, using(crate::proofs::ChangeLemmas::state_alone))]
 fn behind_change(flow: &Flow, side: Direction) -> Outcome
     ensures { result ≡ stands_behind_change side flow.now }
@@ -105,7 +107,7 @@ fn behind_change(flow: &Flow, side: Direction) -> Outcome
     next.outcome()
 }
 
-/// Whether the server's hello says that a session is taken up, or may be.
+/// Whether the server's hello resumes a session, or may.
 fn may_resume(handshake: &HandshakeSummary) -> bool
     ensures { result ≡ takes_session (view_summary handshake.now) }
 {
@@ -116,7 +118,7 @@ fn may_resume(handshake: &HandshakeSummary) -> bool
     }
 }
 
-/// Whether the handshake comes to that side's ChangeCipherSpec.
+/// Whether the handshake has reached this side's ChangeCipherSpec.
 fn has_come_to_change(flow: &Flow, handshake: &HandshakeSummary, side: Direction) -> bool
     ensures { result ≡ comes_to_change side flow.now (view_summary handshake.now) }
 {
@@ -128,7 +130,7 @@ fn has_come_to_change(flow: &Flow, handshake: &HandshakeSummary, side: Direction
 }
 
 impl Account {
-    /// Whether the handshake has come to that side's ChangeCipherSpec.
+    /// Whether this side's ChangeCipherSpec counts next.
     fn awaits_change(&self, side: Direction, progress: &Progress) -> bool
         ensures { result ≡ awaits side (told_of self.now progress.now) }
     {
@@ -137,7 +139,8 @@ impl Account {
             && has_come_to_change(&self.flow, &self.handshake, side)
     }
 
-    /// Follows and notes an event of a side, and puts its letter behind the others. Its message is read once, for all of these and the witness.
+    /// Follows an event of a side, updates the summary and appends its letter. Its message is
+    /// parsed once for these and the witness.
     fn tell<W: Witness>(
         &mut self,
         alloc: Global,
@@ -146,8 +149,12 @@ impl Account {
         witness: &mut W,
     ) -> Result<(), AllocError>
         ensures flow { OnOk result (self.new.flow ≡ followed side self.old.flow (view_event event.now)) }
-        ensures handshake { OnOk result (view_summary self.new.handshake ≡ noted_in_datagram side (view_summary self.old.handshake) (view_event event.now)) }
-        ensures history { OnOk result (self.new.history.items ≡ with_letter side self.old.history.items (letter_in_datagram (view_event event.now))) }
+        ensures handshake { OnOk result
+            (view_summary self.new.handshake ≡ noted_in_datagram side
+            (view_summary self.old.handshake) (view_event event.now)) }
+        ensures history { OnOk result
+            (self.new.history.items ≡ with_letter side self.old.history.items
+            (letter_in_datagram (view_event event.now))) }
     {
         let message = datagram_message(event);
         let kind = Kind::of_datagrams(message.as_ref());
@@ -166,7 +173,7 @@ impl Account {
         Ok(())
     }
 
-    /// The same, and how far the side has come by it.
+    /// Does what `tell` does, and updates the side's progress.
     fn say<W: Witness>(
         &mut self,
         alloc: Global,
@@ -175,7 +182,9 @@ impl Account {
         event: &Event<'_>,
         witness: &mut W,
     ) -> Result<(), AllocError>
-        ensures { OnOk result (told_of self.new progress.new ≡ saying side (told_of self.old progress.old) (view_event event.now)) }
+        ensures { OnOk result
+            (told_of self.new progress.new ≡ saying side (told_of self.old progress.old)
+            (view_event event.now)) }
     {
         self.tell(alloc, side, event, witness)?;
         progress.has_changed = progress.has_changed || is_change(event);
@@ -183,8 +192,8 @@ impl Account {
         Ok(())
     }
 
-    /// Takes an event of a side. A ChangeCipherSpec is dropped where the handshake hasn't come to it, and where it was sent again (RFC 6347,
-    /// section 4.2.4).
+    /// Adds an event of a side. A ChangeCipherSpec is dropped if the handshake hasn't reached it,
+    /// or if it is a retransmission (RFC 6347, section 4.2.4).
     fn add<W: Witness>(
         &mut self,
         alloc: Global,
@@ -193,7 +202,9 @@ impl Account {
         event: &Event<'_>,
         witness: &mut W,
     ) -> Result<(), AllocError>
-        ensures { OnOk result (told_of self.new progress.new ≡ said side (told_of self.old progress.old) (view_event event.now)) }
+        ensures { OnOk result
+            (told_of self.new progress.new ≡ said side (told_of self.old progress.old)
+            (view_event event.now)) }
     {
         if is_change(event) && !self.awaits_change(side, progress) {
             return Ok(());
@@ -201,7 +212,7 @@ impl Account {
         self.say(alloc, side, progress, event, witness)
     }
 
-    /// Takes all events of a side, one after the other.
+    /// Adds the events of a side in order.
     pub(crate) fn add_all<W: Witness>(
         &mut self,
         alloc: Global,
@@ -210,7 +221,9 @@ impl Account {
         events: &[Event<'_>],
         witness: &mut W,
     ) -> Result<(), AllocError>
-        ensures { OnOk result (told_of self.new progress.new ≡ said_all side (told_of self.old progress.old) (view_events events.now)) }
+        ensures { OnOk result
+            (told_of self.new progress.new ≡ said_all side (told_of self.old progress.old)
+            (view_events events.now)) }
     {
         for event in events {
             self.add(alloc, side, progress, event, witness)?;

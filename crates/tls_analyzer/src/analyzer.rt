@@ -1,4 +1,4 @@
-//! What a connection says, as far as it is TLS.
+//! The analyzer of a TLS connection.
 ghost use Rattle.std.specs.Prelude.{◌≡◌, ◌++◌, [], IfOk, OnOk};
 ghost use Rattle.ssl2_hello.specs.ClientHello.{view_client_hello as view_ssl2_hello};
 ghost use Rattle.tls_stream.specs.Conversations.{ear, views};
@@ -19,33 +19,34 @@ use tls_detection::{HEADER_LEN, begins_tls};
 use tls_flow::{Direction, Outcome, Stop};
 use tls_summary::HandshakeSummary;
 
-/// How a side is heard.
+/// What is known of a side.
 #[derive(Clone, Copy, Debug, PartialEq, Eq)]
 pub(crate) enum Hearing {
-    /// Too few bytes came to tell whether it speaks TLS.
+    /// Too few bytes have come to decide whether it is TLS.
     Unknown,
-    /// It speaks in the clear.
+    /// It is TLS, in the clear so far.
     Clear,
-    /// It said an encrypted record.
+    /// It is TLS, and has sent an encrypted record.
     Encrypted,
-    /// It doesn't speak TLS.
+    /// It isn't TLS.
     Other,
 }
 
-/// What both sides of a connection say, and whether they speak TLS.
+/// Analyzes both sides of a connection over a stream: whether they are TLS, and what they send in
+/// the clear.
 #[derive(Drop)]
 pub struct Analyzer {
     hearer: Hearer,
     is_tls: bool,
     client: Hearing,
     server: Hearing,
-    // The first bytes of each side, while they are too few to tell whether it speaks TLS.
+    // The first bytes of each side, while they are too few to decide whether it is TLS.
     client_first: Vec<u8>,
     server_first: Vec<u8>,
 }
 
 impl Analyzer {
-    /// One of which nothing came. It takes no memory.
+    /// An analyzer of a new connection. It doesn't allocate.
     pub fn new(alloc: Global) -> Analyzer
         ensures { IsNew result }
     {
@@ -59,8 +60,9 @@ impl Analyzer {
         }
     }
 
-    /// How many bytes of memory is taken by what was said, at most, besides the analyzer itself and the buffers of its conversation, whose room is at most
-    /// twice as many bytes as were heard.
+    /// An upper bound for the memory of the summary, the history and the stored first bytes, in
+    /// bytes. It includes neither the analyzer itself nor its conversation's buffers, which hold at
+    /// most twice the bytes that came.
     pub fn capacity(&self) -> usize {
         of_handshake(&self.hearer.handshake)
             .saturating_add(self.hearer.history.capacity())
@@ -68,29 +70,29 @@ impl Analyzer {
             .saturating_add(self.server_first.capacity())
     }
 
-    /// Whether a side's first bytes are those of TLS.
+    /// Whether a side's first bytes are TLS.
     pub fn is_tls(&self) -> bool
         ensures { result ≡ self.now.is_tls }
     {
         self.is_tls
     }
 
-    /// What was said.
+    /// The summary of what both sides sent in the clear.
     pub fn handshake(&self) -> &HandshakeSummary
         ensures { result.now ≡ self.now.hearer.handshake }
     {
         &self.hearer.handshake
     }
 
-    /// A letter for each event, as Zeek's ssl_history has it: those of the client in upper case, in the order of the capture, of messages that
-    /// can be read, up to [`HISTORY_LIMIT`](crate::HISTORY_LIMIT).
+    /// A letter for each event, as in Zeek's ssl_history: upper case for the client, in capture
+    /// order, for messages in the clear, up to [`HISTORY_LIMIT`](crate::HISTORY_LIMIT).
     pub fn history(&self) -> &[u8]
         ensures { result.now ≡ self.now.hearer.history.items }
     {
         self.hearer.history.as_slice()
     }
 
-    /// How the handshake stands.
+    /// The outcome of the handshake so far.
     pub fn outcome(&self) -> Outcome
         ensures { result ≡ outcome_at self.now.hearer.flow.state }
     {
@@ -104,17 +106,18 @@ impl Analyzer {
         self.hearer.flow.stop()
     }
 
-    /// Whether the part of the handshake that can be read came to its end. In TLS 1.3 that is the ServerHello: what follows is
-    /// encrypted.
+    /// Whether the visible part of the handshake is complete. In TLS 1.3 it ends with the
+    /// ServerHello, since what follows is encrypted.
     pub fn is_established(&self) -> bool
         ensures { result ≡ established_by (outcome_at self.now.hearer.flow.state) }
     {
         ends::is_established(self.outcome())
     }
 
-    /// Whether a session, or a key known before, was taken up.
+    /// Whether a session was resumed, or a pre-shared key accepted.
     pub fn is_resumed(&self) -> bool
-        ensures { result ≡ resumed_by (outcome_at self.now.hearer.flow.state) (view_summary self.now.hearer.handshake) }
+        ensures { result ≡ resumed_by (outcome_at self.now.hearer.flow.state)
+            (view_summary self.now.hearer.handshake) }
     {
         ends::is_resumed(self.outcome(), &self.hearer.handshake)
     }
@@ -137,7 +140,8 @@ impl Analyzer {
         }
     }
 
-    /// Whether the side is heard no further: it doesn't speak TLS, or it is encrypted and the handshake ended.
+    /// Whether the side is skipped from now on: it isn't TLS, or it is encrypted and the handshake
+    /// has ended.
     pub fn is_over(&self, side: Direction) -> bool
         ensures { result ≡ is_over_in self.now side }
     {
@@ -148,7 +152,7 @@ impl Analyzer {
         }
     }
 
-    /// The bytes of a side that wait.
+    /// The first bytes of a side that are stored so far.
     fn waiting(&self, side: Direction) -> &[u8]
         ensures { result.now ≡ (waiting_of self.now side).items }
     {
@@ -158,9 +162,10 @@ impl Analyzer {
         }
     }
 
-    /// Puts bytes behind those that wait.
+    /// Stores more of the first bytes of a side.
     fn wait(&mut self, side: Direction, bytes: &[u8]) -> Result<(), AllocError>
-        ensures { OnOk result (Waits self.old side ((waiting_of self.old side).items ++ bytes.now) self.new) }
+        ensures { OnOk result
+            (Waits self.old side ((waiting_of self.old side).items ++ bytes.now) self.new) }
     {
         match side {
             Direction::ToServer => self.client_first.extend_from_slice(bytes),
@@ -168,7 +173,7 @@ impl Analyzer {
         }
     }
 
-    /// Takes those that wait.
+    /// Removes the stored first bytes of a side and returns them.
     fn take_waiting(&mut self, alloc: Global, side: Direction) -> Vec<u8>
         ensures value { result ≡ waiting_of self.old side }
         ensures taken { Waits self.old side [] self.new }
@@ -179,15 +184,19 @@ impl Analyzer {
         }
     }
 
-    /// Follows and notes what the side says next, and takes it off: true. False where it says no more for now.
+    /// Follows the side's next event, updates the summary and removes the event. Returns false if
+    /// there is none.
     fn take_next<W: Witness>(
         &mut self,
         alloc: Global,
         side: Direction,
         witness: &mut W,
     ) -> Result<bool, AllocError>
-        ensures taken { IfOk result (λ taken. IsTaken (front_of (ear self.old.hearer.conversation side)) self.old side taken self.new) }
-        ensures ready { OnOk result (IsReady (ear self.old.hearer.conversation side) → IsReady (ear self.new.hearer.conversation side)) }
+        ensures taken { IfOk result
+            (λ taken. IsTaken (front_of (ear self.old.hearer.conversation side)) self.old side taken
+            self.new) }
+        ensures ready { OnOk result (IsReady (ear self.old.hearer.conversation side)
+            → IsReady (ear self.new.hearer.conversation side)) }
     {
         match self.hearer.take_next(alloc, side, witness)? {
             Some(true) => {
@@ -199,7 +208,7 @@ impl Analyzer {
         }
     }
 
-    /// Hears a piece of a side, up to what it says last before it is over.
+    /// Reads a piece of a side, up to the event after which the side is skipped.
     fn follow<W: Witness>(
         &mut self,
         alloc: Global,
@@ -221,7 +230,7 @@ impl Analyzer {
         Ok(())
     }
 
-    /// Hears the first bytes of a side, which tell whether it speaks TLS.
+    /// Reads the first bytes of a side, which decide whether it is TLS.
     fn hear_first<W: Witness>(
         &mut self,
         alloc: Global,
@@ -229,7 +238,8 @@ impl Analyzer {
         bytes: &[u8],
         witness: &mut W,
     ) -> Result<(), AllocError>
-        ensures { OnOk result (IsFirstHeard self.old side (waiting_of self.old side).items bytes.now self.new) }
+        ensures { OnOk result
+            (IsFirstHeard self.old side (waiting_of self.old side).items bytes.now self.new) }
     {
         let missing = HEADER_LEN.saturating_sub(self.waiting(side).len());
         if bytes.len() < missing {
@@ -249,9 +259,10 @@ impl Analyzer {
         Ok(())
     }
 
-    /// Hears a ClientHello in SSL 2.0's form (RFC 5246, appendix E.2), with which a side begins: what it says behind it is TLS.
+    /// Reads a ClientHello of SSL 2.0's form (RFC 5246, appendix E.2) with which a side begins.
+    /// What follows it is TLS.
     ///
-    /// `AllocError` where it could not be held. The analyzer is then of no further use.
+    /// After `AllocError` there was no memory for it, and the analyzer can't be used any more.
     pub fn hear_ssl2(
         &mut self,
         alloc: Global,
@@ -266,10 +277,10 @@ impl Analyzer {
         Ok(())
     }
 
-    /// Takes a side that has said nothing yet for one that doesn't speak TLS: what is heard of it is a fault, as of 5 bytes that are no header of a
-    /// record, and nothing more.
+    /// Treats a side that has sent nothing so far as one that isn't TLS. It counts as a fault, like
+    /// 5 bytes that are no header of a record, and the side is skipped.
     ///
-    /// `AllocError` where it could not be held. The analyzer is then of no further use.
+    /// After `AllocError` there was no memory for it, and the analyzer can't be used any more.
     pub fn hear_none(&mut self, alloc: Global, side: Direction) -> Result<(), AllocError>
         ensures { OnOk result (IsHeardAsNone self.old side self.new) }
     {
@@ -278,17 +289,19 @@ impl Analyzer {
         Ok(())
     }
 
-    /// Hears the bytes that a side says next. The first wait until 5 are there, which tell whether it speaks TLS: of a side that doesn't, no
-    /// more than these are heard, as what they are: a fault. Of a side that is over nothing is heard, from the event on by which it is.
+    /// Reads the next bytes of a side. The first ones are stored until there are 5, which decide
+    /// whether the side is TLS. If it isn't, these 5 count as a fault, and the rest is skipped.
+    /// Once a side is over, its bytes are skipped, from the event on that ended it.
     ///
-    /// `AllocError` where they could not be held. The analyzer is then of no further use.
+    /// After `AllocError` there was no memory for them, and the analyzer can't be used any more.
     pub fn hear(&mut self, alloc: Global, side: Direction, bytes: &[u8]) -> Result<(), AllocError>
         ensures { OnOk result (IsHeardOn self.old side bytes.now self.new) }
     {
         self.hear_with(alloc, side, bytes, &mut Nobody)
     }
 
-    /// The same, and each event that is heard is heard by the witness, too.
+    /// Reads the next bytes of a side as [`Analyzer::hear`] does, and passes each event to the
+    /// witness.
     pub fn hear_with<W: Witness>(
         &mut self,
         alloc: Global,
@@ -305,10 +318,11 @@ impl Analyzer {
     }
 }
 
-/// The analyzer to which these pieces come, one after the other, each of the side that speaks. It is that of the turns that they make, in which
-/// a side's pieces up to the other side's next are joined: however they are cut, and the records in them.
+/// The analyzer after these pieces, in order, each with its direction. The result depends only on
+/// the turns: a side's pieces up to the other side's next one, joined. So neither the cuts of the
+/// pieces nor those of the records matter.
 ///
-/// `AllocError` where a piece, or what it says, could not be held.
+/// `AllocError` if there is no memory for a piece or an event.
 pub fn analyze_all(alloc: Global, pieces: &[(Direction, &[u8])]) -> Result<Analyzer, AllocError>
     ensures { IfOk result (λ t. IsAnalyzerOf (views pieces.now) t) }
 {

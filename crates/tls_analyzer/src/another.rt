@@ -19,7 +19,7 @@ use tls_flow::Outcome;
 use tls_records::{DTLSClientHelloView, DTLSRawRecord};
 use tls_summary::HandshakeSummary;
 
-/// Whether it is the first message of its sender, whole, and a ClientHello.
+/// Whether this is a whole ClientHello, and the first message of its sender.
 fn is_first_hello(fragment: &Fragment<'_>) -> bool
     ensures { result ≡ is_first (view_fragment fragment.now) }
 {
@@ -29,7 +29,7 @@ fn is_first_hello(fragment: &Fragment<'_>) -> bool
         && fragment.body.len() == fragment.length as usize
 }
 
-/// The random of a ClientHello, by its body.
+/// The random of a ClientHello, from its body.
 fn random_of(body: &[u8]) -> Option<&[u8]>
     ensures { option_map (λ b. b.now) result ≡ random_in (reading client_hello body.now) }
 {
@@ -39,7 +39,7 @@ fn random_of(body: &[u8]) -> Option<&[u8]>
     }
 }
 
-/// The random of the ClientHello with which a record begins.
+/// The random of the ClientHello that a record begins with.
 fn random_in_record<'a>(record: &DTLSRawRecord<'a>) -> Option<&'a [u8]>
     ensures { option_map (λ b. b.now) result ≡ random_by (first_in (view_raw_record record.now)) }
 {
@@ -64,14 +64,14 @@ fn first_random(datagram: &[u8]) -> Option<&[u8]>
     }
 }
 
-/// The handshake ended: with success, or by an alert.
+/// Whether the handshake ended, with success or by an alert.
 pub(crate) fn has_ended(outcome: Outcome) -> bool
     ensures { result ≡ ended outcome }
 {
     is_established(outcome) || matches!(outcome, Outcome::BrokenOff)
 }
 
-/// Whether a random is another than that of the association's ClientHello.
+/// Whether a random differs from that of the association's ClientHello.
 fn is_other(handshake: &HandshakeSummary, random: &[u8]) -> bool
     ensures { result ≡ is_other_than (view_summary handshake.now).client random.now }
 {
@@ -81,7 +81,7 @@ fn is_other(handshake: &HandshakeSummary, random: &[u8]) -> bool
     }
 }
 
-/// Whether a datagram begins with a ClientHello of another association than that of this summary.
+/// Whether a datagram begins with the ClientHello of another association than this summary's.
 pub(crate) fn has_other_hello(handshake: &HandshakeSummary, datagram: &[u8]) -> bool
     ensures { result ≡ other_hello datagram.now (view_summary handshake.now).client }
 {

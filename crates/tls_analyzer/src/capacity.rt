@@ -1,9 +1,9 @@
-//! How much memory is taken by what is known of a connection.
+//! How much memory the summary of a connection uses.
 
 use std::mem::size_of;
 use tls_summary::{CertificateSummary, ClientParts, HandshakeSummary, ServerParts};
 
-/// How many bytes of memory optional bytes take.
+/// The capacity of optional bytes.
 fn of_bytes(bytes: &Option<Vec<u8>>) -> usize {
     match bytes {
         Some(bytes) => bytes.capacity(),
@@ -11,7 +11,7 @@ fn of_bytes(bytes: &Option<Vec<u8>>) -> usize {
     }
 }
 
-/// The same of what is kept of a chain.
+/// The memory of a certificate chain, in bytes.
 fn of_chain(chain: &Option<Vec<CertificateSummary>>) -> usize {
     match chain {
         Some(certificates) => {
@@ -23,7 +23,7 @@ fn of_chain(chain: &Option<Vec<CertificateSummary>>) -> usize {
     }
 }
 
-/// Of a ClientHello.
+/// The memory of a ClientHello, in bytes.
 fn of_client(client: &Option<ClientParts>) -> usize {
     let Some(client) = client else {
         return 0;
@@ -37,7 +37,7 @@ fn of_client(client: &Option<ClientParts>) -> usize {
         .saturating_add(of_bytes(&client.ext))
 }
 
-/// Of a ServerHello.
+/// The memory of a ServerHello, in bytes.
 fn of_server(server: &Option<ServerParts>) -> usize {
     let Some(server) = server else {
         return 0;
@@ -49,7 +49,7 @@ fn of_server(server: &Option<ServerParts>) -> usize {
         .saturating_add(of_bytes(&server.ext))
 }
 
-/// Of all that is known of a connection.
+/// The memory of a summary, in bytes.
 pub(crate) fn of_handshake(handshake: &HandshakeSummary) -> usize {
     of_client(&handshake.client)
         .saturating_add(of_server(&handshake.server))

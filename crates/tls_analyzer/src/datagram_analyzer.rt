@@ -1,4 +1,4 @@
-//! What both sides of a conversation in DTLS say, datagram by datagram.
+//! The analyzer of a DTLS conversation.
 ghost use Rattle.std.specs.Prelude.{◌≡◌, IfOk, OnOk};
 ghost use Rattle.tls_records.specs.DtlsRecord.{view_raw_record};
 ghost use Rattle.dtls_stream.specs.Fragments.{view_fragment};
@@ -22,8 +22,8 @@ use tls_flow::{Direction, Flow, Outcome, Stop};
 use tls_records::DTLSRawRecord;
 use tls_summary::HandshakeSummary;
 
-/// What both sides of a conversation in DTLS say (RFC 6347, RFC 9147), and whether they speak DTLS: what their peers take. What an
-/// association drops changes nothing.
+/// Analyzes both sides of a DTLS conversation (RFC 6347, RFC 9147), datagram by datagram: whether
+/// they speak DTLS, and what they send in the clear. What a peer would drop changes nothing.
 #[derive(Drop)]
 pub struct DatagramAnalyzer {
     client: Speaker,
@@ -33,7 +33,7 @@ pub struct DatagramAnalyzer {
 }
 
 impl DatagramAnalyzer {
-    /// One of which nothing came. It takes no memory.
+    /// An analyzer of a new conversation. It doesn't allocate.
     pub fn new(alloc: Global) -> DatagramAnalyzer
         ensures { IsKnown untold result }
     {
@@ -49,7 +49,7 @@ impl DatagramAnalyzer {
         }
     }
 
-    /// How many bytes of memory it takes, at most, besides itself.
+    /// An upper bound for the memory that it uses besides itself, in bytes.
     pub fn capacity(&self) -> usize {
         of_handshake(&self.account.handshake)
             .saturating_add(self.account.history.capacity())
@@ -64,21 +64,22 @@ impl DatagramAnalyzer {
         self.is_dtls
     }
 
-    /// What was said.
+    /// The summary of what both sides sent in the clear.
     pub fn handshake(&self) -> &HandshakeSummary
         ensures { (k : Analyzer) → IsKnown k self.now → view_summary result.now ≡ k.handshake }
     {
         &self.account.handshake
     }
 
-    /// A letter for each event, as [`Analyzer::history`](crate::Analyzer::history) has them. What is sent again has none.
+    /// A letter for each event, as in [`Analyzer::history`](crate::Analyzer::history).
+    /// Retransmissions have none.
     pub fn history(&self) -> &[u8]
         ensures { (k : Analyzer) → IsKnown k self.now → result.now ≡ k.history }
     {
         self.account.history.as_slice()
     }
 
-    /// How the handshake stands.
+    /// The outcome of the handshake so far.
     pub fn outcome(&self) -> Outcome
         ensures { (k : Analyzer) → IsKnown k self.now → result ≡ outcome_at k.flow.state }
     {
@@ -92,38 +93,41 @@ impl DatagramAnalyzer {
         self.account.flow.stop()
     }
 
-    /// Whether the part of the handshake that can be read came to its end.
+    /// Whether the visible part of the handshake is complete.
     pub fn is_established(&self) -> bool
-        ensures { (k : Analyzer) → IsKnown k self.now → result ≡ established_by (outcome_at k.flow.state) }
+        ensures { (k : Analyzer) → IsKnown k self.now
+            → result ≡ established_by (outcome_at k.flow.state) }
     {
         ends::is_established(self.outcome())
     }
 
-    /// Whether a session was taken up.
+    /// Whether a session was resumed.
     pub fn is_resumed(&self) -> bool
-        ensures { (k : Analyzer) → IsKnown k self.now → result ≡ resumed_by (outcome_at k.flow.state) k.handshake }
+        ensures { (k : Analyzer) → IsKnown k self.now
+            → result ≡ resumed_by (outcome_at k.flow.state) k.handshake }
     {
         ends::is_resumed(self.outcome(), &self.account.handshake)
     }
 
-    /// Whether the first messages of a side are missing: it begins with a second ClientHello, or with the ServerHello behind a
-    /// HelloVerifyRequest, by its number (RFC 6347, section 4.2.2).
+    /// Whether the first messages of a side are missing: by its number, it begins with a second
+    /// ClientHello, or with the ServerHello after a HelloVerifyRequest (RFC 6347, section 4.2.2).
     pub fn lacks_front(&self, side: Direction) -> bool
         ensures { (k : Analyzer) → IsKnown k self.now → result ≡ (spoken k side).lacks_front }
     {
         self.speaker(side).lacks_front
     }
 
-    /// Whether a datagram of the client begins another association (RFC 6347, section 4.2.8): the handshake of this one ended, with success or
-    /// by an alert, and the datagram begins with a ClientHello in the clear, whole, of number 0, and of another random than its own. So neither
-    /// a hello that is sent again, nor the one with a cookie, nor one in an unfinished handshake begins another.
+    /// Whether a datagram of the client begins another association (RFC 6347, section 4.2.8). The
+    /// handshake of this one has ended, with success or by an alert. The datagram begins with a
+    /// whole ClientHello in the clear, of number 0, whose random differs. So a retransmitted hello,
+    /// the one with a cookie, and one in an unfinished handshake begin none.
     pub fn begins_another(&self, datagram: &[u8]) -> bool
         ensures { (k : Analyzer) → IsKnown k self.now → result ≡ another_begins k datagram.now }
     {
         has_ended(self.outcome()) && has_other_hello(&self.account.handshake, datagram)
     }
 
-    /// One of the sides.
+    /// The state of one side.
     fn speaker(&self, side: Direction) -> &Speaker
         ensures { result.now ≡ speaker_of self.now side }
     {
@@ -133,7 +137,7 @@ impl DatagramAnalyzer {
         }
     }
 
-    /// Whether the side is heard no further: it is encrypted, and the handshake ended.
+    /// Whether the side is skipped from now on: it is encrypted, and the handshake has ended.
     pub fn is_over(&self, side: Direction) -> bool
         ensures { (k : Analyzer) → IsKnown k self.now → result ≡ is_over_in k side }
     {
@@ -141,9 +145,10 @@ impl DatagramAnalyzer {
             && !matches!(self.account.flow.outcome(), Outcome::Waiting)
     }
 
-    /// Whether a record's first fragment is of a hello that isn't awaited, and wasn't heard: the server has said its ServerHello.
+    /// Whether a record begins with a new hello that comes too late: after the ServerHello.
     fn is_late(&self, side: Direction, record: &DTLSRawRecord<'_>) -> bool
-        ensures { (k : Analyzer) → IsKnown k self.now → result ≡ is_late_in (first (view_raw_record record.now)) k side }
+        ensures { (k : Analyzer) → IsKnown k self.now
+            → result ≡ is_late_in (first (view_raw_record record.now)) k side }
     {
         match first_fragment(record) {
             Some(fragment) => {
@@ -155,9 +160,10 @@ impl DatagramAnalyzer {
         }
     }
 
-    /// Whether a record of that side is taken.
+    /// Whether a record of this side is read.
     fn takes(&self, side: Direction, record: &DTLSRawRecord<'_>) -> bool
-        ensures { (k : Analyzer) → IsKnown k self.now → result ≡ is_taken k side (view_raw_record record.now) }
+        ensures { (k : Analyzer) → IsKnown k self.now
+            → result ≡ is_taken k side (view_raw_record record.now) }
     {
         self.is_dtls
             && !self.is_over(side)
@@ -168,7 +174,8 @@ impl DatagramAnalyzer {
     /// Begins a side with its first fragment.
     fn begin(&mut self, alloc: Global, side: Direction, fragment: &Fragment<'_>)
         ensures { (k : Analyzer) → IsKnown k self.old
-            → IsKnown (with_spoken k side (begun side (view_fragment fragment.now) (spoken k side))) self.new }
+            → IsKnown (with_spoken k side (begun side (view_fragment fragment.now) (spoken k side)))
+            self.new }
     {
         match side {
             Direction::ToServer => self.client.begin(alloc, side, fragment),
@@ -176,7 +183,7 @@ impl DatagramAnalyzer {
         }
     }
 
-    /// Follows and notes what a side's record says.
+    /// Follows a side's record and updates the summary.
     fn follow<W: Witness>(
         &mut self,
         alloc: Global,
@@ -184,7 +191,8 @@ impl DatagramAnalyzer {
         record: DTLSRawRecord<'_>,
         witness: &mut W,
     ) -> Result<(), AllocError>
-        ensures { (k : Analyzer) → IsKnown k self.old → OnOk result (IsKnown (taken k side (view_raw_record record.entry)) self.new) }
+        ensures { (k : Analyzer) → IsKnown k self.old
+            → OnOk result (IsKnown (taken k side (view_raw_record record.entry)) self.new) }
     {
         match side {
             Direction::ToServer => self
@@ -196,7 +204,7 @@ impl DatagramAnalyzer {
         }
     }
 
-    /// Hears a record of a side.
+    /// Reads a record of a side.
     fn hear_record<W: Witness>(
         &mut self,
         alloc: Global,
@@ -204,7 +212,8 @@ impl DatagramAnalyzer {
         record: DTLSRawRecord<'_>,
         witness: &mut W,
     ) -> Result<(), AllocError>
-        ensures { (k : Analyzer) → IsKnown k self.old → OnOk result (IsKnown (record_heard k side (view_raw_record record.entry)) self.new) }
+        ensures { (k : Analyzer) → IsKnown k self.old
+            → OnOk result (IsKnown (record_heard k side (view_raw_record record.entry)) self.new) }
     {
         self.is_dtls = self.is_dtls || record.header.epoch == 0;
         if !self.takes(side, &record) {
@@ -216,14 +225,15 @@ impl DatagramAnalyzer {
         self.follow(alloc, side, record, witness)
     }
 
-    /// Whether DTLS 1.3 is spoken.
+    /// Whether DTLS 1.3 was negotiated.
     pub fn is_13(&self) -> bool
-        ensures { (k : Analyzer) → IsKnown k self.now → result ≡ is_13_by (outcome_at k.flow.state) }
+        ensures { (k : Analyzer) → IsKnown k self.now
+            → result ≡ is_13_by (outcome_at k.flow.state) }
     {
         ends::is_13(self.outcome())
     }
 
-    /// Whether an encrypted record of DTLS 1.3 comes next, and that is spoken.
+    /// Whether the next bytes are an encrypted record of DTLS 1.3, and DTLS 1.3 was negotiated.
     fn is_sealed_next(&self, side: Direction, bytes: &[u8]) -> bool
         ensures { (k : Analyzer) → IsKnown k self.now → result ≡ sealed_next k side bytes.now }
     {
@@ -234,9 +244,10 @@ impl DatagramAnalyzer {
             ).is_ok()
     }
 
-    /// The side is encrypted from here on, where such a record comes next.
+    /// Marks the side as encrypted if the next bytes are an encrypted record of DTLS 1.3.
     fn see_sealed(&mut self, side: Direction, bytes: &[u8])
-        ensures { (k : Analyzer) → IsKnown k self.old → IsKnown (sealed_by k side bytes.now) self.new }
+        ensures { (k : Analyzer) → IsKnown k self.old
+            → IsKnown (sealed_by k side bytes.now) self.new }
     {
         if !self.is_sealed_next(side, bytes) {
             return;
@@ -247,30 +258,36 @@ impl DatagramAnalyzer {
         }
     }
 
-    /// Hears a datagram of a side, record by record. In DTLS 1.3 the first encrypted record tells that the side is encrypted (RFC 9147, section 4). What
-    /// its peer drops changes nothing:
+    /// Reads a datagram of a side, record by record. In DTLS 1.3 the first encrypted record marks
+    /// the side as encrypted (RFC 9147, section 4). What the peer would drop changes nothing:
     ///
-    /// - what is no whole record, and what stands behind it in the datagram (RFC 6347, section 4.1.2.7): a datagram that begins with none
-    ///   is left out, since other protocols may use the same ports (RFC 7983). Its version is [one of DTLS](is_datagram_version);
-    /// - a record of an epoch that hasn't begun, or is over (section 4.1), and all records of a side that is over;
-    /// - a record whose content can't be read, as an empty one;
-    /// - a fragment that goes beyond its message, says another length of it, or is of a message that was handed out or is too far ahead
-    ///   (sections 4.2.2 and 4.2.3); of bytes that disagree the first stand;
-    /// - a ChangeCipherSpec to which the handshake hasn't come, or that is sent again, and a hello behind the ServerHello.
+    /// - bytes that are no whole record, and what follows them in the datagram (RFC 6347, section
+    ///   4.1.2.7). A datagram that begins with such bytes is skipped, since other protocols may use
+    ///   the same ports (RFC 7983). A record has [a version of DTLS](is_datagram_version);
+    /// - a record of an epoch that hasn't begun or is over (section 4.1), and all records of a side
+    ///   that is over;
+    /// - a record whose content doesn't parse, such as an empty one;
+    /// - a fragment that reaches past its message, gives another length for it, or belongs to a
+    ///   message that was delivered or is too far ahead (sections 4.2.2 and 4.2.3). If bytes
+    ///   disagree, the first ones are kept;
+    /// - a ChangeCipherSpec that the handshake hasn't reached or that is a retransmission, and a
+    ///   hello after the ServerHello.
     ///
-    /// `AllocError` where what it says could not be held. The analyzer is then of no further use.
+    /// After `AllocError` there was no memory for it, and the analyzer can't be used any more.
     pub fn hear(
         &mut self,
         alloc: Global,
         side: Direction,
         datagram: &[u8],
     ) -> Result<(), AllocError>
-        ensures { (k : Analyzer) → IsKnown k self.old → OnOk result (IsKnown (heard k side datagram.now) self.new) }
+        ensures { (k : Analyzer) → IsKnown k self.old
+            → OnOk result (IsKnown (heard k side datagram.now) self.new) }
     {
         self.hear_with(alloc, side, datagram, &mut Nobody)
     }
 
-    /// The same, and each event that counts is heard by the witness, too.
+    /// Reads a datagram of a side as [`DatagramAnalyzer::hear`] does, and passes each event that
+    /// counts to the witness.
     pub fn hear_with<W: Witness>(
         &mut self,
         alloc: Global,
@@ -278,7 +295,8 @@ impl DatagramAnalyzer {
         datagram: &[u8],
         witness: &mut W,
     ) -> Result<(), AllocError>
-        ensures { (k : Analyzer) → IsKnown k self.old → OnOk result (IsKnown (heard k side datagram.now) self.new) }
+        ensures { (k : Analyzer) → IsKnown k self.old
+            → OnOk result (IsKnown (heard k side datagram.now) self.new) }
     {
         let mut left = datagram;
         'records: for read in 0..datagram.len() {
@@ -297,9 +315,9 @@ impl DatagramAnalyzer {
     }
 }
 
-/// The analyzer to which these datagrams come, one after the other, each with the direction that it goes in.
+/// The analyzer after these datagrams, in order, each with its direction.
 ///
-/// `AllocError` where what they say could not be held.
+/// `AllocError` if there is no memory for an event.
 pub fn analyzer_of(
     alloc: Global,
     datagrams: &[(Direction, &[u8])],

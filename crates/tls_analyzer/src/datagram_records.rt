@@ -1,4 +1,4 @@
-//! The records of datagrams, counted.
+//! Counts the records of datagrams.
 ghost use Rattle.std.specs.Prelude.{◌≡◌};
 ghost use Rattle.tls_records.specs.DtlsRecord.{view_header};
 ghost use Rattle.dtls_stream.specs.DatagramRecord.{view_datagram_record};
@@ -8,10 +8,10 @@ use dtls_stream::DatagramRecord;
 use tls_detection::is_datagram_version;
 use tls_records::DTLSRecordHeader;
 
-/// The type of a record that acknowledges others (RFC 9147, section 7).
+/// The content type of acknowledgments (RFC 9147, section 7).
 const ACK: u8 = 26;
 
-/// A type of records that there is, and a version of DTLS.
+/// Whether a header has a known content type and a version of DTLS.
 pub(crate) fn is_known(header: &DTLSRecordHeader) -> bool
     ensures { result ≡ is_known_header (view_header header.now) }
 {
@@ -19,7 +19,7 @@ pub(crate) fn is_known(header: &DTLSRecordHeader) -> bool
     (kind >= 20 && kind <= 24 || kind == ACK) && is_datagram_version(header.version.0)
 }
 
-/// The same of a record of any form, of DTLS 1.3 where that is spoken.
+/// Whether a record counts. One in the form of DTLS 1.3 counts if that was negotiated.
 fn is_record(record: &DatagramRecord<'_>, is_13: bool) -> bool
     ensures { result ≡ is_record_of is_13 (view_datagram_record record.now) }
 {
@@ -30,29 +30,30 @@ fn is_record(record: &DatagramRecord<'_>, is_13: bool) -> bool
     }
 }
 
-/// How many records the datagrams of a side have, of which no byte is kept.
+/// Counts the records in the datagrams of a side, without buffering any.
 #[derive(Clone, Copy, Debug, PartialEq, Eq)]
 pub struct DatagramRecords {
     count: u64,
 }
 
 impl DatagramRecords {
-    /// Those of no datagram.
+    /// A count of 0.
     pub fn new() -> DatagramRecords
         ensures { result ≡ no_datagrams }
     {
         DatagramRecords { count: 0 }
     }
 
-    /// How many there are.
+    /// The number of records.
     pub fn count(&self) -> u64
         ensures { result ≡ self.now.count }
     {
         self.count
     }
 
-    /// Counts the whole records in front of a datagram, encrypted ones too, in the form of DTLS 1.3 where that is spoken. `connection_id_len` is how
-    /// many bytes a connection id has in them.
+    /// Counts the whole records at the beginning of a datagram, including encrypted ones; `is_13`
+    /// is whether DTLS 1.3 was negotiated, which allows records in its form. `connection_id_len` is
+    /// the length of their connection IDs, in bytes.
     pub fn add(&mut self, datagram: &[u8], connection_id_len: usize, is_13: bool)
         ensures { self.new ≡ with_datagram is_13 connection_id_len datagram.now self.old }
     {

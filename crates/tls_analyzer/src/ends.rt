@@ -6,7 +6,7 @@ ghost use Rattle.tls_analyzer.specs.Ends.{is_13 as is_13_by, is_established as e
 use tls_flow::Outcome;
 use tls_summary::HandshakeSummary;
 
-/// Whether the part of a handshake that can be read came to its end.
+/// Whether the visible part of a handshake is complete.
 pub(crate) fn is_established(outcome: Outcome) -> bool
     ensures { result ≡ established_by outcome }
 {
@@ -16,14 +16,14 @@ pub(crate) fn is_established(outcome: Outcome) -> bool
     )
 }
 
-/// Whether TLS 1.3 is spoken, or DTLS 1.3.
+/// Whether TLS 1.3 or DTLS 1.3 was negotiated.
 pub(crate) fn is_13(outcome: Outcome) -> bool
     ensures { result ≡ is_13_by outcome }
 {
     matches!(outcome, Outcome::Tls13 { .. })
 }
 
-/// Whether a session, or a key known before, was taken up.
+/// Whether a session was resumed, or a pre-shared key accepted.
 pub(crate) fn is_resumed(outcome: Outcome, handshake: &HandshakeSummary) -> bool
     ensures { result ≡ resumed_by outcome (view_summary handshake.now) }
 {

@@ -1,4 +1,4 @@
-//! A conversation whose events are noted.
+//! A conversation with its flow, summary and history.
 ghost use Rattle.std.specs.Prelude.{◌≡◌, [], IfOk, OnOk};
 ghost use Rattle.std.specs.Option.{option_map};
 ghost use Rattle.ssl2_hello.specs.ClientHello.{view_client_hello as view_ssl2_hello};
@@ -20,20 +20,21 @@ use tls_flow::{Direction, Flow, HandshakeMessage, Kind};
 use tls_stream::{Conversation, DEFAULT_LIMIT, Event, Said, said_event_with, said_message};
 use tls_summary::{HandshakeSummary, KnownCertificates};
 
-/// A conversation, and what its events say of it.
+/// A conversation, and what is derived from its events.
 #[derive(Drop)]
 pub(crate) struct Hearer {
-    // Both sides, as far as they were followed. Its flow follows each hello; the one below leaves those out that are none of the handshake.
+    // Both sides, as far as they were followed. The conversation's own flow follows every hello;
+    // `flow` below leaves out those that don't belong to the handshake.
     pub(crate) conversation: Conversation,
-    // The handshake.
+    // The flow of the handshake.
     pub(crate) flow: Flow,
-    // What they said.
+    // The summary of both sides.
     pub(crate) handshake: HandshakeSummary,
     // A letter for each event.
     pub(crate) history: Vec<u8>,
 }
 
-/// Whether what follows in its direction can't be read.
+/// Whether what follows in this direction is encrypted.
 fn is_encrypted(said: &Said<'_>) -> bool
     ensures { result ≡ is_sealed (view_said said.now) }
 {
@@ -43,7 +44,8 @@ fn is_encrypted(said: &Said<'_>) -> bool
     }
 }
 
-/// Follows an event of a side, unless it is a hello that is none of the handshake by what was known in front of it.
+/// Follows an event of a side, unless the summary before it shows that it is a hello that doesn't
+/// belong to the handshake.
 pub(crate) fn step(
     flow: &mut Flow,
     handshake: &HandshakeSummary,
@@ -57,7 +59,7 @@ pub(crate) fn step(
     }
 }
 
-/// Notes what one event of a side says, where `message` is the handshake message that it is.
+/// Updates the summary with an event of a side; `message` is its handshake message, if it is one.
 fn note(
     handshake: &mut HandshakeSummary,
     alloc: Global,
@@ -66,7 +68,9 @@ fn note(
     message: Option<&HandshakeMessage<'_>>,
     known: Option<&mut KnownCertificates>,
 ) -> Result<(), AllocError>
-    ensures { OnOk result (view_summary handshake.new ≡ noted_with side (view_summary handshake.old) (view_said said.now)
+    ensures { OnOk result
+        (view_summary handshake.new ≡ noted_with side (view_summary handshake.old)
+        (view_said said.now)
         (option_map (λ m. view_heard m.now) message.entry)) }
 {
     match said {
@@ -85,8 +89,8 @@ fn note(
     Ok(())
 }
 
-/// Follows and notes what a side says, and puts its letter behind the others: the event that it is. Its message is read once, for all of these and
-/// the witness.
+/// Follows an event of a side, updates the summary and appends its letter. Its message is parsed
+/// once for these and the witness.
 fn tell<W: Witness>(
     flow: &mut Flow,
     handshake: &mut HandshakeSummary,
@@ -96,9 +100,12 @@ fn tell<W: Witness>(
     said: &Said<'_>,
     witness: &mut W,
 ) -> Result<tls_flow::Event, AllocError>
-    ensures flow { OnOk result (flow.new ≡ followed side flow.old (view_summary handshake.old) (view_said said.now)) }
-    ensures handshake { OnOk result (view_summary handshake.new ≡ noted side (view_summary handshake.old) (view_said said.now)) }
-    ensures history { OnOk result (history.new.items ≡ with_letter side history.old.items (letter_of (view_said said.now))) }
+    ensures flow { OnOk result
+        (flow.new ≡ followed side flow.old (view_summary handshake.old) (view_said said.now)) }
+    ensures handshake { OnOk result
+        (view_summary handshake.new ≡ noted side (view_summary handshake.old) (view_said said.now)) }
+    ensures history { OnOk result
+        (history.new.items ≡ with_letter side history.old.items (letter_of (view_said said.now))) }
     ensures event { IfOk result (λ e. e ≡ event_of side (view_said said.now)) }
 {
     let message = said_message(said);
@@ -113,7 +120,7 @@ fn tell<W: Witness>(
 }
 
 impl Hearer {
-    /// One of which nothing came. It takes no memory.
+    /// An empty one. It doesn't allocate.
     pub(crate) fn new(alloc: Global) -> Hearer
         ensures begun { IsBegun DEFAULT_LIMIT result.conversation }
         ensures unfollowed { result.flow ≡ silence }
@@ -128,7 +135,7 @@ impl Hearer {
         }
     }
 
-    /// Puts a piece behind what came of that side's stream.
+    /// Appends a piece of this side's stream.
     pub(crate) fn feed(&mut self, side: Direction, piece: &[u8]) -> Result<(), AllocError>
         ensures fed { OnOk result (IsFed self.old side piece.now self.new) }
         ensures ready { OnOk result (IsReady (ear self.new.conversation side)) }
@@ -136,7 +143,7 @@ impl Hearer {
         self.conversation.feed(side, piece).map_err(|_e| AllocError)
     }
 
-    /// Follows and notes a ClientHello in SSL 2.0's form, with which a side begins.
+    /// Follows and records a ClientHello of SSL 2.0's form, with which a side begins.
     pub(crate) fn hear_ssl2(
         &mut self,
         alloc: Global,
@@ -151,15 +158,18 @@ impl Hearer {
         add_letter(&mut self.history, side, Some(b'c'))
     }
 
-    /// Follows and notes what the side says next, and takes it off: whether it is encrypted. `None` where it says no more for now.
+    /// Follows the side's next event, updates the summary and removes the event. Returns whether it
+    /// is encrypted, and `None` if there is none.
     pub(crate) fn take_next<W: Witness>(
         &mut self,
         alloc: Global,
         side: Direction,
         witness: &mut W,
     ) -> Result<Option<bool>, AllocError>
-        ensures taken { IfOk result (λ r. IsNextTaken (front_of (ear self.old.conversation side)) self.old side r self.new) }
-        ensures ready { OnOk result (IsReady (ear self.old.conversation side) → IsReady (ear self.new.conversation side)) }
+        ensures taken { IfOk result
+            (λ r. IsNextTaken (front_of (ear self.old.conversation side)) self.old side r self.new) }
+        ensures ready { OnOk result
+            (IsReady (ear self.old.conversation side) → IsReady (ear self.new.conversation side)) }
     {
         let (event, is_encrypted) = match self.conversation.front(side) {
             Some(said) => {

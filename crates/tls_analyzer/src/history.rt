@@ -1,4 +1,4 @@
-//! What both sides said, as a text of letters.
+//! The history of both sides, a string of letters.
 ghost use Rattle.std.specs.Prelude.{◌≡◌, [], OnOk};
 ghost use Rattle.tls_stream.specs.Item.{view_event};
 ghost use Rattle.tls_stream.specs.FlowEvents.{view_said};
@@ -9,10 +9,10 @@ use std::alloc::AllocError;
 use tls_flow::{Direction, Kind};
 use tls_stream::{Event, Said};
 
-/// How many letters are kept of a connection: a peer may send messages without end.
+/// How many letters of a connection are kept, since a peer may send messages without end.
 pub const HISTORY_LIMIT: usize = 100;
 
-/// The letter of a handshake message by its type, as the server's.
+/// The letter of a handshake message by its type, in the server's lower case.
 fn letter_of_type(msg_type: u8) -> u8
     ensures { result ≡ letter_by_type msg_type }
 {
@@ -41,7 +41,7 @@ fn letter_of_type(msg_type: u8) -> u8
     }
 }
 
-/// The letter of a whole handshake message of TLS of that kind.
+/// The letter of a whole TLS handshake message of this kind.
 fn message_letter(kind: Kind, message: &[u8]) -> u8
     ensures { result ≡ letter_of_message kind message.now }
 {
@@ -54,7 +54,7 @@ fn message_letter(kind: Kind, message: &[u8]) -> u8
     }
 }
 
-/// The letter of a whole handshake message of DTLS of that kind and type.
+/// The letter of a whole DTLS handshake message of this kind and type.
 fn datagram_message_letter(kind: Kind, msg_type: u8) -> u8
     ensures { result ≡ letter_of_datagram_message kind msg_type }
 {
@@ -64,7 +64,7 @@ fn datagram_message_letter(kind: Kind, msg_type: u8) -> u8
     letter_of_type(msg_type)
 }
 
-/// The letter of what a side of TLS says, where `kind` is that of the handshake message.
+/// The letter of a TLS side's event; `kind` is the kind of its handshake message.
 pub(crate) fn said_letter(said: &Said<'_>, kind: Kind) -> Option<u8>
     ensures { result ≡ letter_with kind (view_said said.now) }
 {
@@ -78,7 +78,7 @@ pub(crate) fn said_letter(said: &Said<'_>, kind: Kind) -> Option<u8>
     }
 }
 
-/// The letter of what a side of DTLS says.
+/// The letter of a DTLS side's event; `kind` is the kind of its handshake message.
 pub(crate) fn datagram_letter(event: &dtls_stream::Event<'_>, kind: Kind) -> Option<u8>
     ensures { result ≡ letter_in_datagram_with kind (view_in_datagram event.now) }
 {
@@ -94,7 +94,7 @@ pub(crate) fn datagram_letter(event: &dtls_stream::Event<'_>, kind: Kind) -> Opt
     }
 }
 
-/// A client's letter is in upper case.
+/// The letter in upper case for the client.
 fn cased(side: Direction, letter: u8) -> u8
     ensures { result ≡ cased_of side letter }
 {
@@ -104,7 +104,7 @@ fn cased(side: Direction, letter: u8) -> u8
     }
 }
 
-/// Puts a side's letter behind the others, of which no more than [`HISTORY_LIMIT`] are kept.
+/// Appends a side's letter, up to [`HISTORY_LIMIT`] letters.
 pub(crate) fn add_letter(
     history: &mut Vec<u8>,
     side: Direction,

@@ -1,12 +1,14 @@
-//! What stands of an analyzer, whatever it hears. The function's contract is one law; its body is empty.
+//! A law about the analyzer, whatever it reads. It is the contract of a function with an empty
+//! body.
 ghost use Rattle.layouts.specs.Bytes.{Bytes};
 ghost use Rattle.tls_flow.specs.declared.symbol.Direction.{Direction as Side};
 ghost use Rattle.tls_summary.specs.HandshakeSummary.{KeepsHellos, view_summary};
 ghost use Rattle.tls_analyzer.specs.Analyzers.{IsHeardOn};
 ghost use Rattle.tls_analyzer.specs.declared.analyzer.Analyzer.{Analyzer as Told};
 
-/// Behind the client's ClientHello nothing that the client says next changes what is known of it, unless the server asked for another; and nothing that
-/// the server says does ever. Of the ServerHello the same is true, of the other sides.
+/// After the client's ClientHello no message of the client changes it, unless the server asks for
+/// another; and no message of the server ever does. The same holds for the ServerHello, with the
+/// sides exchanged.
 pub fn hellos_stand()
     ensures { (t u : Told) (side : Side) (b : Bytes) → IsHeardOn t side b u
         → KeepsHellos side (view_summary t.hearer.handshake) (view_summary u.hearer.handshake) }

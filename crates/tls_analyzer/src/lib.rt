@@ -1,17 +1,20 @@
-//! What a connection of TLS or DTLS says: both sides heard, what they say noted, and how its handshake ended.
+//! Analyzes a TLS or DTLS connection: follows both sides, summarizes what they send in the clear,
+//! and decides how the handshake ended.
 //!
-//! Over a stream, [`Analyzer`] follows both sides, and its handshake summary is a fold over what they say, in the order of the capture. It
-//! tells from the first bytes of a side whether they are TLS, and hears a side no further once its handshake ended and it is
-//! encrypted: so nothing behind the handshake is kept. What it knows is what the turns of both sides say, however
-//! these are cut: [`analyze_all`] states it.
+//! [`Analyzer`] reads the two streams of a TLS connection in capture order. The first bytes of a
+//! side decide whether it is TLS. Once the handshake has ended and a side is encrypted, that side
+//! is skipped, so nothing after the handshake is buffered.
 //!
-//! Both have a history: a letter for each event, up to [`HISTORY_LIMIT`]. [`Records`] counts the records of a stream, encrypted ones too, and
-//! keeps no byte of them; [`DatagramRecords`] counts those of datagrams.
+//! [`DatagramAnalyzer`] does this for the datagrams of DTLS.
 //!
-//! Who wants the events one by one gives a [`Witness`], which hears each that counts, once: summary, history, outcome and messages are made of the same events.
+//! Both have a history: a letter for each event, up to [`HISTORY_LIMIT`]. [`Records`] counts the
+//! records of a stream, including encrypted ones, without buffering them; [`DatagramRecords`]
+//! counts those of datagrams. A [`Witness`] receives each event that counts, once; summary,
+//! history, outcome and messages come from these events.
 //!
-//! Over datagrams, [`DatagramAnalyzer`] does the same of DTLS. What it came to is a definition over the datagrams in their
-//! order: [`analyzer_of`] states it.
+//! The promise is that the result depends on the bytes, not on how these are cut: [`analyze_all`]
+//! states it for streams, [`analyzer_of`] for datagrams. `specs/Analyzers.antt` and
+//! `specs/Datagrams.antt` define the results.
 #![tactic(auto)]
 
 mod account;

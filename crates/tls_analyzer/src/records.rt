@@ -1,22 +1,22 @@
-//! The records of a stream, counted.
+//! Counts the records of a stream.
 ghost use Rattle.std.specs.Prelude.{◌≡◌, ◌≤◌, ◌<◌};
 ghost use Rattle.tls_analyzer.specs.Records.{no_records, with_byte, with_bytes};
 
 use tls_detection::HEADER_LEN;
 
-/// How many records a stream has, of which no byte is kept.
+/// Counts the records of a stream, without buffering any.
 #[derive(Clone, Copy, Debug, PartialEq, Eq)]
 pub struct Records {
     count: u64,
-    // How many bytes of a header came, and the last of them.
+    // How many bytes of a header have come, and the last of them.
     came: u8,
     last: u8,
-    // How many bytes of a fragment are left.
+    // How many bytes of a fragment are to come.
     left: u16,
 }
 
 impl Records {
-    /// Those of a stream of which nothing came.
+    /// The count of a stream without bytes.
     pub fn new() -> Records
         ensures { result ≡ no_records }
     {
@@ -28,14 +28,14 @@ impl Records {
         }
     }
 
-    /// How many there are, of which the header came.
+    /// The number of records whose header has come.
     pub fn count(&self) -> u64
         ensures { result ≡ self.now.count }
     {
         self.count
     }
 
-    /// One byte of a header.
+    /// Counts one byte of a header.
     fn add_to_header(&mut self, byte: u8)
         requires { self.old.left ≡ 0 }
         ensures { self.new ≡ with_byte byte self.old }
@@ -51,7 +51,7 @@ impl Records {
         self.last = 0;
     }
 
-    /// Counts the records whose headers end in the bytes that come next.
+    /// Counts the records whose headers end in these bytes.
     pub fn add(&mut self, bytes: &[u8])
         ensures { self.new ≡ with_bytes bytes.now self.old }
     {

@@ -1,4 +1,4 @@
-//! One side of an association of DTLS.
+//! One side of a DTLS association.
 ghost use Rattle.std.specs.Prelude.{◌≡◌, OnOk, nat_lt, not};
 ghost use Rattle.std.specs.Option.{option_map};
 ghost use Rattle.tls_records.specs.DtlsRecord.{view_raw_record};
@@ -14,17 +14,17 @@ use tls_base::{TlsHandshakeType, TlsRecordType};
 use tls_flow::Direction;
 use tls_records::DTLSRawRecord;
 
-/// One side.
+/// The state of one side.
 #[derive(Drop)]
 pub(crate) struct Speaker {
     pub(crate) messages: Messages,
-    // Whether a fragment of it was taken, and whether the messages in front of it are missing.
+    // Whether a fragment of it was added, and whether the messages before it are missing.
     pub(crate) is_begun: bool,
     pub(crate) lacks_front: bool,
     pub(crate) progress: Progress,
 }
 
-/// The fragment of a handshake message that stands first in a record.
+/// The handshake fragment that a record begins with.
 pub(crate) fn first_fragment<'a>(record: &DTLSRawRecord<'a>) -> Option<Fragment<'a>>
     ensures { option_map view_fragment result ≡ first (view_raw_record record.now) }
 {
@@ -37,7 +37,7 @@ pub(crate) fn first_fragment<'a>(record: &DTLSRawRecord<'a>) -> Option<Fragment<
     }
 }
 
-/// Whether it is of a ClientHello, a ServerHello or a HelloVerifyRequest.
+/// Whether it belongs to a ClientHello, a ServerHello or a HelloVerifyRequest.
 pub(crate) fn is_hello(fragment: &Fragment<'_>) -> bool
     ensures { result ≡ hello (view_fragment fragment.now) }
 {
@@ -46,7 +46,8 @@ pub(crate) fn is_hello(fragment: &Fragment<'_>) -> bool
         || fragment.msg_type.0 == TlsHandshakeType::HelloVerifyRequest.0
 }
 
-/// Whether it is of a second ClientHello, or of the ServerHello behind a HelloVerifyRequest (RFC 6347, section 4.2.2).
+/// Whether it belongs to a second ClientHello, or to the ServerHello after a HelloVerifyRequest
+/// (RFC 6347, section 4.2.2).
 fn is_behind_front(side: Direction, fragment: &Fragment<'_>) -> bool
     ensures { result ≡ is_behind side (view_fragment fragment.now) }
 {
@@ -58,7 +59,7 @@ fn is_behind_front(side: Direction, fragment: &Fragment<'_>) -> bool
 }
 
 impl Speaker {
-    /// One of which nothing came. It takes no memory.
+    /// A side that has sent nothing. It doesn't allocate.
     pub(crate) fn new(alloc: Global) -> Speaker
         ensures { IsSpoken none_spoken result }
     {
@@ -73,23 +74,25 @@ impl Speaker {
         }
     }
 
-    /// The epoch of the records that its peer takes.
+    /// The epoch of the records that its peer accepts.
     pub(crate) fn epoch(&self) -> u16
         ensures { (p : Spoken) → IsSpoken p self.now → result ≡ epoch_of p }
     {
         if self.progress.has_changed { 1 } else { 0 }
     }
 
-    /// Whether a fragment is of a message that wasn't handed out.
+    /// Whether a fragment's message wasn't delivered yet.
     pub(crate) fn is_new(&self, fragment: &Fragment<'_>) -> bool
-        ensures { (p : Spoken) → IsSpoken p self.now → result ≡ not (nat_lt fragment.now.message_seq p.heard.next) }
+        ensures { (p : Spoken) → IsSpoken p self.now
+            → result ≡ not (nat_lt fragment.now.message_seq p.heard.next) }
     {
         fragment.message_seq as u32 >= self.messages.next_number()
     }
 
-    /// Begins with its first fragment: behind the messages that are missing, where it tells so.
+    /// Begins the side with its first fragment, and after the missing messages if there are any.
     pub(crate) fn begin(&mut self, alloc: Global, side: Direction, first: &Fragment<'_>)
-        ensures { (p : Spoken) → IsSpoken p self.old → IsSpoken (begun side (view_fragment first.now) p) self.new }
+        ensures { (p : Spoken) → IsSpoken p self.old
+            → IsSpoken (begun side (view_fragment first.now) p) self.new }
     {
         if self.is_begun {
             return;
@@ -101,7 +104,7 @@ impl Speaker {
         }
     }
 
-    /// Takes a record of this side, and follows and notes what it says.
+    /// Reads a record of this side, follows its events and updates the summary.
     pub(crate) fn hear<W: Witness>(
         &mut self,
         account: &mut Account,
@@ -111,7 +114,9 @@ impl Speaker {
         witness: &mut W,
     ) -> Result<(), AllocError>
         ensures told { (h : Heard) → Stands allowed h self.old.messages
-            → OnOk result (SpeakerHears side h (view_raw_record record.entry) account.old account.new self.old self.new) }
+            → OnOk result
+            (SpeakerHears side h (view_raw_record record.entry) account.old account.new self.old
+            self.new) }
         ensures same { IsSameSide self.old self.new }
     {
         let mut events = Vec::new(alloc);

@@ -1,12 +1,13 @@
-//! Who hears what both sides say, one event after the other.
+//! Receives both sides' events.
 use std::alloc::AllocError;
 use tls_flow::{Direction, HandshakeMessage};
 use tls_stream::Said;
 use tls_summary::KnownCertificates;
 
-/// Who hears each event of a connection that counts, once it was followed and noted.
+/// Receives each event of a connection that counts, after it was followed and recorded.
 pub trait Witness {
-    /// A side of TLS says this. `message` is the handshake message that it is, with its ServerHello read.
+    /// Receives an event of a TLS side. `message` is its handshake message with the ServerHello
+    /// parsed, if it is one.
     fn hear_said(
         &mut self,
         side: Direction,
@@ -14,7 +15,8 @@ pub trait Witness {
         message: Option<&HandshakeMessage<'_>>,
     ) -> Result<(), AllocError>;
 
-    /// A side of DTLS says this.
+    /// Receives an event of a DTLS side. `message` is its handshake message with the ServerHello
+    /// parsed, if it is one.
     fn hear_event(
         &mut self,
         side: Direction,
@@ -22,13 +24,13 @@ pub trait Witness {
         message: Option<&HandshakeMessage<'_>>,
     ) -> Result<(), AllocError>;
 
-    /// Lends the summaries of certificates that were made before, where it has them: they aren't made again.
+    /// Lends a cache for the summaries of certificates, if there is one.
     fn known_certificates(&mut self) -> Option<&mut KnownCertificates> {
         None
     }
 }
 
-/// Nobody hears.
+/// A witness that ignores every event.
 #[derive(Clone, Copy, Drop)]
 pub struct Nobody;
 
@@ -52,7 +54,7 @@ impl Witness for Nobody {
     }
 }
 
-/// It hears where it is there.
+/// Passes the events on if there is a witness.
 impl<W: Witness> Witness for Option<Box<W>> {
     fn hear_said(
         &mut self,

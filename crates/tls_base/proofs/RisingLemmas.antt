@@ -1,4 +1,4 @@
--- A table whose numbers rise, and the look-up by the place of a number in it.
+-- Look-ups in a table of increasing numbers, by the position of a number.
 use Rattle.std.proofs.Common.{
   ◌≡◌,
   ◌≢◌,
@@ -39,7 +39,7 @@ use Rattle.std.proofs.lemmas.Bool.{ltb-true}
 use Rattle.layouts.proofs.OneAnswerLemmas.{eqb_same, eqb_other}
 use Rattle.tls_base.specs.Names.{look_up}
 
--- each number is above x and above the one before it, as a test
+-- tests that the numbers increase, from x on
 abbrev pub rise : ℕ → List ℕ → Bool
 rise x [] = true
 rise x (y ∷ ys) = cond (nat_lt x y) (rise y ys) false
@@ -58,7 +58,7 @@ rises_from x (y ∷ ys) e (suc k) h =
     rises_from y ys (both (nat_lt x y) (rise y ys) e).1 k bound in
     rw next below
 
--- the test of all numbers, and what it means
+-- tests that all numbers increase, and what the test proves
 abbrev pub rise_all : List ℕ → Bool
 rise_all [] = true
 rise_all (x ∷ xs) = rise x xs
@@ -67,46 +67,55 @@ pub rising : (xs : List ℕ) → rise_all xs ≡ true → IsStrictlyIncreasing x
 rising [] e = λ k h. absurd (omega arith)
 rising (x ∷ xs) e = rises_from x xs e
 
--- the first entry of a table, where its number is n and where it isn't
-here : {A : Type 0} (x n : ℕ) (v : A) (rest : List (ℕ × A)) → x ≡ n → look_up ((x, v) ∷ rest) n ≡ Some v
+-- a look-up at the first entry, if its number is n and if it isn't
+here : {A : Type 0} (x n : ℕ) (v : A) (rest : List (ℕ × A)) → x ≡ n
+    → look_up ((x, v) ∷ rest) n ≡ Some v
 here x n v rest e =
     ap (λ b. option_map (λ y. y.1) (cond b (Some (x, v)) (find (λ y. y.0 == n) rest)))
     (ap (λ m. eqb x m) (sym e) ∙ eqb_same x)
 
-later : {A : Type 0} (x n : ℕ) (v : A) (rest : List (ℕ × A)) → x ≢ n → look_up ((x, v) ∷ rest) n ≡ look_up rest n
+later : {A : Type 0} (x n : ℕ) (v : A) (rest : List (ℕ × A)) → x ≢ n
+    → look_up ((x, v) ∷ rest) n ≡ look_up rest n
 later x n v rest ne =
-    ap (λ b. option_map (λ y. y.1) (cond b (Some (x, v)) (find (λ y. y.0 == n) rest))) (eqb_other x n ne)
+    ap (λ b. option_map (λ y. y.1) (cond b (Some (x, v)) (find (λ y. y.0 == n) rest)))
+    (eqb_other x n ne)
 
--- a number that stands at k alone, and what stands beside it
+-- a number that is only at position k
 pub look_up-zip : {A : Type 0} (ks : List ℕ) (vs : List A) (n k : ℕ) → slice_get ks k ≡ Some n
     → ((j : ℕ) → slice_get ks j ≡ Some n → j ≡ k) → look_up (zip ks vs) n ≡ slice_get vs k
 look_up-zip [] vs n k at alone = absurd cc
 look_up-zip (x ∷ ks) [] n k at alone = refl
 look_up-zip (x ∷ ks) (w ∷ vs) n zero at alone = let same : x ≡ n = cc in here x n w (zip ks vs) same
 look_up-zip (x ∷ ks) (w ∷ vs) n (suc k) at alone =
-    let other : x ≢ n = λ e. let first : zero ≡ suc k = alone zero (ap Some e) in absurd (omega arith) in
+    let other : x ≢ n = λ e. let first : zero ≡ suc k = alone zero (ap Some e) in
+    absurd (omega arith) in
     let rest : (j : ℕ) → slice_get ks j ≡ Some n → j ≡ k = λ j h. omega (arith, alone (suc j) h) in
     later x n w (zip ks vs) other ∙ look_up-zip ks vs n k at rest
 
--- a number that stands nowhere
-pub look_up-nowhere : {A : Type 0} (ks : List ℕ) (vs : List A) (n : ℕ) → ((j : ℕ) → slice_get ks j ≡ Some n → ⊥)
+-- a number that isn't in the table
+pub look_up-nowhere : {A : Type 0} (ks : List ℕ) (vs : List A) (n : ℕ)
+    → ((j : ℕ) → slice_get ks j ≡ Some n → ⊥)
     → look_up (zip ks vs) n ≡ None
 look_up-nowhere [] vs n none = refl
 look_up-nowhere (x ∷ ks) [] n none = refl
 look_up-nowhere (x ∷ ks) (w ∷ vs) n none =
-    later x n w (zip ks vs) (λ e. none zero (ap Some e)) ∙ look_up-nowhere ks vs n (λ j h. none (suc j) h)
+    later x n w (zip ks vs) (λ e. none zero (ap Some e))
+    ∙ look_up-nowhere ks vs n (λ j h. none (suc j) h)
 
--- what stands beside n, by the place of n
+-- what the table has for n, by the position of n
 pub found_beside : {A : Type 0} (ks : List ℕ) (vs : List A) (n k : ℕ)
-    → ((j : ℕ) → (Some k ≡ Some j) ↔ (slice_get ks j ≡ Some n)) → look_up (zip ks vs) n ≡ slice_get vs k
+    → ((j : ℕ) → (Some k ≡ Some j) ↔ (slice_get ks j ≡ Some n))
+    → look_up (zip ks vs) n ≡ slice_get vs k
 found_beside ks vs n k place =
-    look_up-zip ks vs n k ((place k).0 refl) (λ j h. let same : Some k ≡ Some j = (place j).1 h in cc)
+    look_up-zip ks vs n k ((place k).0 refl)
+    (λ j h. let same : Some k ≡ Some j = (place j).1 h in cc)
 
 pub found_nowhere : {A : Type 0} (ks : List ℕ) (vs : List A) (n : ℕ)
     → ((j : ℕ) → (None ≡ Some j) ↔ (slice_get ks j ≡ Some n)) → look_up (zip ks vs) n ≡ None
-found_nowhere ks vs n place = look_up-nowhere ks vs n (λ j h. let never : None ≡ Some j = (place j).1 h in absurd cc)
+found_nowhere ks vs n place =
+    look_up-nowhere ks vs n (λ j h. let never : None ≡ Some j = (place j).1 h in absurd cc)
 
--- what `get` and `copied` give
+-- the result of `get` and `copied`
 pub got : {A : Type 0} (xs : List A) (k : ℕ) (r : Option (Bor A))
     → MatchOption r (length xs ≤ k) (λ x. (k < length xs) × HoldsAt (λ y. x.now ≡ y) xs k)
     → option_copied r ≡ slice_get xs k

@@ -15,7 +15,7 @@ use Rattle.tls_base.specs.declared.cipher.TlsCipherMac.TheVariants as mac
 use Rattle.tls_base.specs.declared.cipher.TlsPRF.{TlsPRF}
 use Rattle.tls_base.specs.declared.cipher.TlsPRF.TheVariants as prf
 
--- The member at that position, counted from 0; a number at which there is none is handed back.
+-- The member at this position, counted from 0; the number itself, as the error, if there is none.
 abbrev pub numbered : {A : Type 0} → List A → ℕ → Result A UnknownNumber
 numbered members n = ok_or (slice_get members n) (record { 0 = n })
 
@@ -41,13 +41,15 @@ modes =
 
 abbrev pub macs : List TlsCipherMac
 macs =
-    mac.Null ∷ mac.HmacMd5 ∷ mac.HmacSha1 ∷ mac.HmacSha256 ∷ mac.HmacSha384 ∷ mac.HmacSha512 ∷ mac.Aead ∷ []
+    mac.Null ∷ mac.HmacMd5 ∷ mac.HmacSha1 ∷ mac.HmacSha256 ∷ mac.HmacSha384 ∷ mac.HmacSha512
+    ∷ mac.Aead ∷ []
 
 abbrev pub functions : List TlsPRF
 functions =
-    prf.Default ∷ prf.Null ∷ prf.Md5AndSha1 ∷ prf.Sha1 ∷ prf.Sha256 ∷ prf.Sha384 ∷ prf.Sha512 ∷ prf.Sm3 ∷ []
+    prf.Default ∷ prf.Null ∷ prf.Md5AndSha1 ∷ prf.Sha1 ∷ prf.Sha256 ∷ prf.Sha384 ∷ prf.Sha512
+    ∷ prf.Sm3 ∷ []
 
--- The length of a block of the cipher, in bytes; 0 for a stream cipher and for none.
+-- The block length of the cipher, in bytes; 0 for a stream cipher, and without encryption.
 abbrev pub block_size : TlsCipherEnc → ℕ
 block_size enc.Null = 0
 block_size enc.Des = 8
@@ -63,7 +65,8 @@ block_size enc.Chacha20_Poly1305 = 0
 block_size enc.Sm4 = 16
 block_size enc.Aegis = 0
 
--- The length of the code that authenticates a record, in bytes; 0 where there is none apart from the cipher.
+-- The length of a record's authentication code, in bytes; 0 if only the cipher authenticates, or
+-- nothing does.
 abbrev pub code_length : TlsCipherMac → ℕ
 code_length mac.Null = 0
 code_length mac.HmacMd5 = 16

@@ -1,6 +1,6 @@
--- The numbers that have a name, type by type: those of the registries that the RFCs keep. The code has the same numbers
--- a second time, as constants of its types, and prints by them what stands here. Those of extensions are in
--- ExtensionNumbers.
+-- The names of constants, type by type, with the numbers of the RFCs' registries. The code has the
+-- same numbers a second time, as constants of its types, and must show them by these names.
+-- Extensions are in ExtensionNumbers.
 use Rattle.std.specs.Prelude.{ℕ, List, [], ◌∷◌, Option, codes}
 use Rattle.tls_base.specs.Names.{Text, look_up}
 
@@ -56,7 +56,8 @@ alert_descriptions =
     ∷ (120, codes "NoApplicationProtocol")
     ∷ []
 
--- The ECCurveType of RFC 4492, section 5.4, of which RFC 8422, section 5.4, deprecates the first two.
+-- The ECCurveType of RFC 4492, section 5.4, of which RFC 8422, section 5.4, deprecates the first
+-- two.
 abbrev pub curve_types : List (ℕ × Text)
 curve_types =
     (1, codes "ExplicitPrime")
@@ -76,8 +77,9 @@ certificate_status_types =
     (1, codes "OCSP")
     ∷ []
 
--- The HandshakeType of RFC 5246, section 7.4, with those of RFC 6347, section 4.3.2, RFC 6066, section 2, and RFC 8446,
--- section 4. HelloRetryRequest is of drafts of TLS 1.3, and NextProtocol of draft-agl-tls-nextprotoneg.
+-- The HandshakeType of RFC 5246, section 7.4, with those of RFC 6347, section 4.3.2, RFC 6066,
+-- section 2, and RFC 8446, section 4. HelloRetryRequest is of drafts of TLS 1.3, and NextProtocol
+-- of draft-agl-tls-nextprotoneg.
 abbrev pub handshake_types : List (ℕ × Text)
 handshake_types =
     (0, codes "HelloRequest")
@@ -149,8 +151,9 @@ signature_algorithms =
     ∷ (8, codes "Ed448")
     ∷ []
 
--- The NamedCurve of RFC 4492, section 5.1.1, of which RFC 8422, section 5.1.1, deprecates 1 to 22, 0xff01 and 0xff02;
--- with the NamedGroup of RFC 8446, section 4.2.7, and the curves of RFC 7027, RFC 8734 and RFC 8998.
+-- The NamedCurve of RFC 4492, section 5.1.1, with the NamedGroup of RFC 8446, section 4.2.7, and
+-- the curves of RFC 7027, RFC 8734 and RFC 8998. RFC 8422, section 5.1.1, deprecates 1 to 22,
+-- 0xff01 and 0xff02.
 abbrev pub named_groups : List (ℕ × Text)
 named_groups =
     (1, codes "Sect163k1")
@@ -196,8 +199,8 @@ named_groups =
     ∷ (0xff02, codes "ArbitraryExplicitChar2Curves")
     ∷ []
 
--- The ProtocolVersion of RFC 5246, section 6.2.1, RFC 6347, section 4.1, and RFC 8446, section 4.1.2, with those of its
--- drafts. There is no DTLS 1.1 (RFC 6347, section 1).
+-- The ProtocolVersion of RFC 5246, section 6.2.1, RFC 6347, section 4.1, and RFC 8446, section
+-- 4.1.2, with those of its drafts. There is no DTLS 1.1 (RFC 6347, section 1).
 abbrev pub protocol_versions : List (ℕ × Text)
 protocol_versions =
     (0x0300, codes "Ssl30")
@@ -241,7 +244,8 @@ signature_schemes =
     ∷ (0x081c, codes "ecdsa_brainpoolP512r1tls13_sha512")
     ∷ []
 
--- The length of a key, in bits, in the named groups 1 to 29: the number in the curve's name, and 253 for X25519.
+-- The length of a key, in bits, of the named groups 1 to 29: the number in the curve's name, and
+-- 253 for X25519.
 abbrev pub key_sizes : List (ℕ × ℕ)
 key_sizes =
     (1, 163) ∷ (2, 163) ∷ (3, 163) ∷ (4, 193) ∷ (5, 193) ∷ (6, 233) ∷ (7, 233)
@@ -251,6 +255,6 @@ key_sizes =
     ∷ (29, 253)
     ∷ []
 
--- The length of a key in that group, where the table has it.
+-- The length of a key in this group, if the table has it.
 abbrev pub key_bits : ℕ → Option ℕ
 key_bits n = look_up key_sizes n

@@ -1,6 +1,9 @@
--- The types of extensions (the ExtensionType of RFC 8446, section 4.2, with those of earlier versions and of drafts):
--- the numbers of those whose content is read, by the names that the RFCs give them, and what each number is shown as.
--- The code has the numbers a second time, as constants, and prints by them what stands here.
+-- The types of extensions: the ExtensionType of RFC 8446, section 4.2, with those of earlier
+-- versions and of drafts.
+--
+-- First come the numbers of those whose content is parsed, by their names in the RFCs, then the
+-- names that the code shows. The code has the numbers a second time, as constants, and must show
+-- them by these names.
 use Rattle.std.specs.Prelude.{ℕ, List, [], ◌∷◌, codes}
 use Rattle.tls_base.specs.Names.{Text}
 
@@ -46,7 +49,7 @@ record_size_limit = 28
 abbrev pub session_ticket : ℕ
 session_ticket = 35
 
--- The key_share of the drafts of TLS 1.3 before the 23rd.
+-- `key_share` of the drafts of TLS 1.3 before draft 23.
 abbrev pub key_share_old : ℕ
 key_share_old = 40
 
@@ -74,19 +77,19 @@ post_handshake_auth = 49
 abbrev pub key_share : ℕ
 key_share = 51
 
--- Of draft-agl-tls-nextprotoneg.
+-- From draft-agl-tls-nextprotoneg.
 abbrev pub next_protocol_negotiation : ℕ
 next_protocol_negotiation = 13172
 
 abbrev pub renegotiation_info : ℕ
 renegotiation_info = 0xff01
 
--- Of early drafts of Encrypted Client Hello.
+-- From early drafts of Encrypted Client Hello.
 abbrev pub encrypted_server_name : ℕ
 encrypted_server_name = 0xffce
 
--- Each number and what it is shown as. Grease is one of the sixteen values of RFC 8701, section 2; the others have no
--- name here.
+-- Each number and its name. Grease is one of the sixteen values of RFC 8701, section 2; the others
+-- have no name here.
 abbrev pub extension_types : List (ℕ × Text)
 extension_types =
     (server_name, codes "ServerName")

@@ -1,5 +1,5 @@
--- Parameters of a key exchange. Where an RFC has a lower bound of 1, as opaque point<1..2^8-1>, these layouts take a
--- block of no bytes too.
+-- Parameters of a key exchange. Where an RFC has a lower bound of 1, as in opaque point<1..2^8-1>,
+-- these layouts accept an empty block too.
 use Rattle.std.specs.Prelude.{ℕ, ◌==◌}
 use Rattle.layouts.specs.Bytes.{Bytes}
 use Rattle.layouts.specs.Layout.{Layout, done, refuse, number, ◌>>=◌, mapped, choose, counted}
@@ -13,8 +13,8 @@ use Rattle.tls_base.specs.declared.ec.ECParametersContent.TheVariants as content
 use Rattle.tls_base.specs.declared.ec.ECParameters as parameters_of
 use Rattle.tls_base.specs.declared.ec.ServerECDHParams as ecdh_params_of
 
--- struct { opaque dh_p<1..2^16-1>; opaque dh_g<1..2^16-1>; opaque dh_Ys<1..2^16-1>; } ServerDHParams (RFC 5246, section
--- 7.4.3).
+-- struct { opaque dh_p<1..2^16-1>; opaque dh_g<1..2^16-1>; opaque dh_Ys<1..2^16-1>; }
+-- ServerDHParams (RFC 5246, section 7.4.3).
 pub record ServerDHParams : Type 0 where
   pub dh_p : Bytes
   pub dh_g : Bytes
@@ -51,7 +51,7 @@ view_point p = p.point.now
 abbrev pub point : Layout Bytes
 point = counted 1
 
--- The parameters of a curve over a prime field, which stand in ECParameters (RFC 4492, section 5.4).
+-- The parameters of a curve over a prime field, in ECParameters (RFC 4492, section 5.4).
 pub record ExplicitPrime : Type 0 where
   pub prime_p : Bytes
   pub curve : ECCurve
@@ -77,7 +77,7 @@ explicit_prime = do
   cofactor ← counted 1
   done (record { prime_p = p; curve = c; base = base; order = order; cofactor = cofactor })
 
--- What stands in ECParameters after its curve_type (RFC 4492, section 5.4, and RFC 8422, section 5.4).
+-- What follows curve_type in ECParameters (RFC 4492, section 5.4, and RFC 8422, section 5.4).
 pub data CurveParameters : Type 0 where
   OfExplicitPrime : ExplicitPrime → CurveParameters
   OfNamedCurve : ℕ → CurveParameters
@@ -93,13 +93,15 @@ curve_parameters curve_type =
     choose (curve_type == 3) (mapped OfNamedCurve (number 2)) (
     refuse Switch))
 
--- struct { ECCurveType curve_type; select (curve_type) { .. }; } ECParameters (RFC 4492, section 5.4).
+-- struct { ECCurveType curve_type; select (curve_type) { .. }; } ECParameters (RFC 4492, section
+-- 5.4).
 pub record ECParameters : Type 0 where
   pub curve_type : ℕ
   pub parameters : CurveParameters
 
 abbrev pub view_ec_parameters : parameters_of.ECParameters → ECParameters
-view_ec_parameters p = record { curve_type = p.curve_type.0; parameters = view_curve_parameters p.params_content }
+view_ec_parameters p =
+    record { curve_type = p.curve_type.0; parameters = view_curve_parameters p.params_content }
 
 unfoldable pub ec_parameters : Layout ECParameters
 ec_parameters = do
@@ -113,7 +115,8 @@ pub record ServerECDHParams : Type 0 where
   pub public : Bytes
 
 abbrev pub view_ecdh_params : ecdh_params_of.ServerECDHParams → ServerECDHParams
-view_ecdh_params p = record { curve_params = view_ec_parameters p.curve_params; public = view_point p.public }
+view_ecdh_params p =
+    record { curve_params = view_ec_parameters p.curve_params; public = view_point p.public }
 
 unfoldable pub ecdh_params : Layout ServerECDHParams
 ecdh_params = do

@@ -1,10 +1,13 @@
--- The names that IANA's registries have for numbers, without the mark that a number is reserved: of content types, handshake types, extensions,
--- alerts, groups and signature schemes. The code has each beside its constant, in one row; this is a second table, written independently, so that a
--- wrong name is refused.
+-- The names in IANA's registries of content types, handshake types, extensions, alerts, groups and
+-- signature schemes, without the remark that a number is reserved.
+--
+-- The code has each name beside its constant, in one row. This is a second table, written
+-- independently, so that a wrong name is refused.
 use Rattle.std.specs.Prelude.{ℕ, List, [], ◌∷◌, codes}
 use Rattle.tls_base.specs.Names.{Text}
 
--- TLS ContentType: RFC 8446, section 11, with RFC 6520, section 7, RFC 9146, section 10, and RFC 9147, section 14.
+-- TLS ContentType: RFC 8446, section 11, with RFC 6520, section 7, RFC 9146, section 10, and RFC
+-- 9147, section 14.
 abbrev pub registered_content_types : List (ℕ × Text)
 registered_content_types =
     (20, codes "change_cipher_spec")
@@ -16,7 +19,8 @@ registered_content_types =
     ∷ (26, codes "ACK")
     ∷ []
 
--- TLS HandshakeType: RFC 8446, section 11, with those of earlier versions, of DTLS (RFC 6347; RFC 9147), and of extensions.
+-- TLS HandshakeType: RFC 8446, section 11, with those of earlier versions, of DTLS (RFC 6347; RFC
+-- 9147), and of extensions.
 abbrev pub registered_handshake_types : List (ℕ × Text)
 registered_handshake_types =
     (0, codes "hello_request")
@@ -160,7 +164,8 @@ registered_alerts =
     ∷ (121, codes "ech_required")
     ∷ []
 
--- TLS Supported Groups: RFC 8446, section 11, and RFC 8447, section 9, with numbers that drafts took and the registry keeps.
+-- TLS Supported Groups: RFC 8446, section 11, and RFC 8447, section 9, with numbers of drafts that
+-- the registry keeps.
 abbrev pub registered_groups : List (ℕ × Text)
 registered_groups =
     (1, codes "sect163k1")
@@ -222,8 +227,9 @@ registered_groups =
     ∷ (0xff02, codes "arbitrary_explicit_char2_curves")
     ∷ []
 
--- TLS SignatureScheme: RFC 8446, section 4.2.3, with the pairs of a hash and a signature of TLS 1.2 that it keeps, by the names that
--- it gives them (RFC 5246, section 7.4.1.4.1: those with MD5 and SHA-224 in the same manner).
+-- TLS SignatureScheme: RFC 8446, section 4.2.3, with the pairs of a hash and a signature of TLS 1.2
+-- that it keeps, by its names for them (RFC 5246, section 7.4.1.4.1: those with MD5 and SHA-224 are
+-- named in the same manner).
 abbrev pub registered_signature_schemes : List (ℕ × Text)
 registered_signature_schemes =
     (0x0401, codes "rsa_pkcs1_sha256")

@@ -13,8 +13,9 @@ view_log_id i = i.key_id.now
 abbrev pub log_id : Layout Bytes
 log_id = block 32
 
--- struct { Version sct_version; LogID id; uint64 timestamp; CtExtensions extensions; digitally-signed struct { .. }; }
--- SignedCertificateTimestamp (RFC 6962, section 3.2), where opaque CtExtensions<0..2^16-1>.
+-- struct { Version sct_version; LogID id; uint64 timestamp; CtExtensions extensions;
+-- digitally-signed struct { .. }; } SignedCertificateTimestamp (RFC 6962, section 3.2), where
+-- opaque CtExtensions<0..2^16-1>.
 pub record SignedCertificateTimestamp : Type 0 where
   pub sct_version : ℕ
   pub id : Bytes
@@ -38,13 +39,20 @@ timestamp = do
   time ← number 8
   extensions ← counted 2
   signature ← signatures.digitally_signed
-  done (record { sct_version = version; id = id; timestamp = time; extensions = extensions; signature = signature })
+  done (record {
+    sct_version = version;
+    id = id;
+    timestamp = time;
+    extensions =
+        extensions;
+    signature = signature;
+  })
 
 -- A SignedCertificateTimestamp within opaque SerializedSCT<1..2^16-1> (RFC 6962, section 3.3).
 abbrev pub serialized_timestamp : Layout SignedCertificateTimestamp
 serialized_timestamp = counted_window 2 timestamp
 
--- struct { SerializedSCT sct_list<1..2^16-1>; } SignedCertificateTimestampList (RFC 6962, section 3.3); an empty list
--- is read too.
+-- struct { SerializedSCT sct_list<1..2^16-1>; } SignedCertificateTimestampList (RFC 6962, section
+-- 3.3). An empty list is accepted too.
 abbrev pub timestamp_list : Layout (List SignedCertificateTimestamp)
 timestamp_list = counted_window 2 (list serialized_timestamp)

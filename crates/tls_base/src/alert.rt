@@ -9,16 +9,16 @@ use layouts::IResult;
 /// An alert (RFC 5246, section 7.2).
 #[derive(Clone, Debug, PartialEq, Drop)]
 pub struct TlsMessageAlert {
-    /// How severe it is: a warning or fatal.
+    /// The severity: warning or fatal.
     pub severity: TlsAlertSeverity,
-    /// What it says.
+    /// The reason for the alert.
     pub code: TlsAlertDescription,
 }
 
 impl TlsMessageAlert {
     /// Reads 1 byte, the severity, and 1 byte, the description.
     ///
-    /// `Incomplete(1)` where either is missing.
+    /// `Incomplete(1)` if either is missing.
     #[tactic(auto, using(layouts::proofs::OneAnswerLemmas::read_allowed), unfolding(crate::specs::Alert::alert))]
     pub fn parse(i: &[u8]) -> IResult<&[u8], Self>
         ensures { Gives view_alert alert i.now result }

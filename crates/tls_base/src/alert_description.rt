@@ -1,4 +1,4 @@
-//! What an alert says.
+//! Descriptions of alerts.
 ghost use Rattle.std.specs.Prelude.{Some, codes, ◌≡◌};
 ghost use Rattle.layouts.specs.Layout.{number};
 ghost use Rattle.layouts.specs.Answers.{Gives};
@@ -11,121 +11,125 @@ use crate::name::{find_name, names, registered, write_name};
 use layouts::{IResult, number1};
 use std::fmt;
 
-/// What an alert says: the AlertDescription of RFC 8446, section 6, with the alerts of earlier versions.
+/// The description of an alert: the AlertDescription of RFC 8446, section 6, with the alerts of
+/// earlier versions.
 #[derive(Clone, Copy, Debug, PartialEq, Eq)]
 pub struct TlsAlertDescription(pub u8);
 
 impl TlsAlertDescription {
-    /// The close_notify of RFC 8446, section 6.1.
+    /// `close_notify` (RFC 8446, section 6.1).
     pub const CloseNotify: TlsAlertDescription = TlsAlertDescription(0);
 
-    /// The unexpected_message of RFC 8446, section 6.2.
+    /// `unexpected_message` (RFC 8446, section 6.2).
     pub const UnexpectedMessage: TlsAlertDescription = TlsAlertDescription(10);
 
-    /// The bad_record_mac of RFC 8446, section 6.2.
+    /// `bad_record_mac` (RFC 8446, section 6.2).
     pub const BadRecordMac: TlsAlertDescription = TlsAlertDescription(20);
 
-    /// The decryption_failed of some versions before TLS 1.2 (RFC 2246, section 7.2.2).
+    /// `decryption_failed` of some versions before TLS 1.2 (RFC 2246, section 7.2.2).
     pub const DecryptionFailed: TlsAlertDescription = TlsAlertDescription(21);
 
-    /// The record_overflow of RFC 8446, section 6.2.
+    /// `record_overflow` (RFC 8446, section 6.2).
     pub const RecordOverflow: TlsAlertDescription = TlsAlertDescription(22);
 
-    /// The decompression_failure of the versions before TLS 1.3 (RFC 5246, section 7.2.2).
+    /// `decompression_failure` of the versions before TLS 1.3 (RFC 5246, section 7.2.2).
     pub const DecompressionFailure: TlsAlertDescription = TlsAlertDescription(30);
 
-    /// The handshake_failure of RFC 8446, section 6.2.
+    /// `handshake_failure` (RFC 8446, section 6.2).
     pub const HandshakeFailure: TlsAlertDescription = TlsAlertDescription(40);
 
-    /// The no_certificate of SSL 3.0 alone (RFC 6101, section 5.4.2).
+    /// `no_certificate` of SSL 3.0 alone (RFC 6101, section 5.4.2).
     pub const NoCertificate: TlsAlertDescription = TlsAlertDescription(41);
 
-    /// The bad_certificate of RFC 8446, section 6.2.
+    /// `bad_certificate` (RFC 8446, section 6.2).
     pub const BadCertificate: TlsAlertDescription = TlsAlertDescription(42);
 
-    /// The unsupported_certificate of RFC 8446, section 6.2.
+    /// `unsupported_certificate` (RFC 8446, section 6.2).
     pub const UnsupportedCertificate: TlsAlertDescription = TlsAlertDescription(43);
 
-    /// The certificate_revoked of RFC 8446, section 6.2.
+    /// `certificate_revoked` (RFC 8446, section 6.2).
     pub const CertificateRevoked: TlsAlertDescription = TlsAlertDescription(44);
 
-    /// The certificate_expired of RFC 8446, section 6.2.
+    /// `certificate_expired` (RFC 8446, section 6.2).
     pub const CertificateExpired: TlsAlertDescription = TlsAlertDescription(45);
 
-    /// The certificate_unknown of RFC 8446, section 6.2.
+    /// `certificate_unknown` (RFC 8446, section 6.2).
     pub const CertificateUnknown: TlsAlertDescription = TlsAlertDescription(46);
 
-    /// The illegal_parameter of RFC 8446, section 6.2.
+    /// `illegal_parameter` (RFC 8446, section 6.2).
     pub const IllegalParameter: TlsAlertDescription = TlsAlertDescription(47);
 
-    /// The unknown_ca of RFC 8446, section 6.2.
+    /// `unknown_ca` (RFC 8446, section 6.2).
     pub const UnknownCa: TlsAlertDescription = TlsAlertDescription(48);
 
-    /// The access_denied of RFC 8446, section 6.2.
+    /// `access_denied` (RFC 8446, section 6.2).
     pub const AccessDenied: TlsAlertDescription = TlsAlertDescription(49);
 
-    /// The decode_error of RFC 8446, section 6.2.
+    /// `decode_error` (RFC 8446, section 6.2).
     pub const DecodeError: TlsAlertDescription = TlsAlertDescription(50);
 
-    /// The decrypt_error of RFC 8446, section 6.2.
+    /// `decrypt_error` (RFC 8446, section 6.2).
     pub const DecryptError: TlsAlertDescription = TlsAlertDescription(51);
 
-    /// The export_restriction of some versions before TLS 1.2 (RFC 2246, section 7.2.2).
+    /// `export_restriction` of some versions before TLS 1.2 (RFC 2246, section 7.2.2).
     pub const ExportRestriction: TlsAlertDescription = TlsAlertDescription(60);
 
-    /// The protocol_version of RFC 8446, section 6.2.
+    /// `protocol_version` (RFC 8446, section 6.2).
     pub const ProtocolVersion: TlsAlertDescription = TlsAlertDescription(70);
 
-    /// The insufficient_security of RFC 8446, section 6.2.
+    /// `insufficient_security` (RFC 8446, section 6.2).
     pub const InsufficientSecurity: TlsAlertDescription = TlsAlertDescription(71);
 
-    /// The internal_error of RFC 8446, section 6.2.
+    /// `internal_error` (RFC 8446, section 6.2).
     pub const InternalError: TlsAlertDescription = TlsAlertDescription(80);
 
-    /// The inappropriate_fallback of RFC 7507: the client came back with a lower version than the server has.
+    /// `inappropriate_fallback` (RFC 7507): the client retried with a lower version than the server
+    /// supports.
     pub const InappropriateFallback: TlsAlertDescription = TlsAlertDescription(86);
 
-    /// The user_canceled of RFC 8446, section 6.1.
+    /// `user_canceled` (RFC 8446, section 6.1).
     pub const UserCancelled: TlsAlertDescription = TlsAlertDescription(90);
 
-    /// The no_renegotiation of the versions before TLS 1.3 (RFC 5246, section 7.2.2).
+    /// `no_renegotiation` of the versions before TLS 1.3 (RFC 5246, section 7.2.2).
     pub const NoRenegotiation: TlsAlertDescription = TlsAlertDescription(100);
 
-    /// The missing_extension of RFC 8446, section 6.2.
+    /// `missing_extension` (RFC 8446, section 6.2).
     pub const MissingExtension: TlsAlertDescription = TlsAlertDescription(109);
 
-    /// The unsupported_extension of RFC 8446, section 6.2.
+    /// `unsupported_extension` (RFC 8446, section 6.2).
     pub const UnsupportedExtension: TlsAlertDescription = TlsAlertDescription(110);
 
-    /// The certificate_unobtainable of RFC 6066, section 9: the certificate could not be fetched.
+    /// `certificate_unobtainable` (RFC 6066, section 9): the certificate could not be fetched.
     pub const CertUnobtainable: TlsAlertDescription = TlsAlertDescription(111);
 
-    /// The unrecognized_name of RFC 6066, section 9.
+    /// `unrecognized_name` (RFC 6066, section 9).
     pub const UnrecognizedName: TlsAlertDescription = TlsAlertDescription(112);
 
-    /// The bad_certificate_status_response of RFC 6066, section 9.
+    /// `bad_certificate_status_response` (RFC 6066, section 9).
     pub const BadCertStatusResponse: TlsAlertDescription = TlsAlertDescription(113);
 
-    /// The bad_certificate_hash_value of RFC 6066, section 9: the fetched certificate has another hash.
+    /// `bad_certificate_hash_value` (RFC 6066, section 9): the fetched certificate has another
+    /// hash.
     pub const BadCertHashValue: TlsAlertDescription = TlsAlertDescription(114);
 
-    /// The unknown_psk_identity of RFC 4279.
+    /// `unknown_psk_identity` (RFC 4279).
     pub const UnknownPskIdentity: TlsAlertDescription = TlsAlertDescription(115);
 
-    /// The certificate_required of RFC 8446, section 6.2.
+    /// `certificate_required` (RFC 8446, section 6.2).
     pub const CertificateRequired: TlsAlertDescription = TlsAlertDescription(116);
 
-    /// The no_application_protocol of RFC 7301, section 3.2.
+    /// `no_application_protocol` (RFC 7301, section 3.2).
     pub const NoApplicationProtocol: TlsAlertDescription = TlsAlertDescription(120);
 
-    /// The name that IANA's registry of alerts has for the number, without a mark that it is reserved; `None` where it has none.
+    /// Returns the number's name in IANA's registry of alerts, without the remark that it is
+    /// reserved; `None` if it has none.
     pub fn registered_name(self) -> Option<&'static str>
         ensures { option_map (λ t. t.now) result ≡ look_up registered_alerts self.0 }
     {
         find_name(REGISTERED, self.0 as u16)
     }
 
-    /// Reads 1 byte. `Incomplete(1)` where there is none.
+    /// Reads 1 byte. `Incomplete(1)` if there is none.
     pub fn parse(i: &[u8]) -> IResult<&[u8], Self>
         ensures { Gives (λ v. v.0) (number 1) i.now result }
     {
@@ -134,7 +138,8 @@ impl TlsAlertDescription {
     }
 }
 
-/// The registry of alerts: a row for each number that has a constant or a name there, in the order of the numbers.
+/// The registry of alerts, in increasing order: a row for each number with a constant or a
+/// registered name.
 macro_rules! rows {
     ($column:ident) => {
         $column! {
@@ -179,10 +184,10 @@ macro_rules! rows {
     };
 }
 
-/// The constants, each with its number and its name.
+/// The constants, each as its number and its name.
 static NAMES: &[(u16, &str)] = rows!(names);
 
-/// The names of the registry, each behind its number.
+/// The registry's names, each after its number.
 static REGISTERED: &[(u16, &str)] = rows!(registered);
 
 impl fmt::Display for TlsAlertDescription {

@@ -1,4 +1,4 @@
-//! How severe an alert is.
+//! Severities of alerts.
 ghost use Rattle.std.specs.Prelude.{Some, codes};
 ghost use Rattle.layouts.specs.Layout.{number};
 ghost use Rattle.layouts.specs.Answers.{Gives};
@@ -9,18 +9,18 @@ use crate::name::{names, write_name};
 use layouts::{IResult, number1};
 use std::fmt;
 
-/// How severe an alert is: the AlertLevel of RFC 5246, section 7.2.
+/// The severity of an alert: the AlertLevel of RFC 5246, section 7.2.
 #[derive(Clone, Copy, Debug, PartialEq, Eq)]
 pub struct TlsAlertSeverity(pub u8);
 
 impl TlsAlertSeverity {
-    /// The warning of RFC 5246, section 7.2: the sender may go on.
+    /// `warning` (RFC 5246, section 7.2): the sender may continue.
     pub const Warning: TlsAlertSeverity = TlsAlertSeverity(1);
 
-    /// The fatal of RFC 5246, section 7.2: the connection ends.
+    /// `fatal` (RFC 5246, section 7.2): the connection ends.
     pub const Fatal: TlsAlertSeverity = TlsAlertSeverity(2);
 
-    /// Reads 1 byte. `Incomplete(1)` where there is none.
+    /// Reads 1 byte. `Incomplete(1)` if there is none.
     pub fn parse(i: &[u8]) -> IResult<&[u8], Self>
         ensures { Gives (λ v. v.0) (number 1) i.now result }
     {
@@ -29,7 +29,7 @@ impl TlsAlertSeverity {
     }
 }
 
-/// The constants, each with its number and its name.
+/// The constants, each as its number and its name.
 static NAMES: &[(u16, &str)] = names!(TlsAlertSeverity: Warning, Fatal);
 
 impl fmt::Display for TlsAlertSeverity {

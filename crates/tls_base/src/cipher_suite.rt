@@ -7,12 +7,12 @@ use crate::cipher::{
 };
 use crate::cipher_suite_id::TlsCipherSuiteID;
 
-/// A cipher suite, with its parameters.
+/// A cipher suite with its parameters.
 #[derive(Clone, Debug, PartialEq, Eq, Drop)]
 pub struct TlsCipherSuite {
-    /// The name in the registry of cipher suites.
+    /// The suite's name in the registry of cipher suites.
     pub name: &'static str,
-    /// The number in that registry.
+    /// The suite's number in that registry.
     pub id: TlsCipherSuiteID,
     /// The key exchange.
     pub kx: TlsCipherKx,
@@ -22,25 +22,26 @@ pub struct TlsCipherSuite {
     pub enc: TlsCipherEnc,
     /// The mode of the encryption.
     pub enc_mode: TlsCipherEncMode,
-    /// The length of a key of the encryption, in bits.
+    /// The key length of the encryption, in bits.
     pub enc_size: u16,
     /// The authentication of records.
     pub mac: TlsCipherMac,
-    /// The length of the code that authenticates a record, in bits.
+    /// The length of a record's authentication code, in bits.
     pub mac_size: u16,
     /// The pseudorandom function.
     pub prf: TlsPRF,
 }
 
 impl TlsCipherSuite {
-    /// The length of a key of the encryption, in bytes.
+    /// Returns the key length of the encryption, in bytes.
     pub const fn enc_key_size(&self) -> usize
         ensures { result ≡ self.now.enc_size / 8 }
     {
         (self.enc_size / 8) as usize
     }
 
-    /// The length of a block of the encryption, in bytes; 0 for a stream cipher and where nothing is encrypted.
+    /// Returns the block length of the encryption, in bytes; 0 for a stream cipher, and without
+    /// encryption.
     pub const fn enc_block_size(&self) -> usize
         ensures { result ≡ block_size self.now.enc }
     {
@@ -59,7 +60,8 @@ impl TlsCipherSuite {
         }
     }
 
-    /// The length of the code that authenticates a record, in bytes; 0 where the encryption does so, or nothing does.
+    /// Returns the length of a record's authentication code, in bytes; 0 if the cipher
+    /// authenticates records, or nothing does.
     pub const fn mac_length(&self) -> usize
         ensures { result ≡ code_length self.now.mac }
     {

@@ -10,15 +10,14 @@ use std::alloc::Global;
 use std::fmt;
 use std::ops::Deref;
 
-/// The number of a cipher suite: the CipherSuite of RFC 5246, section 7.4.1.2, its two bytes as one number,
-/// big-endian.
+/// The number of a cipher suite: the CipherSuite of RFC 5246, section 7.4.1.2, 2 bytes, big-endian.
 #[derive(Clone, Copy, Debug, Default, PartialEq, Eq)]
 pub struct TlsCipherSuiteID(pub u16);
 
 impl TlsCipherSuiteID {
-    /// The number in lower-case hexadecimal, without a prefix and without leading zeros.
+    /// Returns the number in lower-case hexadecimal, without prefix and leading zeros.
     ///
-    /// Refused only where memory runs out.
+    /// Fails only if memory runs out.
     pub fn lower_hex(&self, alloc: Global) -> Result<String, OutOfMemory>
         ensures { IfOk result (λ s. string_bytes s ≡ hexadecimal self.now.0) }
     {
@@ -26,14 +25,14 @@ impl TlsCipherSuiteID {
         Ok(format!(in alloc; "{n:x}")?)
     }
 
-    /// The number.
+    /// Returns the number.
     pub fn as_ref(&self) -> &u16
         ensures { result.now ≡ self.now.0 }
     {
         &self.0
     }
 
-    /// Reads 2 bytes, big-endian. `Incomplete` of the bytes that are missing, 2 or 1.
+    /// Reads 2 bytes, big-endian. `Incomplete` with the number of missing bytes, 2 or 1.
     pub fn parse(i: &[u8]) -> IResult<&[u8], Self>
         ensures { Gives (λ v. v.0) (number 2) i.now result }
     {

@@ -1,4 +1,4 @@
-//! Tables of cipher suites, in which one is found by its id or its name.
+//! Tables of cipher suites, searched by id or name.
 ghost use Rattle.std.specs.Prelude.{◌≡◌, List, MatchOption, MatchResult, IsErr};
 ghost use Rattle.std.specs.Option.{option_map};
 ghost use Rattle.std.specs.Result.{IsOkAnd};
@@ -11,7 +11,7 @@ use std::error::Error;
 use std::fmt;
 use std::marker::Model;
 
-/// Why a list of suites is no table. Positions are counted from 0.
+/// Why a list of suites can't be a table. Positions are counted from 0.
 #[derive(Debug, PartialEq, Drop)]
 pub enum CipherTableFault {
     /// The suite at this position has the id of an earlier one.
@@ -37,16 +37,16 @@ impl fmt::Display for CipherTableFault {
 
 impl Error for CipherTableFault {}
 
-/// A list of suites that is no table, and why.
+/// A list of suites that can't be a table, and why.
 #[derive(Debug, PartialEq, Drop)]
 pub struct CipherTableError {
     /// The first fault.
     pub fault: CipherTableFault,
-    /// The list, as it was handed in.
+    /// The list that was passed in.
     pub list: Vec<TlsCipherSuite>,
 }
 
-/// Says what its fault says.
+/// Shows the fault.
 impl fmt::Display for CipherTableError {
     fn fmt<W: fmt::Write>(&self, f: &mut fmt::Formatter<W>) -> fmt::Result {
         self.fault.fmt(f)
@@ -55,7 +55,7 @@ impl fmt::Display for CipherTableError {
 
 impl Error for CipherTableError {}
 
-/// No suite has the id or the name that was asked for.
+/// No suite in the table has this id or name.
 #[derive(Debug, Drop)]
 pub struct CipherSuiteNotFound(());
 
@@ -67,7 +67,7 @@ impl fmt::Display for CipherSuiteNotFound {
 
 impl Error for CipherSuiteNotFound {}
 
-/// Cipher suites, no two of which have the same id or the same name.
+/// A table of cipher suites with distinct ids and distinct names.
 #[derive(Drop)]
 pub struct CipherTable {
     list: Vec<TlsCipherSuite>,
@@ -81,21 +81,22 @@ impl Model for CipherTable {
     ghost invariant = { λ t. Differ t.list.items };
 }
 
-/// Whether one of the suites has that id.
+/// Returns whether one of the suites has this id.
 fn any_has_id(suites: &[TlsCipherSuite], id: u16) -> bool
     ensures { result ≡ has_id suites.now id }
 {
     suites.iter().any(|s| s.id.0 == id)
 }
 
-/// Whether one of the suites has that name.
+/// Returns whether one of the suites has this name.
 fn any_has_name(suites: &[TlsCipherSuite], name: &str) -> bool
     ensures { result ≡ has_name suites.now name.now }
 {
     suites.iter().any(|s| s.name == name)
 }
 
-/// The first position whose id or name an earlier one has; the id is tested before the name.
+/// Returns the first suite with the id or the name of an earlier one. The id is tested before the
+/// name.
 fn first_fault(suites: &[TlsCipherSuite]) -> Option<CipherTableFault>
     ensures { MatchOption result (Differ suites.now) (IsFirstFault suites.now) }
 {
@@ -111,10 +112,10 @@ fn first_fault(suites: &[TlsCipherSuite]) -> Option<CipherTableFault>
 }
 
 impl CipherTable {
-    /// The table of these suites. It allocates nothing.
+    /// Makes a table of these suites. Allocates nothing.
     ///
-    /// Refused where a suite has the id or the name of an earlier one: the fault is the first such position, counted
-    /// from 0, told by its id where both are repeated, and the list is handed back.
+    /// Refuses a suite with the id or the name of an earlier one, and hands the list back. The
+    /// fault is the first such position, counted from 0; if that repeats both, the id is reported.
     pub fn new(list: Vec<TlsCipherSuite>) -> Result<CipherTable, CipherTableError>
         ensures { MatchResult result
             (λ table. Differ list.items × (table ≡ list.items))
@@ -126,61 +127,64 @@ impl CipherTable {
         }
     }
 
-    /// The suites, in the order in which they were handed in.
+    /// Returns the suites, in the order in which they were passed in.
     pub fn suites(&self) -> &[TlsCipherSuite]
         ensures { result.now ≡ self.now }
     {
         &self.list
     }
 
-    /// The suite that has the id, if there is one.
+    /// Returns the suite with this id, if there is one.
     pub fn by_id(&self, id: u16) -> Option<&TlsCipherSuite>
         ensures { option_map (λ s. s.now) result ≡ suite_of_id self.now id }
     {
         self.list.iter().find(|s| s.id.0 == id)
     }
 
-    /// The suite that has the name, if there is one.
+    /// Returns the suite with this name, if there is one.
     fn by_name(&self, name: &str) -> Option<&TlsCipherSuite>
         ensures { option_map (λ s. s.now) result ≡ suite_of_name self.now name.now }
     {
         self.list.iter().find(|s| s.name == name)
     }
 
-    /// The suite that has the id. Refused where there is none.
+    /// Returns the suite with this id. Refuses an id that no suite has.
     pub fn try_from_u16(&self, id: u16) -> Result<&TlsCipherSuite, CipherSuiteNotFound>
-        ensures { MatchOption (suite_of_id self.now id) (IsErr result) (λ s. IsOkAnd result (λ r. r.now ≡ s)) }
+        ensures { MatchOption (suite_of_id self.now id) (IsErr result)
+            (λ s. IsOkAnd result (λ r. r.now ≡ s)) }
     {
         self.by_id(id).ok_or(CipherSuiteNotFound(()))
     }
 
-    /// The suite that has the id. Refused where there is none.
+    /// Returns the suite with this id. Refuses an id that no suite has.
     pub fn try_from_id(&self, id: TlsCipherSuiteID) -> Result<&TlsCipherSuite, CipherSuiteNotFound>
-        ensures { MatchOption (suite_of_id self.now id.0) (IsErr result) (λ s. IsOkAnd result (λ r. r.now ≡ s)) }
+        ensures { MatchOption (suite_of_id self.now id.0) (IsErr result)
+            (λ s. IsOkAnd result (λ r. r.now ≡ s)) }
     {
         self.try_from_u16(id.0)
     }
 
-    /// The suite that has the name. Refused where there is none.
+    /// Returns the suite with this name. Refuses a name that no suite has.
     pub fn try_from_name<'a>(
         &'a self,
         name: &str,
     ) -> Result<&'a TlsCipherSuite, CipherSuiteNotFound>
-        ensures { MatchOption (suite_of_name self.now name.now) (IsErr result) (λ s. IsOkAnd result (λ r. r.now ≡ s)) }
+        ensures { MatchOption (suite_of_name self.now name.now) (IsErr result)
+            (λ s. IsOkAnd result (λ r. r.now ≡ s)) }
     {
         self.by_name(name).ok_or(CipherSuiteNotFound(()))
     }
 }
 
 impl TlsCipherSuite {
-    /// The suite of the table that has the id, if there is one.
+    /// Returns the table's suite with this id, if there is one.
     pub fn from_id(table: &CipherTable, id: u16) -> Option<&TlsCipherSuite>
         ensures { option_map (λ s. s.now) result ≡ suite_of_id table.now id }
     {
         table.by_id(id)
     }
 
-    /// The suite of the table that has the name, if there is one.
+    /// Returns the table's suite with this name, if there is one.
     pub fn from_name<'a>(table: &'a CipherTable, name: &str) -> Option<&'a TlsCipherSuite>
         ensures { option_map (λ s. s.now) result ≡ suite_of_name table.now name.now }
     {
@@ -189,7 +193,7 @@ impl TlsCipherSuite {
 }
 
 impl TlsCipherSuiteID {
-    /// The suite of the table that has this id, if there is one.
+    /// Returns the table's suite with this id, if there is one.
     pub fn get_ciphersuite(self, table: &CipherTable) -> Option<&TlsCipherSuite>
         ensures { option_map (λ s. s.now) result ≡ suite_of_id table.now self.0 }
     {

@@ -15,20 +15,20 @@ use std::ops::Deref;
 pub struct TlsCompressionID(pub u8);
 
 impl TlsCompressionID {
-    /// No compression: the null of RFC 5246, section 6.1.
+    /// `null` (RFC 5246, section 6.1): no compression.
     pub const Null: TlsCompressionID = TlsCompressionID(0);
 
-    /// The DEFLATE of RFC 3749, section 2.
+    /// `DEFLATE` (RFC 3749, section 2).
     pub const Deflate: TlsCompressionID = TlsCompressionID(1);
 
-    /// The number.
+    /// Returns the number.
     pub fn as_ref(&self) -> &u8
         ensures { result.now ≡ self.now.0 }
     {
         &self.0
     }
 
-    /// Reads 1 byte. `Incomplete(1)` where there is none.
+    /// Reads 1 byte. `Incomplete(1)` if there is none.
     pub fn parse(i: &[u8]) -> IResult<&[u8], Self>
         ensures { Gives (λ v. v.0) (number 1) i.now result }
     {
@@ -69,7 +69,7 @@ impl Number for TlsCompressionID {
     }
 }
 
-/// The constants, each with its number and its name.
+/// The constants, each as its number and its name.
 static NAMES: &[(u16, &str)] = names!(TlsCompressionID: Null, Deflate);
 
 impl fmt::Display for TlsCompressionID {

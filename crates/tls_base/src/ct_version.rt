@@ -14,10 +14,10 @@ use std::fmt;
 pub struct CtVersion(pub u8);
 
 impl CtVersion {
-    /// The v1 of RFC 6962, section 3.2.
+    /// `v1` (RFC 6962, section 3.2).
     pub const V1: CtVersion = CtVersion(0);
 
-    /// Reads 1 byte. `Incomplete(1)` where there is none.
+    /// Reads 1 byte. `Incomplete(1)` if there is none.
     pub fn parse(i: &[u8]) -> IResult<&[u8], Self>
         ensures { Gives (λ v. v.0) (number 1) i.now result }
     {
@@ -26,7 +26,7 @@ impl CtVersion {
     }
 }
 
-/// The constants, each with its number and its name.
+/// The constants, each as its number and its name.
 static NAMES: &[(u16, &str)] = names!(CtVersion: V1);
 
 impl fmt::Display for CtVersion {

@@ -1,4 +1,4 @@
-//! How the curve of a key exchange is given.
+//! Types of curves in a key exchange.
 ghost use Rattle.std.specs.Prelude.{Some, codes};
 ghost use Rattle.layouts.specs.Layout.{number};
 ghost use Rattle.layouts.specs.Answers.{Gives};
@@ -9,21 +9,22 @@ use crate::name::{names, write_name};
 use layouts::{IResult, number1};
 use std::fmt;
 
-/// How the curve of a key exchange is given: the ECCurveType of RFC 4492, section 5.4.
+/// How a key exchange gives its curve: the ECCurveType of RFC 4492, section 5.4.
 #[derive(Clone, Copy, PartialEq, Eq)]
 pub struct ECCurveType(pub u8);
 
 impl ECCurveType {
-    /// By the parameters of a curve over a prime field; RFC 8422, section 5.4, deprecates it.
+    /// The parameters of a curve over a prime field. RFC 8422, section 5.4, deprecates it.
     pub const ExplicitPrime: ECCurveType = ECCurveType(1);
 
-    /// By the parameters of a curve over a field of characteristic 2; RFC 8422, section 5.4, deprecates it.
+    /// The parameters of a curve over a field of characteristic 2. RFC 8422, section 5.4,
+    /// deprecates it.
     pub const ExplicitChar2: ECCurveType = ECCurveType(2);
 
-    /// By its number (RFC 8422, section 5.4).
+    /// The number of the curve (RFC 8422, section 5.4).
     pub const NamedGroup: ECCurveType = ECCurveType(3);
 
-    /// Reads 1 byte. `Incomplete(1)` where there is none.
+    /// Reads 1 byte. `Incomplete(1)` if there is none.
     pub fn parse(i: &[u8]) -> IResult<&[u8], Self>
         ensures { Gives (λ v. v.0) (number 1) i.now result }
     {
@@ -32,7 +33,7 @@ impl ECCurveType {
     }
 }
 
-/// The constants, each with its number and its name.
+/// The constants, each as its number and its name.
 static NAMES: &[(u16, &str)] = names!(ECCurveType: ExplicitPrime, ExplicitChar2, NamedGroup);
 
 impl fmt::Display for ECCurveType {

@@ -1,11 +1,11 @@
-//! Parameters of a Diffie-Hellman key exchange over the integers.
+//! Parameters of finite-field Diffie-Hellman.
 ghost use Rattle.layouts.specs.Answers.{Gives};
 ghost use Rattle.tls_base.specs.KeyExchange.{view_dh_params, dh_params};
 
 use layouts::{IResult, counted2};
 
-/// What a server sends for a Diffie-Hellman key exchange (RFC 5246, section 7.4.3). All numbers are big-endian, of any
-/// length.
+/// The server's Diffie-Hellman parameters (RFC 5246, section 7.4.3). All numbers are big-endian, of
+/// any length.
 #[derive(Debug, PartialEq, Drop)]
 pub struct ServerDHParams<'a> {
     /// The prime modulus.
@@ -17,10 +17,10 @@ pub struct ServerDHParams<'a> {
 }
 
 impl<'a> ServerDHParams<'a> {
-    /// Reads three blocks, each after 2 bytes of length, big-endian: the modulus, the generator, the public value. It
-    /// takes empty ones too.
+    /// Reads the modulus, the generator and the public value: three blocks, each after 2 bytes of
+    /// length, big-endian. Accepts empty blocks.
     ///
-    /// `Incomplete` of the bytes that are missing of the first length or block that isn't whole.
+    /// `Incomplete` with the bytes missing from the first incomplete length or block.
     #[tactic(auto, using(layouts::proofs::OneAnswerLemmas::read_allowed), unfolding(crate::specs::KeyExchange::dh_params))]
     pub fn parse(i: &'a [u8]) -> IResult<&'a [u8], Self>
         ensures { Gives view_dh_params dh_params i.now result }
@@ -32,7 +32,7 @@ impl<'a> ServerDHParams<'a> {
     }
 }
 
-/// Reads what a server sends for a Diffie-Hellman key exchange, as [`ServerDHParams::parse`].
+/// Reads the server's Diffie-Hellman parameters, as [`ServerDHParams::parse`].
 pub fn parse_dh_params(i: &[u8]) -> IResult<&[u8], ServerDHParams>
     ensures { Gives view_dh_params dh_params i.now result }
 {

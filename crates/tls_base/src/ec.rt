@@ -1,4 +1,4 @@
-//! Parameters of a Diffie-Hellman key exchange over elliptic curves.
+//! Parameters of elliptic-curve Diffie-Hellman.
 #![tactic(auto, using(layouts::proofs::OneAnswerLemmas::read_allowed), unfolding(crate::specs::KeyExchange::curve, crate::specs::KeyExchange::explicit_prime, crate::specs::KeyExchange::curve_parameters, crate::specs::KeyExchange::ec_parameters, crate::specs::KeyExchange::ecdh_params))]
 
 ghost use Rattle.std.specs.Prelude.{map};
@@ -12,7 +12,8 @@ use layouts::{ErrorKind, IResult, counted1, pairs, refused};
 use std::alloc::Global;
 use std::fmt;
 
-/// The coefficients of an elliptic curve (RFC 4492, section 5.4). RFC 8422 deprecates curves that are given so.
+/// The coefficients of an elliptic curve (RFC 4492, section 5.4). RFC 8422 deprecates curves given
+/// by parameters.
 #[derive(Debug, PartialEq, Drop)]
 pub struct ECCurve<'a> {
     /// The coefficient a of the curve, big-endian.
@@ -22,9 +23,9 @@ pub struct ECCurve<'a> {
 }
 
 impl<'a> ECCurve<'a> {
-    /// Reads two blocks, each after 1 byte of length, and takes empty ones too.
+    /// Reads the two coefficients, each a block after 1 byte of length. Accepts empty blocks.
     ///
-    /// `Incomplete` of the bytes that are missing of the first length or block that isn't whole.
+    /// `Incomplete` with the bytes missing from the first incomplete length or block.
     pub fn parse(i: &'a [u8]) -> IResult<&'a [u8], Self>
         ensures { Gives view_curve curve_layout i.now result }
     {
@@ -37,14 +38,14 @@ impl<'a> ECCurve<'a> {
 /// A point of an elliptic curve (RFC 8422, section 5.4).
 #[derive(Clone, Debug, PartialEq, Drop)]
 pub struct ECPoint<'a> {
-    /// The point's bytes, in the format that their first byte says.
+    /// The point's bytes. The first one gives their format.
     pub point: &'a [u8],
 }
 
 impl<'a> ECPoint<'a> {
-    /// Reads a block after 1 byte of length, and takes an empty one too.
+    /// Reads a block after 1 byte of length. Accepts an empty block.
     ///
-    /// `Incomplete` of the bytes that are missing of the length, or else of the block.
+    /// `Incomplete` with the bytes missing from the length, or else from the block.
     pub fn parse(i: &'a [u8]) -> IResult<&'a [u8], Self>
         ensures { Gives view_point point_layout i.now result }
     {
@@ -53,7 +54,8 @@ impl<'a> ECPoint<'a> {
     }
 }
 
-/// A curve over a prime field that is given by its parameters (RFC 4492, section 5.4; RFC 8422 deprecates it).
+/// A curve over a prime field, given by its parameters (RFC 4492, section 5.4; RFC 8422 deprecates
+/// it).
 #[derive(Debug, PartialEq, Drop)]
 pub struct ExplicitPrimeContent<'a> {
     /// The prime.
@@ -69,10 +71,10 @@ pub struct ExplicitPrimeContent<'a> {
 }
 
 impl<'a> ExplicitPrimeContent<'a> {
-    /// Reads six blocks, each after 1 byte of length: the prime, the two coefficients, the base point, its order, its
-    /// cofactor. It takes empty ones too.
+    /// Reads six blocks, each after 1 byte of length: the prime, the two coefficients, the base
+    /// point, its order, its cofactor. Accepts empty blocks.
     ///
-    /// `Incomplete` of the bytes that are missing of the first length or block that isn't whole.
+    /// `Incomplete` with the bytes missing from the first incomplete length or block.
     pub fn parse(i: &'a [u8]) -> IResult<&'a [u8], Self>
         ensures { Gives view_explicit_prime explicit_prime i.now result }
     {
@@ -92,7 +94,8 @@ impl<'a> ExplicitPrimeContent<'a> {
     }
 }
 
-/// The curve of a key exchange, by its parameters (RFC 4492, section 5.4) or by its number (RFC 8422, section 5.4).
+/// The curve of a key exchange, given by its parameters (RFC 4492, section 5.4) or its number (RFC
+/// 8422, section 5.4).
 #[derive(Debug, PartialEq, Drop)]
 pub enum ECParametersContent<'a> {
     ExplicitPrime(ExplicitPrimeContent<'a>),
@@ -100,10 +103,11 @@ pub enum ECParametersContent<'a> {
 }
 
 impl<'a> ECParametersContent<'a> {
-    /// Reads what stands after that type of curve: for an explicit prime an [`ExplicitPrimeContent`], for a named curve
-    /// the 2 bytes of its number, big-endian.
+    /// Reads the curve for a type: an [`ExplicitPrimeContent`] for an explicit prime, 2 bytes
+    /// (big-endian) for a named curve.
     ///
-    /// `Error` of kind `Switch` for any other type; else `Incomplete` of the bytes that are missing.
+    /// `Error` of kind `Switch` for any other type, else `Incomplete` with the number of missing
+    /// bytes.
     pub fn parse(i: &'a [u8], curve_type: ECCurveType) -> IResult<&'a [u8], Self>
         ensures { Gives view_curve_parameters (curve_parameters curve_type.0) i.now result }
     {
@@ -121,19 +125,19 @@ impl<'a> ECParametersContent<'a> {
     }
 }
 
-/// The curve of a key exchange, after the type that says how it is given (RFC 8422, section 5.4).
+/// The curve of a key exchange, with its type (RFC 8422, section 5.4).
 #[derive(PartialEq, Drop)]
 pub struct ECParameters<'a> {
     /// How the curve is given.
     pub curve_type: ECCurveType,
-    /// The curve, in that form.
+    /// The curve, in the form of its type.
     pub params_content: ECParametersContent<'a>,
 }
 
 impl<'a> ECParameters<'a> {
-    /// Reads 1 byte, the type of the curve, and what stands after that type, as [`ECParametersContent::parse`].
+    /// Reads 1 byte, the curve's type, then the curve, as [`ECParametersContent::parse`].
     ///
-    /// `Incomplete(1)` where there is no byte; then as that call refuses.
+    /// `Incomplete(1)` if there is no byte; further refusals are those of that call.
     pub fn parse(i: &'a [u8]) -> IResult<&'a [u8], Self>
         ensures { Gives view_ec_parameters ec_parameters i.now result }
     {
@@ -147,7 +151,7 @@ impl<'a> ECParameters<'a> {
     }
 }
 
-/// Shows the type of the curve as its number.
+/// Shows the curve's type as its number.
 impl fmt::Debug for ECParameters<'_> {
     fn fmt<W: fmt::Write>(&self, f: &mut fmt::Formatter<W>) -> fmt::Result {
         f.debug_struct("ECParameters")
@@ -157,7 +161,7 @@ impl fmt::Debug for ECParameters<'_> {
     }
 }
 
-/// What a server sends for a Diffie-Hellman key exchange over a curve (RFC 8422, section 5.4).
+/// The server's elliptic-curve Diffie-Hellman parameters (RFC 8422, section 5.4).
 #[derive(Debug, PartialEq, Drop)]
 pub struct ServerECDHParams<'a> {
     /// The curve.
@@ -169,7 +173,7 @@ pub struct ServerECDHParams<'a> {
 impl<'a> ServerECDHParams<'a> {
     /// Reads an [`ECParameters`] and an [`ECPoint`].
     ///
-    /// Refused as the first of these that isn't read.
+    /// Returns the refusal of the first of these that can't be read.
     pub fn parse(i: &'a [u8]) -> IResult<&'a [u8], Self>
         ensures { Gives view_ecdh_params ecdh_params i.now result }
     {
@@ -190,16 +194,17 @@ pub fn parse_ec_parameters(i: &[u8]) -> IResult<&[u8], ECParameters>
     ECParameters::parse(i)
 }
 
-/// Reads what a server sends for a Diffie-Hellman key exchange over a curve, as [`ServerECDHParams::parse`].
+/// Reads the server's elliptic-curve Diffie-Hellman parameters, as [`ServerECDHParams::parse`].
 pub fn parse_ecdh_params(i: &[u8]) -> IResult<&[u8], ServerECDHParams>
     ensures { Gives view_ecdh_params ecdh_params i.now result }
 {
     ServerECDHParams::parse(i)
 }
 
-/// Reads all bytes as numbers of groups, of 2 bytes each, big-endian (RFC 8446, section 4.2.7).
+/// Reads all bytes as numbers of groups, 2 bytes each, big-endian (RFC 8446, section 4.2.7).
 ///
-/// `Error` of kind `LengthValue` where the number of bytes is odd. `OutOfMemory` where there is no memory for the list.
+/// `Error` of kind `LengthValue` if the number of bytes is odd. `OutOfMemory` if the list can't be
+/// allocated.
 pub fn parse_named_groups(alloc: Global, i: &[u8]) -> IResult<&[u8], Vec<NamedGroup>>
     ensures { GivesOrMemory (λ v. map (λ g. g.0) v.items) pairs_layout i.now result }
 {

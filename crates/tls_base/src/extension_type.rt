@@ -11,159 +11,160 @@ use crate::name::{find_name, numbers, registered, texts, write_rising};
 use layouts::{IResult, number2};
 use std::fmt;
 
-/// What an extension is: the ExtensionType of RFC 8446, section 4.2, its two bytes as one number, big-endian, with
-/// those of earlier versions and of drafts.
+/// The type of an extension: the ExtensionType of RFC 8446, section 4.2, 2 bytes, big-endian. Types
+/// of earlier versions and of drafts are included.
 #[derive(Clone, Copy, Debug, PartialEq, Eq)]
 pub struct TlsExtensionType(pub u16);
 
 impl TlsExtensionType {
-    /// The server_name of RFC 6066, section 3.
+    /// `server_name` (RFC 6066, section 3).
     pub const ServerName: TlsExtensionType = TlsExtensionType(0);
 
-    /// The max_fragment_length of RFC 6066, section 4.
+    /// `max_fragment_length` (RFC 6066, section 4).
     pub const MaxFragmentLength: TlsExtensionType = TlsExtensionType(1);
 
-    /// The client_certificate_url of RFC 6066, section 5.
+    /// `client_certificate_url` (RFC 6066, section 5).
     pub const ClientCertificate: TlsExtensionType = TlsExtensionType(2);
 
-    /// The trusted_ca_keys of RFC 6066, section 6.
+    /// `trusted_ca_keys` (RFC 6066, section 6).
     pub const TrustedCaKeys: TlsExtensionType = TlsExtensionType(3);
 
-    /// The truncated_hmac of RFC 6066, section 7.
+    /// `truncated_hmac` (RFC 6066, section 7).
     pub const TruncatedHMac: TlsExtensionType = TlsExtensionType(4);
 
-    /// The status_request of RFC 6066, section 8.
+    /// `status_request` (RFC 6066, section 8).
     pub const StatusRequest: TlsExtensionType = TlsExtensionType(5);
 
-    /// The user_mapping of RFC 4681.
+    /// `user_mapping` (RFC 4681).
     pub const UserMapping: TlsExtensionType = TlsExtensionType(6);
 
-    /// The client_authz of RFC 5878.
+    /// `client_authz` (RFC 5878).
     pub const ClientAuthz: TlsExtensionType = TlsExtensionType(7);
 
-    /// The server_authz of RFC 5878.
+    /// `server_authz` (RFC 5878).
     pub const ServerAuthz: TlsExtensionType = TlsExtensionType(8);
 
-    /// The cert_type of RFC 6091.
+    /// `cert_type` (RFC 6091).
     pub const CertType: TlsExtensionType = TlsExtensionType(9);
 
-    /// The supported_groups of RFC 8446, section 4.2.7; the elliptic_curves of RFC 4492.
+    /// `supported_groups` (RFC 8446, section 4.2.7); `elliptic_curves` (RFC 4492).
     pub const SupportedGroups: TlsExtensionType = TlsExtensionType(10);
 
-    /// The ec_point_formats of RFC 8422, section 5.1.2.
+    /// `ec_point_formats` (RFC 8422, section 5.1.2).
     pub const EcPointFormats: TlsExtensionType = TlsExtensionType(11);
 
-    /// The srp of RFC 5054.
+    /// `srp` (RFC 5054).
     pub const Srp: TlsExtensionType = TlsExtensionType(12);
 
-    /// The signature_algorithms of RFC 8446, section 4.2.3.
+    /// `signature_algorithms` (RFC 8446, section 4.2.3).
     pub const SignatureAlgorithms: TlsExtensionType = TlsExtensionType(13);
 
-    /// The use_srtp of RFC 5764, section 4.1.
+    /// `use_srtp` (RFC 5764, section 4.1).
     pub const UseSrtp: TlsExtensionType = TlsExtensionType(14);
 
-    /// The heartbeat of RFC 6520, section 2.
+    /// `heartbeat` (RFC 6520, section 2).
     pub const Heartbeat: TlsExtensionType = TlsExtensionType(15);
 
-    /// The application_layer_protocol_negotiation of RFC 7301, section 3.1.
+    /// `application_layer_protocol_negotiation` (RFC 7301, section 3.1).
     pub const ApplicationLayerProtocolNegotiation: TlsExtensionType = TlsExtensionType(16);
 
-    /// The status_request_v2 of RFC 6961.
+    /// `status_request_v2` (RFC 6961).
     pub const StatusRequestv2: TlsExtensionType = TlsExtensionType(17);
 
-    /// The signed_certificate_timestamp of RFC 6962, section 3.3.1.
+    /// `signed_certificate_timestamp` (RFC 6962, section 3.3.1).
     pub const SignedCertificateTimestamp: TlsExtensionType = TlsExtensionType(18);
 
-    /// The client_certificate_type of RFC 7250.
+    /// `client_certificate_type` (RFC 7250).
     pub const ClientCertificateType: TlsExtensionType = TlsExtensionType(19);
 
-    /// The server_certificate_type of RFC 7250.
+    /// `server_certificate_type` (RFC 7250).
     pub const ServerCertificateType: TlsExtensionType = TlsExtensionType(20);
 
-    /// The padding of RFC 7685, section 3.
+    /// `padding` (RFC 7685, section 3).
     pub const Padding: TlsExtensionType = TlsExtensionType(21);
 
-    /// The encrypt_then_mac of RFC 7366, section 2.
+    /// `encrypt_then_mac` (RFC 7366, section 2).
     pub const EncryptThenMac: TlsExtensionType = TlsExtensionType(22);
 
-    /// The extended_master_secret of RFC 7627, section 5.1.
+    /// `extended_master_secret` (RFC 7627, section 5.1).
     pub const ExtendedMasterSecret: TlsExtensionType = TlsExtensionType(23);
 
-    /// The token_binding of RFC 8472.
+    /// `token_binding` (RFC 8472).
     pub const TokenBinding: TlsExtensionType = TlsExtensionType(24);
 
-    /// The cached_info of RFC 7924.
+    /// `cached_info` (RFC 7924).
     pub const CachedInfo: TlsExtensionType = TlsExtensionType(25);
 
-    /// The record_size_limit of RFC 8449, section 4.
+    /// `record_size_limit` (RFC 8449, section 4).
     pub const RecordSizeLimit: TlsExtensionType = TlsExtensionType(28);
 
-    /// The SessionTicket TLS of RFC 5077, section 3.2.
+    /// `SessionTicket TLS` (RFC 5077, section 3.2).
     pub const SessionTicketTLS: TlsExtensionType = TlsExtensionType(35);
 
-    /// The key_share of the drafts of TLS 1.3 up to the 22nd.
+    /// `key_share` of the drafts of TLS 1.3 up to draft 22.
     pub const KeyShareOld: TlsExtensionType = TlsExtensionType(40);
 
-    /// The pre_shared_key of RFC 8446, section 4.2.11.
+    /// `pre_shared_key` (RFC 8446, section 4.2.11).
     pub const PreSharedKey: TlsExtensionType = TlsExtensionType(41);
 
-    /// The early_data of RFC 8446, section 4.2.10.
+    /// `early_data` (RFC 8446, section 4.2.10).
     pub const EarlyData: TlsExtensionType = TlsExtensionType(42);
 
-    /// The supported_versions of RFC 8446, section 4.2.1.
+    /// `supported_versions` (RFC 8446, section 4.2.1).
     pub const SupportedVersions: TlsExtensionType = TlsExtensionType(43);
 
-    /// The cookie of RFC 8446, section 4.2.2.
+    /// `cookie` (RFC 8446, section 4.2.2).
     pub const Cookie: TlsExtensionType = TlsExtensionType(44);
 
-    /// The psk_key_exchange_modes of RFC 8446, section 4.2.9.
+    /// `psk_key_exchange_modes` (RFC 8446, section 4.2.9).
     pub const PskExchangeModes: TlsExtensionType = TlsExtensionType(45);
 
-    /// The ticket_early_data_info of drafts of TLS 1.3 alone.
+    /// `ticket_early_data_info` of drafts of TLS 1.3 alone.
     pub const TicketEarlyDataInfo: TlsExtensionType = TlsExtensionType(46);
 
-    /// The certificate_authorities of RFC 8446, section 4.2.4.
+    /// `certificate_authorities` (RFC 8446, section 4.2.4).
     pub const CertificateAuthorities: TlsExtensionType = TlsExtensionType(47);
 
-    /// The oid_filters of RFC 8446, section 4.2.5.
+    /// `oid_filters` (RFC 8446, section 4.2.5).
     pub const OidFilters: TlsExtensionType = TlsExtensionType(48);
 
-    /// The post_handshake_auth of RFC 8446, section 4.2.6.
+    /// `post_handshake_auth` (RFC 8446, section 4.2.6).
     pub const PostHandshakeAuth: TlsExtensionType = TlsExtensionType(49);
 
-    /// The signature_algorithms_cert of RFC 8446, section 4.2.3.
+    /// `signature_algorithms_cert` (RFC 8446, section 4.2.3).
     pub const SigAlgorithmsCert: TlsExtensionType = TlsExtensionType(50);
 
-    /// The key_share of RFC 8446, section 4.2.8.
+    /// `key_share` (RFC 8446, section 4.2.8).
     pub const KeyShare: TlsExtensionType = TlsExtensionType(51);
 
-    /// The next_protocol_negotiation of draft-agl-tls-nextprotoneg.
+    /// `next_protocol_negotiation` (draft-agl-tls-nextprotoneg).
     pub const NextProtocolNegotiation: TlsExtensionType = TlsExtensionType(13172);
 
-    /// One of the sixteen values of RFC 8701, section 2; the others have no constant.
+    /// One of the sixteen GREASE values of RFC 8701, section 2. The others have no constant.
     pub const Grease: TlsExtensionType = TlsExtensionType(0xfafa);
 
-    /// The renegotiation_info of RFC 5746, section 3.2.
+    /// `renegotiation_info` (RFC 5746, section 3.2).
     pub const RenegotiationInfo: TlsExtensionType = TlsExtensionType(0xff01);
 
-    /// The encrypted_server_name of early drafts of Encrypted Client Hello (draft-ietf-tls-esni).
+    /// `encrypted_server_name` of early drafts of Encrypted Client Hello (draft-ietf-tls-esni).
     pub const EncryptedServerName: TlsExtensionType = TlsExtensionType(0xffce);
 
-    /// The type of that number.
+    /// Returns the type with this number.
     pub fn from_u16(t: u16) -> TlsExtensionType
         ensures { result.0 ≡ t }
     {
         TlsExtensionType(t)
     }
 
-    /// The name that IANA's registry of extension types has for the number, without a mark that it is reserved; `None` where it has none.
+    /// Returns the number's name in IANA's registry of extension types, without the remark that it
+    /// is reserved; `None` if it has none.
     pub fn registered_name(self) -> Option<&'static str>
         ensures { option_map (λ t. t.now) result ≡ look_up registered_extension_types self.0 }
     {
         find_name(REGISTERED, self.0)
     }
 
-    /// Reads 2 bytes, big-endian. `Incomplete` of the bytes that are missing, 2 or 1.
+    /// Reads 2 bytes, big-endian. `Incomplete` with the number of missing bytes, 2 or 1.
     pub fn parse(i: &[u8]) -> IResult<&[u8], Self>
         ensures { Gives (λ v. v.0) (number 2) i.now result }
     {
@@ -180,7 +181,8 @@ impl From<TlsExtensionType> for u16 {
     }
 }
 
-/// The registry of extension types: a row for each number that has a constant or a name there, in the order of the numbers, which rises.
+/// The registry of extension types, in increasing order: a row for each number with a constant or a
+/// registered name.
 macro_rules! rows {
     ($column:ident) => {
         $column! {
@@ -244,7 +246,8 @@ macro_rules! rows {
             57 = "quic_transport_parameters"; // RFC 9001
             58 = "ticket_request"; // RFC 9149
             59 = "dnssec_chain"; // RFC 9102
-            60 = "sequence_number_encryption_algorithms"; // draft-pismenny-tls-dtls-plaintext-sequence-number
+            60 = "sequence_number_encryption_algorithms";
+                // draft-pismenny-tls-dtls-plaintext-sequence-number
             61 = "rrc"; // draft-ietf-tls-dtls-rrc
             62 = "tls_flags"; // draft-ietf-tls-tlsflags
             NextProtocolNegotiation = "next_protocol_negotiation";
@@ -260,13 +263,13 @@ macro_rules! rows {
     };
 }
 
-/// The numbers of the constants.
+/// The numbers of the constants, in increasing order.
 static NUMBERS: &[u16] = rows!(numbers);
 
 /// The names of the constants, in the same order.
 static NAMES: &[&str] = rows!(texts);
 
-/// The names of the registry, each behind its number.
+/// The registry's names, each after its number.
 static REGISTERED: &[(u16, &str)] = rows!(registered);
 
 impl fmt::Display for TlsExtensionType {

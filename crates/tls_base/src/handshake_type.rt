@@ -11,76 +11,78 @@ use crate::name::{find_name, names, registered, write_name};
 use layouts::{IResult, number1};
 use std::fmt;
 
-/// Which handshake message follows: the HandshakeType of RFC 5246, section 7.4, and RFC 8446, section 4.
+/// The type of a handshake message: the HandshakeType of RFC 5246, section 7.4, and RFC 8446,
+/// section 4.
 #[derive(Clone, Copy, Debug, PartialEq, Eq)]
 pub struct TlsHandshakeType(pub u8);
 
 impl TlsHandshakeType {
-    /// The hello_request of RFC 5246, section 7.4.1.1.
+    /// `hello_request` (RFC 5246, section 7.4.1.1).
     pub const HelloRequest: TlsHandshakeType = TlsHandshakeType(0);
 
-    /// The client_hello of RFC 8446, section 4.1.2.
+    /// `client_hello` (RFC 8446, section 4.1.2).
     pub const ClientHello: TlsHandshakeType = TlsHandshakeType(1);
 
-    /// The server_hello of RFC 8446, section 4.1.3.
+    /// `server_hello` (RFC 8446, section 4.1.3).
     pub const ServerHello: TlsHandshakeType = TlsHandshakeType(2);
 
-    /// The hello_verify_request of DTLS alone (RFC 6347, section 4.2.1).
+    /// `hello_verify_request` of DTLS alone (RFC 6347, section 4.2.1).
     pub const HelloVerifyRequest: TlsHandshakeType = TlsHandshakeType(3);
 
-    /// The new_session_ticket of RFC 5077, section 3.3, and RFC 8446, section 4.6.1.
+    /// `new_session_ticket` (RFC 5077, section 3.3, and RFC 8446, section 4.6.1).
     pub const NewSessionTicket: TlsHandshakeType = TlsHandshakeType(4);
 
-    /// The end_of_early_data of TLS 1.3 (RFC 8446, section 4.5).
+    /// `end_of_early_data` of TLS 1.3 (RFC 8446, section 4.5).
     pub const EndOfEarlyData: TlsHandshakeType = TlsHandshakeType(5);
 
-    /// The hello_retry_request of drafts of TLS 1.3; in RFC 8446, section 4.1.4, it is a ServerHello.
+    /// `hello_retry_request` of drafts of TLS 1.3. In RFC 8446, section 4.1.4, it is a ServerHello.
     pub const HelloRetryRequest: TlsHandshakeType = TlsHandshakeType(6);
 
-    /// The encrypted_extensions of TLS 1.3 (RFC 8446, section 4.3.1).
+    /// `encrypted_extensions` of TLS 1.3 (RFC 8446, section 4.3.1).
     pub const EncryptedExtensions: TlsHandshakeType = TlsHandshakeType(8);
 
-    /// The certificate of RFC 5246, section 7.4.2, and RFC 8446, section 4.4.2.
+    /// `certificate` (RFC 5246, section 7.4.2, and RFC 8446, section 4.4.2).
     pub const Certificate: TlsHandshakeType = TlsHandshakeType(11);
 
-    /// The server_key_exchange of RFC 5246, section 7.4.3.
+    /// `server_key_exchange` (RFC 5246, section 7.4.3).
     pub const ServerKeyExchange: TlsHandshakeType = TlsHandshakeType(12);
 
-    /// The certificate_request of RFC 5246, section 7.4.4, and RFC 8446, section 4.3.2.
+    /// `certificate_request` (RFC 5246, section 7.4.4, and RFC 8446, section 4.3.2).
     pub const CertificateRequest: TlsHandshakeType = TlsHandshakeType(13);
 
-    /// The server_hello_done of RFC 5246, section 7.4.5.
+    /// `server_hello_done` (RFC 5246, section 7.4.5).
     pub const ServerDone: TlsHandshakeType = TlsHandshakeType(14);
 
-    /// The certificate_verify of RFC 5246, section 7.4.8, and RFC 8446, section 4.4.3.
+    /// `certificate_verify` (RFC 5246, section 7.4.8, and RFC 8446, section 4.4.3).
     pub const CertificateVerify: TlsHandshakeType = TlsHandshakeType(15);
 
-    /// The client_key_exchange of RFC 5246, section 7.4.7.
+    /// `client_key_exchange` (RFC 5246, section 7.4.7).
     pub const ClientKeyExchange: TlsHandshakeType = TlsHandshakeType(16);
 
-    /// The finished of RFC 5246, section 7.4.9, and RFC 8446, section 4.4.4.
+    /// `finished` (RFC 5246, section 7.4.9, and RFC 8446, section 4.4.4).
     pub const Finished: TlsHandshakeType = TlsHandshakeType(20);
 
-    /// The certificate_url of RFC 6066, section 5: where the client's certificate may be fetched.
+    /// `certificate_url` (RFC 6066, section 5): where to fetch the client's certificate.
     pub const CertificateURL: TlsHandshakeType = TlsHandshakeType(21);
 
-    /// The certificate_status of RFC 6066, section 8: the state of the server's certificate.
+    /// `certificate_status` (RFC 6066, section 8): the status of the server's certificate.
     pub const CertificateStatus: TlsHandshakeType = TlsHandshakeType(22);
 
-    /// The key_update of TLS 1.3 (RFC 8446, section 4.6.3).
+    /// `key_update` of TLS 1.3 (RFC 8446, section 4.6.3).
     pub const KeyUpdate: TlsHandshakeType = TlsHandshakeType(24);
 
-    /// The next_protocol of draft-agl-tls-nextprotoneg.
+    /// `next_protocol` (draft-agl-tls-nextprotoneg).
     pub const NextProtocol: TlsHandshakeType = TlsHandshakeType(67);
 
-    /// The name that IANA's registry of handshake types has for the number, without a mark that it is reserved; `None` where it has none.
+    /// Returns the number's name in IANA's registry of handshake types, without the remark that it
+    /// is reserved; `None` if it has none.
     pub fn registered_name(self) -> Option<&'static str>
         ensures { option_map (λ t. t.now) result ≡ look_up registered_handshake_types self.0 }
     {
         find_name(REGISTERED, self.0 as u16)
     }
 
-    /// Reads 1 byte. `Incomplete(1)` where there is none.
+    /// Reads 1 byte. `Incomplete(1)` if there is none.
     pub fn parse(i: &[u8]) -> IResult<&[u8], Self>
         ensures { Gives (λ v. v.0) (number 1) i.now result }
     {
@@ -89,7 +91,8 @@ impl TlsHandshakeType {
     }
 }
 
-/// The registry of handshake types: a row for each number that has a constant or a name there, in the order of the numbers.
+/// The registry of handshake types, in increasing order: a row for each number with a constant or a
+/// registered name.
 macro_rules! rows {
     ($column:ident) => {
         $column! {
@@ -124,10 +127,10 @@ macro_rules! rows {
     };
 }
 
-/// The constants, each with its number and its name.
+/// The constants, each as its number and its name.
 static NAMES: &[(u16, &str)] = rows!(names);
 
-/// The names of the registry, each behind its number.
+/// The registry's names, each after its number.
 static REGISTERED: &[(u16, &str)] = rows!(registered);
 
 impl fmt::Display for TlsHandshakeType {

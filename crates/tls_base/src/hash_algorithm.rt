@@ -1,4 +1,4 @@
-//! Hashes that signatures are made over.
+//! Hash algorithms of signatures.
 ghost use Rattle.std.specs.Prelude.{Some, codes};
 ghost use Rattle.layouts.specs.Layout.{number};
 ghost use Rattle.layouts.specs.Answers.{Gives};
@@ -9,36 +9,36 @@ use crate::name::{names, write_name};
 use layouts::{IResult, number1};
 use std::fmt;
 
-/// A hash: the HashAlgorithm of RFC 5246, section 7.4.1.4.1.
+/// A hash algorithm: the HashAlgorithm of RFC 5246, section 7.4.1.4.1.
 #[derive(Clone, Debug, PartialEq, Eq, Drop)]
 pub struct HashAlgorithm(pub u8);
 
 impl HashAlgorithm {
-    /// The none of RFC 5246, section 7.4.1.4.1.
+    /// `none` (RFC 5246, section 7.4.1.4.1).
     pub const None: HashAlgorithm = HashAlgorithm(0);
 
-    /// The md5 of RFC 5246, section 7.4.1.4.1.
+    /// `md5` (RFC 5246, section 7.4.1.4.1).
     pub const Md5: HashAlgorithm = HashAlgorithm(1);
 
-    /// The sha1 of RFC 5246, section 7.4.1.4.1.
+    /// `sha1` (RFC 5246, section 7.4.1.4.1).
     pub const Sha1: HashAlgorithm = HashAlgorithm(2);
 
-    /// The sha224 of RFC 5246, section 7.4.1.4.1.
+    /// `sha224` (RFC 5246, section 7.4.1.4.1).
     pub const Sha224: HashAlgorithm = HashAlgorithm(3);
 
-    /// The sha256 of RFC 5246, section 7.4.1.4.1.
+    /// `sha256` (RFC 5246, section 7.4.1.4.1).
     pub const Sha256: HashAlgorithm = HashAlgorithm(4);
 
-    /// The sha384 of RFC 5246, section 7.4.1.4.1.
+    /// `sha384` (RFC 5246, section 7.4.1.4.1).
     pub const Sha384: HashAlgorithm = HashAlgorithm(5);
 
-    /// The sha512 of RFC 5246, section 7.4.1.4.1.
+    /// `sha512` (RFC 5246, section 7.4.1.4.1).
     pub const Sha512: HashAlgorithm = HashAlgorithm(6);
 
     /// The hash is part of the signature algorithm (RFC 8422, section 5.1.3).
     pub const Intrinsic: HashAlgorithm = HashAlgorithm(8);
 
-    /// Reads 1 byte. `Incomplete(1)` where there is none.
+    /// Reads 1 byte. `Incomplete(1)` if there is none.
     pub fn parse(i: &[u8]) -> IResult<&[u8], Self>
         ensures { Gives (λ v. v.0) (number 1) i.now result }
     {
@@ -47,7 +47,7 @@ impl HashAlgorithm {
     }
 }
 
-/// The constants, each with its number and its name.
+/// The constants, each as its number and its name.
 static NAMES: &[(u16, &str)] = names!(
     HashAlgorithm: None, Md5, Sha1, Sha224, Sha256, Sha384, Sha512, Intrinsic
 );

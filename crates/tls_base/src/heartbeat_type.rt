@@ -9,18 +9,19 @@ use crate::name::{names, write_name};
 use layouts::{IResult, number1};
 use std::fmt;
 
-/// Whether a heartbeat asks or answers: the HeartbeatMessageType of RFC 6520, section 3.
+/// The type of a heartbeat message, request or response: the HeartbeatMessageType of RFC 6520,
+/// section 3.
 #[derive(Clone, Copy, Debug, PartialEq, Eq)]
 pub struct TlsHeartbeatMessageType(pub u8);
 
 impl TlsHeartbeatMessageType {
-    /// The heartbeat_request of RFC 6520, section 3.
+    /// `heartbeat_request` (RFC 6520, section 3).
     pub const HeartBeatRequest: TlsHeartbeatMessageType = TlsHeartbeatMessageType(1);
 
-    /// The heartbeat_response of RFC 6520, section 3.
+    /// `heartbeat_response` (RFC 6520, section 3).
     pub const HeartBeatResponse: TlsHeartbeatMessageType = TlsHeartbeatMessageType(2);
 
-    /// Reads 1 byte. `Incomplete(1)` where there is none.
+    /// Reads 1 byte. `Incomplete(1)` if there is none.
     pub fn parse(i: &[u8]) -> IResult<&[u8], Self>
         ensures { Gives (λ v. v.0) (number 1) i.now result }
     {
@@ -29,7 +30,7 @@ impl TlsHeartbeatMessageType {
     }
 }
 
-/// The constants, each with its number and its name.
+/// The constants, each as its number and its name.
 static NAMES: &[(u16, &str)] = names!(
     TlsHeartbeatMessageType: HeartBeatRequest, HeartBeatResponse
 );

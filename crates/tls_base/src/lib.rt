@@ -1,8 +1,16 @@
-//! What several TLS structures share: numbers with a name, key exchange, signatures, timestamps, alerts, and cipher
-//! suites with their tables.
+//! What several TLS structures share: numbers with names, key exchange, signatures, timestamps,
+//! alerts, and tables of cipher suites.
 //!
-//! A number with a name is the number that stands in the bytes; one without a name is read and kept. Each parse call
-//! answers what a layout of `specs/` allows on the bytes.
+//! The promises: each parse call returns the one answer of its layout, and a name is the one that a
+//! table has for the number. A type such as [`TlsVersion`] keeps any number that it reads, with or
+//! without a name.
+//!
+//! - `KeyExchange`, `Signature`, `Timestamp` and `Alert` in `specs/` define the layouts.
+//! - `Names` defines how a number is looked up (`look_up`) and shown (`name`).
+//! - `Constants` and `ExtensionNumbers` have the names of constants, `Registered` and
+//!   `RegisteredSuites` those of IANA's registries.
+//! - `Cipher` and `CipherTable` define the parameters of suites and how a table finds one,
+//!   `SuiteExchange` the key exchange of each registered suite.
 #![tactic(auto, using(layouts::proofs::OneAnswerLemmas::read_allowed))]
 
 mod alert;

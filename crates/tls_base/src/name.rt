@@ -1,4 +1,4 @@
-//! Tables of numbers and names, and how a number is shown.
+//! Tables of numbers and names, and how numbers are shown.
 ghost use Rattle.std.specs.Prelude.{◌≡◌, Some};
 ghost use Rattle.std.specs.List.{zip};
 ghost use Rattle.std.specs.List.Sorted.{IsStrictlyIncreasing};
@@ -9,62 +9,76 @@ ghost use Rattle.tls_base.specs.Names.{look_up, name, names_of, shown};
 use layouts::place;
 use std::fmt;
 
-/// Constants of a type, each as its number and its name. They are listed by their names alone, or in the rows of a registry: a
-/// row has a constant and the name that IANA's registry has for its number, or a constant in brackets whose number has none there,
-/// or a number without a constant and its name there.
+/// Expands to the constants of a type, each as its number and its name. The input is a list of
+/// constants, or rows of a registry.
+///
+/// A row has one of three forms:
+/// - `Constant = "name";` a constant, and the name that IANA's registry has for its number;
+/// - `[Constant];` a constant whose number has no name there;
+/// - `number = "name";` a number without a constant, and its name there.
 macro_rules! names {
     ($type:ident: $($constant:ident),*) => {
         &[$(($type::$constant.0 as u16, stringify!($constant))),*]
     };
-    ($type:ident: $($($constant:ident = $name:literal)? $([$own:ident])? $($number:literal = $other:literal)?;)*) => {
-        &[$($(($type::$constant.0 as u16, stringify!($constant)),)? $(($type::$own.0 as u16, stringify!($own)),)?)*]
+    ($type:ident:
+        $($($constant:ident = $name:literal)? $([$own:ident])?
+        $($number:literal = $other:literal)?;)*) => {
+        &[$($(($type::$constant.0 as u16, stringify!($constant)),)?
+            $(($type::$own.0 as u16, stringify!($own)),)?)*]
     };
 }
 
 pub(crate) use names;
 
-/// The numbers of constants, by the rows of a registry.
+/// Expands to the numbers of the constants in a registry's rows.
 macro_rules! numbers {
-    ($type:ident: $($($constant:ident = $name:literal)? $([$own:ident])? $($number:literal = $other:literal)?;)*) => {
+    ($type:ident:
+        $($($constant:ident = $name:literal)? $([$own:ident])?
+        $($number:literal = $other:literal)?;)*) => {
         &[$($($type::$constant.0,)? $($type::$own.0,)?)*]
     };
 }
 
 pub(crate) use numbers;
 
-/// The names of constants, by the rows of a registry.
+/// Expands to the names of the constants in a registry's rows.
 macro_rules! texts {
-    ($type:ident: $($($constant:ident = $name:literal)? $([$own:ident])? $($number:literal = $other:literal)?;)*) => {
+    ($type:ident:
+        $($($constant:ident = $name:literal)? $([$own:ident])?
+        $($number:literal = $other:literal)?;)*) => {
         &[$($(stringify!($constant),)? $(stringify!($own),)?)*]
     };
 }
 
 pub(crate) use texts;
 
-/// The numbers that have a name in IANA's registry, each with that name, by the rows of the registry.
+/// Expands to the numbers with a name in IANA's registry, each with that name.
 macro_rules! registered {
-    ($type:ident: $($($constant:ident = $name:literal)? $([$own:ident])? $($number:literal = $other:literal)?;)*) => {
+    ($type:ident:
+        $($($constant:ident = $name:literal)? $([$own:ident])?
+        $($number:literal = $other:literal)?;)*) => {
         &[$($(($type::$constant.0 as u16, $name),)? $(($number, $other),)?)*]
     };
 }
 
 pub(crate) use registered;
 
-/// What a table has beside `n`, in its first entry with that number.
+/// Returns what a table has for `n`, in its first entry with that number.
 pub(crate) fn find_number<T: Copy>(table: &[(u16, T)], n: u16) -> Option<T>
     ensures { result ≡ look_up table.now n }
 {
     table.iter().find(|x| x.0 == n).map(|x| x.1)
 }
 
-/// The name of `n` in a table.
+/// Returns the name of `n` in a table.
 pub(crate) fn find_name(table: &[(u16, &'static str)], n: u16) -> Option<&'static str>
     ensures { option_map (λ t. t.now) result ≡ look_up (names_of table.now) n }
 {
     find_number(table, n)
 }
 
-/// Writes a number of a type: its name where it has one, else the type with the number in decimal and hexadecimal.
+/// Writes a number: its name if it has one, else the type with the number in decimal and
+/// hexadecimal.
 #[tactic(auto, unfolding(crate::specs::Names::shown))]
 pub(crate) fn write_shown<W: fmt::Write>(
     f: &mut fmt::Formatter<W>,
@@ -72,7 +86,8 @@ pub(crate) fn write_shown<W: fmt::Write>(
     n: u16,
     known: Option<&'static str>,
 ) -> fmt::Result
-    ensures { DisplaysOnOk W.Write.write_str_gives f.old result (Some (shown type_name.now n (option_map (λ t. t.now) known.entry))) f.new }
+    ensures { DisplaysOnOk W.Write.write_str_gives f.old result
+        (Some (shown type_name.now n (option_map (λ t. t.now) known.entry))) f.new }
 {
     match known {
         Some(name) => f.write_str(name),
@@ -80,19 +95,21 @@ pub(crate) fn write_shown<W: fmt::Write>(
     }
 }
 
-/// The same, where the name is that of `n` in a table.
+/// Writes a number by its name in a table, or else as the type with the number in decimal and
+/// hexadecimal.
 pub(crate) fn write_name<W: fmt::Write>(
     f: &mut fmt::Formatter<W>,
     type_name: &str,
     table: &[(u16, &'static str)],
     n: u16,
 ) -> fmt::Result
-    ensures { DisplaysOnOk W.Write.write_str_gives f.old result (Some (name type_name.now (names_of table.now) n)) f.new }
+    ensures { DisplaysOnOk W.Write.write_str_gives f.old result
+        (Some (name type_name.now (names_of table.now) n)) f.new }
 {
     write_shown(f, type_name, n, find_number(table, n))
 }
 
-/// What stands beside `n` in a table whose numbers rise, found by binary search.
+/// Looks `n` up by binary search in a table of strictly increasing numbers.
 fn find_rising(numbers: &[u16], names: &[&'static str], n: u16) -> Option<&'static str>
     requires { IsStrictlyIncreasing numbers.now }
     ensures { result ≡ look_up (zip numbers.now names.now) n }
@@ -103,7 +120,8 @@ fn find_rising(numbers: &[u16], names: &[&'static str], n: u16) -> Option<&'stat
     }
 }
 
-/// The name of `n`, by a table whose numbers rise and the names in the same order.
+/// Returns the name of `n`, looked up by binary search: `numbers` increase strictly, and `names`
+/// are in the same order.
 pub(crate) fn find_rising_name(
     numbers: &[u16],
     names: &[&'static str],
@@ -115,7 +133,8 @@ pub(crate) fn find_rising_name(
     find_rising(numbers, names, n)
 }
 
-/// Writes a number of a type, by a table whose numbers rise and the names in the same order.
+/// Writes a number by its name, or else as the type with the number. `numbers` increase strictly,
+/// `names` are in the same order.
 pub(crate) fn write_rising<W: fmt::Write>(
     f: &mut fmt::Formatter<W>,
     type_name: &str,
@@ -124,7 +143,8 @@ pub(crate) fn write_rising<W: fmt::Write>(
     n: u16,
 ) -> fmt::Result
     requires { IsStrictlyIncreasing numbers.now }
-    ensures { DisplaysOnOk W.Write.write_str_gives f.old result (Some (name type_name.now (names_of (zip numbers.now names.now)) n)) f.new }
+    ensures { DisplaysOnOk W.Write.write_str_gives f.old result
+        (Some (name type_name.now (names_of (zip numbers.now names.now)) n)) f.new }
 {
     write_shown(f, type_name, n, find_rising(numbers, names, n))
 }

@@ -1,4 +1,4 @@
-//! Groups for a key exchange.
+//! Key exchange groups.
 ghost use Rattle.std.specs.Prelude.{Some, codes, ◌≡◌};
 ghost use Rattle.layouts.specs.Layout.{number};
 ghost use Rattle.layouts.specs.Answers.{Gives};
@@ -11,151 +11,156 @@ use crate::name::{find_name, find_number, names, registered, write_name};
 use layouts::{IResult, Number, number2};
 use std::fmt;
 
-/// A group for a key exchange: the NamedGroup of RFC 8446, section 4.2.7, its two bytes as one number, big-endian, with
-/// the NamedCurve of RFC 4492, section 5.1.1, of which RFC 8422, section 5.1.1, deprecates 1 to 22, 0xff01 and 0xff02.
+/// A key exchange group: the NamedGroup of RFC 8446, section 4.2.7, 2 bytes, big-endian.
+///
+/// It includes the NamedCurve of RFC 4492, section 5.1.1, of which RFC 8422, section 5.1.1,
+/// deprecates 1 to 22, 0xff01 and 0xff02.
 #[derive(Clone, Copy, Debug, PartialEq, Eq)]
 pub struct NamedGroup(pub u16);
 
 impl NamedGroup {
-    /// The sect163k1 of RFC 4492, section 5.1.1.
+    /// `sect163k1` (RFC 4492, section 5.1.1).
     pub const Sect163k1: NamedGroup = NamedGroup(1);
 
-    /// The sect163r1 of RFC 4492, section 5.1.1.
+    /// `sect163r1` (RFC 4492, section 5.1.1).
     pub const Sect163r1: NamedGroup = NamedGroup(2);
 
-    /// The sect163r2 of RFC 4492, section 5.1.1.
+    /// `sect163r2` (RFC 4492, section 5.1.1).
     pub const Sect163r2: NamedGroup = NamedGroup(3);
 
-    /// The sect193r1 of RFC 4492, section 5.1.1.
+    /// `sect193r1` (RFC 4492, section 5.1.1).
     pub const Sect193r1: NamedGroup = NamedGroup(4);
 
-    /// The sect193r2 of RFC 4492, section 5.1.1.
+    /// `sect193r2` (RFC 4492, section 5.1.1).
     pub const Sect193r2: NamedGroup = NamedGroup(5);
 
-    /// The sect233k1 of RFC 4492, section 5.1.1.
+    /// `sect233k1` (RFC 4492, section 5.1.1).
     pub const Sect233k1: NamedGroup = NamedGroup(6);
 
-    /// The sect233r1 of RFC 4492, section 5.1.1.
+    /// `sect233r1` (RFC 4492, section 5.1.1).
     pub const Sect233r1: NamedGroup = NamedGroup(7);
 
-    /// The sect239k1 of RFC 4492, section 5.1.1.
+    /// `sect239k1` (RFC 4492, section 5.1.1).
     pub const Sect239k1: NamedGroup = NamedGroup(8);
 
-    /// The sect283k1 of RFC 4492, section 5.1.1.
+    /// `sect283k1` (RFC 4492, section 5.1.1).
     pub const Sect283k1: NamedGroup = NamedGroup(9);
 
-    /// The sect283r1 of RFC 4492, section 5.1.1.
+    /// `sect283r1` (RFC 4492, section 5.1.1).
     pub const Sect283r1: NamedGroup = NamedGroup(10);
 
-    /// The sect409k1 of RFC 4492, section 5.1.1.
+    /// `sect409k1` (RFC 4492, section 5.1.1).
     pub const Sect409k1: NamedGroup = NamedGroup(11);
 
-    /// The sect409r1 of RFC 4492, section 5.1.1.
+    /// `sect409r1` (RFC 4492, section 5.1.1).
     pub const Sect409r1: NamedGroup = NamedGroup(12);
 
-    /// The sect571k1 of RFC 4492, section 5.1.1.
+    /// `sect571k1` (RFC 4492, section 5.1.1).
     pub const Sect571k1: NamedGroup = NamedGroup(13);
 
-    /// The sect571r1 of RFC 4492, section 5.1.1.
+    /// `sect571r1` (RFC 4492, section 5.1.1).
     pub const Sect571r1: NamedGroup = NamedGroup(14);
 
-    /// The secp160k1 of RFC 4492, section 5.1.1.
+    /// `secp160k1` (RFC 4492, section 5.1.1).
     pub const Secp160k1: NamedGroup = NamedGroup(15);
 
-    /// The secp160r1 of RFC 4492, section 5.1.1.
+    /// `secp160r1` (RFC 4492, section 5.1.1).
     pub const Secp160r1: NamedGroup = NamedGroup(16);
 
-    /// The secp160r2 of RFC 4492, section 5.1.1.
+    /// `secp160r2` (RFC 4492, section 5.1.1).
     pub const Secp160r2: NamedGroup = NamedGroup(17);
 
-    /// The secp192k1 of RFC 4492, section 5.1.1.
+    /// `secp192k1` (RFC 4492, section 5.1.1).
     pub const Secp192k1: NamedGroup = NamedGroup(18);
 
-    /// The secp192r1 of RFC 4492, section 5.1.1.
+    /// `secp192r1` (RFC 4492, section 5.1.1).
     pub const Secp192r1: NamedGroup = NamedGroup(19);
 
-    /// The secp224k1 of RFC 4492, section 5.1.1.
+    /// `secp224k1` (RFC 4492, section 5.1.1).
     pub const Secp224k1: NamedGroup = NamedGroup(20);
 
-    /// The secp224r1 of RFC 4492, section 5.1.1.
+    /// `secp224r1` (RFC 4492, section 5.1.1).
     pub const Secp224r1: NamedGroup = NamedGroup(21);
 
-    /// The secp256k1 of RFC 4492, section 5.1.1.
+    /// `secp256k1` (RFC 4492, section 5.1.1).
     pub const Secp256k1: NamedGroup = NamedGroup(22);
 
-    /// The secp256r1 of RFC 8422, section 5.1.1.
+    /// `secp256r1` (RFC 8422, section 5.1.1).
     pub const Secp256r1: NamedGroup = NamedGroup(23);
 
-    /// The secp384r1 of RFC 8422, section 5.1.1.
+    /// `secp384r1` (RFC 8422, section 5.1.1).
     pub const Secp384r1: NamedGroup = NamedGroup(24);
 
-    /// The secp521r1 of RFC 8422, section 5.1.1.
+    /// `secp521r1` (RFC 8422, section 5.1.1).
     pub const Secp521r1: NamedGroup = NamedGroup(25);
 
-    /// The brainpoolP256r1 of RFC 7027; in TLS 1.3 it has another number.
+    /// `brainpoolP256r1` (RFC 7027). In TLS 1.3 it has another number.
     pub const BrainpoolP256r1: NamedGroup = NamedGroup(26);
 
-    /// The brainpoolP384r1 of RFC 7027; in TLS 1.3 it has another number.
+    /// `brainpoolP384r1` (RFC 7027). In TLS 1.3 it has another number.
     pub const BrainpoolP384r1: NamedGroup = NamedGroup(27);
 
-    /// The brainpoolP512r1 of RFC 7027; in TLS 1.3 it has another number.
+    /// `brainpoolP512r1` (RFC 7027). In TLS 1.3 it has another number.
     pub const BrainpoolP512r1: NamedGroup = NamedGroup(28);
 
-    /// The x25519 of RFC 8422, section 5.1.1.
+    /// `x25519` (RFC 8422, section 5.1.1).
     pub const EcdhX25519: NamedGroup = NamedGroup(29);
 
-    /// The x448 of RFC 8422, section 5.1.1.
+    /// `x448` (RFC 8422, section 5.1.1).
     pub const EcdhX448: NamedGroup = NamedGroup(30);
 
-    /// The brainpoolP256r1tls13 of RFC 8734.
+    /// `brainpoolP256r1tls13` (RFC 8734).
     pub const BrainpoolP256r1tls13: NamedGroup = NamedGroup(31);
 
-    /// The brainpoolP384r1tls13 of RFC 8734.
+    /// `brainpoolP384r1tls13` (RFC 8734).
     pub const BrainpoolP384r1tls13: NamedGroup = NamedGroup(32);
 
-    /// The brainpoolP512r1tls13 of RFC 8734.
+    /// `brainpoolP512r1tls13` (RFC 8734).
     pub const BrainpoolP512r1tls13: NamedGroup = NamedGroup(33);
 
-    /// The curveSM2 of RFC 8998.
+    /// `curveSM2` (RFC 8998).
     pub const Sm2: NamedGroup = NamedGroup(41);
 
-    /// The ffdhe2048 of RFC 7919: a group over the integers.
+    /// `ffdhe2048` (RFC 7919): a finite field.
     pub const Ffdhe2048: NamedGroup = NamedGroup(0x0100);
 
-    /// The ffdhe3072 of RFC 7919: a group over the integers.
+    /// `ffdhe3072` (RFC 7919): a finite field.
     pub const Ffdhe3072: NamedGroup = NamedGroup(0x0101);
 
-    /// The ffdhe4096 of RFC 7919: a group over the integers.
+    /// `ffdhe4096` (RFC 7919): a finite field.
     pub const Ffdhe4096: NamedGroup = NamedGroup(0x0102);
 
-    /// The ffdhe6144 of RFC 7919: a group over the integers.
+    /// `ffdhe6144` (RFC 7919): a finite field.
     pub const Ffdhe6144: NamedGroup = NamedGroup(0x0103);
 
-    /// The ffdhe8192 of RFC 7919: a group over the integers.
+    /// `ffdhe8192` (RFC 7919): a finite field.
     pub const Ffdhe8192: NamedGroup = NamedGroup(0x0104);
 
-    /// The arbitrary_explicit_prime_curves of RFC 4492, section 5.1.1: any that is given by its parameters.
+    /// `arbitrary_explicit_prime_curves` (RFC 4492, section 5.1.1): any curve over a prime field,
+    /// given by its parameters.
     pub const ArbitraryExplicitPrimeCurves: NamedGroup = NamedGroup(0xff01);
 
-    /// The arbitrary_explicit_char2_curves of RFC 4492, section 5.1.1: the same over a field of characteristic 2.
+    /// `arbitrary_explicit_char2_curves` (RFC 4492, section 5.1.1): any curve over a field of
+    /// characteristic 2, given by its parameters.
     pub const ArbitraryExplicitChar2Curves: NamedGroup = NamedGroup(0xff02);
 
-    /// The length of a key, in bits, for the curves of RFC 4492 and RFC 7027 and for X25519 (253); `None` for any other
-    /// group.
+    /// Returns the length of a key, in bits, for the curves of RFC 4492 and RFC 7027 and for X25519
+    /// (253); `None` for any other group.
     pub fn key_bits(self) -> Option<u16>
         ensures { result ≡ key_bits_of self.0 }
     {
         find_number(KEY_BITS, self.0)
     }
 
-    /// The name that IANA's registry of groups has for the number, without a mark that it is reserved; `None` where it has none.
+    /// Returns the number's name in IANA's registry of groups, without the remark that it is
+    /// reserved; `None` if it has none.
     pub fn registered_name(self) -> Option<&'static str>
         ensures { option_map (λ t. t.now) result ≡ look_up registered_groups self.0 }
     {
         find_name(REGISTERED, self.0)
     }
 
-    /// Reads 2 bytes, big-endian. `Incomplete` of the bytes that are missing, 2 or 1.
+    /// Reads 2 bytes, big-endian. `Incomplete` with the number of missing bytes, 2 or 1.
     pub fn parse(i: &[u8]) -> IResult<&[u8], Self>
         ensures { Gives (λ v. v.0) (number 2) i.now result }
     {
@@ -178,7 +183,7 @@ impl Number for NamedGroup {
     }
 }
 
-/// The length of a key, in bits, for the groups that have one here.
+/// The length of a key, in bits, of each group that has one here.
 static KEY_BITS: &[(u16, u16)] = &[
     (NamedGroup::Sect163k1.0, 163),
     (NamedGroup::Sect163r1.0, 163),
@@ -211,7 +216,8 @@ static KEY_BITS: &[(u16, u16)] = &[
     (NamedGroup::EcdhX25519.0, 253),
 ];
 
-/// The registry of groups: a row for each number that has a constant or a name there, in the order of the numbers.
+/// The registry of groups, in increasing order: a row for each number with a constant or a
+/// registered name.
 macro_rules! rows {
     ($column:ident) => {
         $column! {
@@ -277,10 +283,10 @@ macro_rules! rows {
     };
 }
 
-/// The constants, each with its number and its name.
+/// The constants, each as its number and its name.
 static NAMES: &[(u16, &str)] = rows!(names);
 
-/// The names of the registry, each behind its number.
+/// The registry's names, each after its number.
 static REGISTERED: &[(u16, &str)] = rows!(registered);
 
 impl fmt::Display for NamedGroup {

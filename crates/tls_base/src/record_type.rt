@@ -11,34 +11,35 @@ use crate::name::{find_name, names, registered, write_name};
 use layouts::{IResult, number1};
 use std::fmt;
 
-/// What a record carries: the ContentType of RFC 5246, section 6.2.1, with Heartbeat (RFC 6520, section 6).
+/// The type of a record: the ContentType of RFC 5246, section 6.2.1, and heartbeat (RFC 6520,
+/// section 6).
 #[derive(Clone, Copy, Debug, PartialEq, Eq)]
 pub struct TlsRecordType(pub u8);
 
 impl TlsRecordType {
-    /// The change_cipher_spec of RFC 5246, section 7.1.
+    /// `change_cipher_spec` (RFC 5246, section 7.1).
     pub const ChangeCipherSpec: TlsRecordType = TlsRecordType(20);
 
-    /// The alert of RFC 5246, section 7.2.
+    /// `alert` (RFC 5246, section 7.2).
     pub const Alert: TlsRecordType = TlsRecordType(21);
 
-    /// The handshake of RFC 5246, section 7.4.
+    /// `handshake` (RFC 5246, section 7.4).
     pub const Handshake: TlsRecordType = TlsRecordType(22);
 
-    /// The application_data of RFC 5246, section 10.
+    /// `application_data` (RFC 5246, section 10).
     pub const ApplicationData: TlsRecordType = TlsRecordType(23);
 
-    /// The heartbeat of RFC 6520, section 3.
+    /// `heartbeat` (RFC 6520, section 3).
     pub const Heartbeat: TlsRecordType = TlsRecordType(24);
 
-    /// The name that IANA's registry of content types has for the number; `None` where it has none.
+    /// Returns the number's name in IANA's registry of content types; `None` if it has none.
     pub fn registered_name(self) -> Option<&'static str>
         ensures { option_map (λ t. t.now) result ≡ look_up registered_content_types self.0 }
     {
         find_name(REGISTERED, self.0 as u16)
     }
 
-    /// Reads 1 byte. `Incomplete(1)` where there is none.
+    /// Reads 1 byte. `Incomplete(1)` if there is none.
     pub fn parse(i: &[u8]) -> IResult<&[u8], Self>
         ensures { Gives (λ v. v.0) (number 1) i.now result }
     {
@@ -47,7 +48,8 @@ impl TlsRecordType {
     }
 }
 
-/// The registry of content types: a row for each number that has a constant or a name there, in the order of the numbers.
+/// The registry of content types, in increasing order: a row for each number with a constant or a
+/// registered name.
 macro_rules! rows {
     ($column:ident) => {
         $column! {
@@ -63,10 +65,10 @@ macro_rules! rows {
     };
 }
 
-/// The constants, each with its number and its name.
+/// The constants, each as its number and its name.
 static NAMES: &[(u16, &str)] = rows!(names);
 
-/// The names of the registry, each behind its number.
+/// The registry's names, each after its number.
 static REGISTERED: &[(u16, &str)] = rows!(registered);
 
 impl fmt::Display for TlsRecordType {

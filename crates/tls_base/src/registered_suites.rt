@@ -1,4 +1,4 @@
-//! The names of cipher suites.
+//! Names of cipher suites.
 ghost use Rattle.std.specs.Prelude.{◌≡◌};
 ghost use Rattle.std.specs.Option.{option_map};
 ghost use Rattle.tls_base.specs.Names.{look_up};
@@ -8,8 +8,11 @@ use crate::cipher_suite_id::TlsCipherSuiteID;
 use crate::name::find_rising_name;
 
 impl TlsCipherSuiteID {
-    /// The name that IANA's registry of TLS Cipher Suites has for the number, as `TLS_AES_128_GCM_SHA256`; `None` where it has none.
-    /// Six numbers of drafts that were never registered have the drafts' names: 0x0060 to 0x0066, and 0xcc13 to 0xcc15.
+    /// Returns the number's name in IANA's registry of TLS Cipher Suites, as
+    /// `TLS_AES_128_GCM_SHA256`; `None` if it has none.
+    ///
+    /// Suites of drafts that were never registered have the drafts' names: 0x0060 to 0x0066, and
+    /// 0xcc13 to 0xcc15.
     pub fn registered_name(self) -> Option<&'static str>
         ensures { option_map (λ t. t.now) result ≡ look_up registered_suites self.0 }
     {
@@ -17,7 +20,7 @@ impl TlsCipherSuiteID {
     }
 }
 
-/// The registry of cipher suites, in the order of the numbers, which rises.
+/// The registry of cipher suites, in increasing order of the numbers.
 macro_rules! rows {
     ($column:ident) => {
         $column! {
@@ -387,17 +390,17 @@ macro_rules! rows {
     };
 }
 
-/// The numbers of rows.
+/// Expands to the numbers in the rows.
 macro_rules! numbers {
     ($($number:literal = $name:literal;)*) => { &[$($number),*] };
 }
 
-/// The names of rows.
+/// Expands to the names in the rows.
 macro_rules! texts {
     ($($number:literal = $name:literal;)*) => { &[$($name),*] };
 }
 
-/// The numbers that have a name.
+/// The numbers with a name, in increasing order.
 static NUMBERS: &[u16] = rows!(numbers);
 
 /// The names, in the same order.

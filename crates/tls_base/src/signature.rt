@@ -1,4 +1,4 @@
-//! Signatures, and the algorithms that make them.
+//! Signatures, and their algorithms.
 #![tactic(auto, using(layouts::proofs::OneAnswerLemmas::read_allowed), unfolding(crate::specs::Signature::algorithm, crate::specs::Signature::digitally_signed, crate::specs::Signature::digitally_signed_old, crate::specs::Signature::signature))]
 
 ghost use Rattle.std.specs.Prelude.{Some};
@@ -10,19 +10,19 @@ use crate::sign_algorithm::SignAlgorithm;
 use layouts::{IResult, counted2};
 use std::fmt;
 
-/// How a signature is made: the pair of TLS 1.2 (RFC 5246, section 7.4.1.4.1).
+/// The pair of algorithms of a TLS 1.2 signature (RFC 5246, section 7.4.1.4.1).
 #[derive(Clone, Debug, PartialEq, Drop)]
 pub struct SignatureAndHashAlgorithm {
-    /// The hash that is signed.
+    /// The hash algorithm.
     pub hash: HashAlgorithm,
-    /// The algorithm that signs it.
+    /// The signature algorithm.
     pub sign: SignAlgorithm,
 }
 
 impl SignatureAndHashAlgorithm {
-    /// Reads 1 byte, the hash, and 1 byte, the algorithm that signs.
+    /// Reads 1 byte, the hash algorithm, then 1 byte, the signature algorithm.
     ///
-    /// `Incomplete(1)` where either is missing.
+    /// `Incomplete(1)` if either is missing.
     pub fn parse(i: &[u8]) -> IResult<&[u8], Self>
         ensures { Gives view_algorithm algorithm i.now result }
     {
@@ -43,16 +43,16 @@ impl fmt::Display for SignatureAndHashAlgorithm {
 /// A signature (RFC 5246, section 4.7).
 #[derive(Clone, Debug, PartialEq, Drop)]
 pub struct DigitallySigned<'a> {
-    /// How it is made; `None` in the form of the versions before TLS 1.2.
+    /// The signature's algorithms; `None` in the form of the versions before TLS 1.2.
     pub alg: Option<SignatureAndHashAlgorithm>,
     /// The signature itself.
     pub bytes: &'a [u8],
 }
 
-/// Reads a signature in the form of the versions before TLS 1.2 (RFC 4346, section 4.7): a block after 2 bytes of
-/// length, big-endian.
+/// Reads a signature of the versions before TLS 1.2 (RFC 4346, section 4.7): a block after 2 bytes
+/// of length, big-endian.
 ///
-/// `Incomplete` of the bytes that are missing of the length, or else of the block.
+/// `Incomplete` with the bytes missing from the length, or else from the block.
 pub fn parse_digitally_signed_old(i: &[u8]) -> IResult<&[u8], DigitallySigned>
     ensures { Gives view_signed digitally_signed_old i.now result }
 {
@@ -60,10 +60,10 @@ pub fn parse_digitally_signed_old(i: &[u8]) -> IResult<&[u8], DigitallySigned>
     Ok((i, DigitallySigned { alg: None, bytes }))
 }
 
-/// Reads a signature (RFC 5246, section 4.7): 1 byte, the hash, 1 byte, the algorithm that signs, and a block after 2
-/// bytes of length, big-endian.
+/// Reads a signature (RFC 5246, section 4.7): 1 byte, the hash algorithm, 1 byte, the signature
+/// algorithm, then a block after 2 bytes of length, big-endian.
 ///
-/// `Incomplete` of the bytes that are missing of the first part that isn't whole.
+/// `Incomplete` with the bytes missing from the first incomplete part.
 pub fn parse_digitally_signed(i: &[u8]) -> IResult<&[u8], DigitallySigned>
     ensures { Gives view_signed digitally_signed i.now result }
 {
@@ -76,7 +76,8 @@ pub fn parse_digitally_signed(i: &[u8]) -> IResult<&[u8], DigitallySigned>
     Ok((i, signed))
 }
 
-/// A signature, as [`parse_digitally_signed`] where `ext`, else as [`parse_digitally_signed_old`].
+/// Reads a signature: as [`parse_digitally_signed`] if `ext`, else as
+/// [`parse_digitally_signed_old`].
 fn either_signature(i: &[u8], ext: bool) -> IResult<&[u8], DigitallySigned>
     ensures { Gives view_signed (signature ext) i.now result }
 {
@@ -87,10 +88,10 @@ fn either_signature(i: &[u8], ext: bool) -> IResult<&[u8], DigitallySigned>
     }
 }
 
-/// Reads with `fun`, and then a signature from what `fun` leaves: as [`parse_digitally_signed`] where `ext`, else as
-/// [`parse_digitally_signed_old`].
+/// Reads content with `fun`, then a signature from what `fun` leaves: as [`parse_digitally_signed`]
+/// if `ext`, else as [`parse_digitally_signed_old`].
 ///
-/// Where `fun` refuses, its answer is passed on, whatever it is; else it is refused as the signature is.
+/// Any error of `fun` is passed on; further refusals are those of the signature.
 pub fn parse_content_and_signature<'a, F, T>(
     i: &'a [u8],
     fun: F,

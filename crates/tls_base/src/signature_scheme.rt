@@ -11,103 +11,103 @@ use crate::name::{find_name, names, registered, write_name};
 use layouts::{IResult, number2};
 use std::fmt;
 
-/// How a signature is made: the SignatureScheme of RFC 8446, section 4.2.3, its two bytes as one number, big-endian,
-/// with those of RFC 8734 and RFC 8998.
+/// A signature scheme: the SignatureScheme of RFC 8446, section 4.2.3, 2 bytes, big-endian, with
+/// those of RFC 8734 and RFC 8998.
 #[derive(Debug, PartialEq, Eq, Drop)]
 pub struct SignatureScheme(pub u16);
 
 impl SignatureScheme {
-    /// Of RFC 8446, section 4.2.3.
+    /// Defined in RFC 8446, section 4.2.3.
     pub const rsa_pkcs1_sha256: SignatureScheme = SignatureScheme(0x0401);
 
-    /// Of RFC 8446, section 4.2.3.
+    /// Defined in RFC 8446, section 4.2.3.
     pub const rsa_pkcs1_sha384: SignatureScheme = SignatureScheme(0x0501);
 
-    /// Of RFC 8446, section 4.2.3.
+    /// Defined in RFC 8446, section 4.2.3.
     pub const rsa_pkcs1_sha512: SignatureScheme = SignatureScheme(0x0601);
 
-    /// Of RFC 8446, section 4.2.3.
+    /// Defined in RFC 8446, section 4.2.3.
     pub const rsa_pkcs1_sha1: SignatureScheme = SignatureScheme(0x0201);
 
-    /// Of RFC 8446, section 4.2.3.
+    /// Defined in RFC 8446, section 4.2.3.
     pub const ecdsa_secp256r1_sha256: SignatureScheme = SignatureScheme(0x0403);
 
-    /// Of RFC 8446, section 4.2.3.
+    /// Defined in RFC 8446, section 4.2.3.
     pub const ecdsa_secp384r1_sha384: SignatureScheme = SignatureScheme(0x0503);
 
-    /// Of RFC 8446, section 4.2.3.
+    /// Defined in RFC 8446, section 4.2.3.
     pub const ecdsa_secp521r1_sha512: SignatureScheme = SignatureScheme(0x0603);
 
-    /// Of RFC 8446, section 4.2.3.
+    /// Defined in RFC 8446, section 4.2.3.
     pub const ecdsa_sha1: SignatureScheme = SignatureScheme(0x0203);
 
-    /// Of RFC 8998.
+    /// Defined in RFC 8998.
     pub const sm2sig_sm3: SignatureScheme = SignatureScheme(0x0708);
 
-    /// Of RFC 8446, section 4.2.3.
+    /// Defined in RFC 8446, section 4.2.3.
     pub const rsa_pss_rsae_sha256: SignatureScheme = SignatureScheme(0x0804);
 
-    /// Of RFC 8446, section 4.2.3.
+    /// Defined in RFC 8446, section 4.2.3.
     pub const rsa_pss_rsae_sha384: SignatureScheme = SignatureScheme(0x0805);
 
-    /// Of RFC 8446, section 4.2.3.
+    /// Defined in RFC 8446, section 4.2.3.
     pub const rsa_pss_rsae_sha512: SignatureScheme = SignatureScheme(0x0806);
 
-    /// Of RFC 8446, section 4.2.3.
+    /// Defined in RFC 8446, section 4.2.3.
     pub const ed25519: SignatureScheme = SignatureScheme(0x0807);
 
-    /// Of RFC 8446, section 4.2.3.
+    /// Defined in RFC 8446, section 4.2.3.
     pub const ed448: SignatureScheme = SignatureScheme(0x0808);
 
-    /// Of RFC 8446, section 4.2.3.
+    /// Defined in RFC 8446, section 4.2.3.
     pub const rsa_pss_pss_sha256: SignatureScheme = SignatureScheme(0x0809);
 
-    /// Of RFC 8446, section 4.2.3.
+    /// Defined in RFC 8446, section 4.2.3.
     pub const rsa_pss_pss_sha384: SignatureScheme = SignatureScheme(0x080a);
 
-    /// Of RFC 8446, section 4.2.3.
+    /// Defined in RFC 8446, section 4.2.3.
     pub const rsa_pss_pss_sha512: SignatureScheme = SignatureScheme(0x080b);
 
-    /// Of RFC 8734.
+    /// Defined in RFC 8734.
     pub const ecdsa_brainpoolP256r1tls13_sha256: SignatureScheme = SignatureScheme(0x081a);
 
-    /// Of RFC 8734.
+    /// Defined in RFC 8734.
     pub const ecdsa_brainpoolP384r1tls13_sha384: SignatureScheme = SignatureScheme(0x081b);
 
-    /// Of RFC 8734.
+    /// Defined in RFC 8734.
     pub const ecdsa_brainpoolP512r1tls13_sha512: SignatureScheme = SignatureScheme(0x081c);
 
-    /// Whether the number is one of 0xfe00 to 0xfeff. RFC 8446, section 4.2.3, keeps 0xfe00 to 0xffff for private use:
-    /// of these, 0xff00 to 0xffff aren't reserved by this call.
+    /// Returns whether the number is one of 0xfe00 to 0xfeff. RFC 8446, section 4.2.3, reserves
+    /// 0xfe00 to 0xffff for private use; this call doesn't count 0xff00 to 0xffff.
     pub fn is_reserved(&self) -> bool
         ensures { IsTrue result ↔ ((0xfe00 ≤ self.now.0) × (self.now.0 ≤ 0xfeff)) }
     {
         0xfe00 <= self.0 && self.0 <= 0xfeff
     }
 
-    /// The first of the two bytes: a [`crate::HashAlgorithm`] where the number is a pair of TLS 1.2.
+    /// Returns the first byte: a [`crate::HashAlgorithm`] if the number is a pair of TLS 1.2.
     pub fn hash_alg(&self) -> u8
         ensures { result ≡ self.now.0 / 256 }
     {
         (self.0 >> 8) as u8
     }
 
-    /// The second of the two bytes: a [`crate::SignAlgorithm`] where the number is a pair of TLS 1.2.
+    /// Returns the second byte: a [`crate::SignAlgorithm`] if the number is a pair of TLS 1.2.
     pub fn sign_alg(&self) -> u8
         ensures { result ≡ self.now.0 % 256 }
     {
         (self.0 & 0xff) as u8
     }
 
-    /// The name that IANA's registry of signature schemes has for the number, without a mark that it is reserved, or that of the pair of TLS 1.2,
-    /// as `dsa_sha256`; `None` where it has none.
+    /// Returns the number's name in IANA's registry of signature schemes, without the remark that
+    /// it is reserved, or the name of the pair of TLS 1.2, as `dsa_sha256`; `None` if it has none.
     pub fn registered_name(&self) -> Option<&'static str>
         ensures { option_map (λ t. t.now) result ≡ look_up registered_signature_schemes self.now.0 }
     {
         find_name(REGISTERED, self.0)
     }
 
-    /// Reads 2 bytes, big-endian. `Incomplete` of the bytes that are missing, 2 or 1.
+    /// Reads 2 bytes, big-endian. `Incomplete` with the number of missing bytes, 2 or 1.
     pub fn parse(i: &[u8]) -> IResult<&[u8], Self>
         ensures { Gives (λ v. v.0) (number 2) i.now result }
     {
@@ -116,7 +116,8 @@ impl SignatureScheme {
     }
 }
 
-/// The registry of signature schemes: a row for each number that has a constant or a name there, and for the pairs of TLS 1.2.
+/// The registry of signature schemes: a row for each number with a constant or a registered name,
+/// and for the pairs of TLS 1.2.
 macro_rules! rows {
     ($column:ident) => {
         $column! {
@@ -184,10 +185,10 @@ macro_rules! rows {
     };
 }
 
-/// The constants, each with its number and its name.
+/// The constants, each as its number and its name.
 static NAMES: &[(u16, &str)] = rows!(names);
 
-/// The names of the registry, each behind its number.
+/// The registry's names, each after its number.
 static REGISTERED: &[(u16, &str)] = rows!(registered);
 
 impl fmt::Display for SignatureScheme {

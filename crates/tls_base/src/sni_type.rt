@@ -9,15 +9,15 @@ use crate::name::{names, write_name};
 use layouts::{IResult, number1};
 use std::fmt;
 
-/// What a server name is: the NameType of RFC 6066, section 3.
+/// The type of a server name: the NameType of RFC 6066, section 3.
 #[derive(Clone, Copy, Debug, PartialEq, Eq)]
 pub struct SNIType(pub u8);
 
 impl SNIType {
-    /// The host_name of RFC 6066, section 3.
+    /// `host_name` (RFC 6066, section 3).
     pub const HostName: SNIType = SNIType(0);
 
-    /// Reads 1 byte. `Incomplete(1)` where there is none.
+    /// Reads 1 byte. `Incomplete(1)` if there is none.
     pub fn parse(i: &[u8]) -> IResult<&[u8], Self>
         ensures { Gives (λ v. v.0) (number 1) i.now result }
     {
@@ -26,7 +26,7 @@ impl SNIType {
     }
 }
 
-/// The constants, each with its number and its name.
+/// The constants, each as its number and its name.
 static NAMES: &[(u16, &str)] = names!(SNIType: HostName);
 
 impl fmt::Display for SNIType {

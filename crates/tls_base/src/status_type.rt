@@ -9,15 +9,15 @@ use crate::name::{names, write_name};
 use layouts::{IResult, number1};
 use std::fmt;
 
-/// What a certificate status is: the CertificateStatusType of RFC 6066, section 8.
+/// The type of a certificate status: the CertificateStatusType of RFC 6066, section 8.
 #[derive(Clone, Copy, Debug, PartialEq, Eq)]
 pub struct CertificateStatusType(pub u8);
 
 impl CertificateStatusType {
-    /// The ocsp of RFC 6066, section 8.
+    /// `ocsp` (RFC 6066, section 8).
     pub const OCSP: CertificateStatusType = CertificateStatusType(1);
 
-    /// Reads 1 byte. `Incomplete(1)` where there is none.
+    /// Reads 1 byte. `Incomplete(1)` if there is none.
     pub fn parse(i: &[u8]) -> IResult<&[u8], Self>
         ensures { Gives (λ v. v.0) (number 1) i.now result }
     {
@@ -26,7 +26,7 @@ impl CertificateStatusType {
     }
 }
 
-/// The constants, each with its number and its name.
+/// The constants, each as its number and its name.
 static NAMES: &[(u16, &str)] = names!(CertificateStatusType: OCSP);
 
 impl fmt::Display for CertificateStatusType {

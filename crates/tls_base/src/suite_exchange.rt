@@ -1,34 +1,35 @@
-//! How cipher suites exchange keys, as far as their messages differ.
+//! Key exchanges of cipher suites, as far as they decide the form of the key exchange messages.
 ghost use Rattle.std.specs.Prelude.{◌≡◌};
 ghost use Rattle.tls_base.specs.SuiteExchange.{is_in, is_over_curves, key_exchange, signed as signed_by, unsigned as unsigned_by};
 
 use crate::cipher_suite_id::TlsCipherSuiteID;
 
-/// What a key is made of.
+/// What the two sides transmit to make a key, besides the identity of a pre-shared key.
 #[derive(Clone, Copy, Debug, PartialEq, Eq)]
 pub enum Public {
-    /// A key that both sides know before, and nothing else (RFC 4279, section 2).
+    /// Nothing: there is only a pre-shared key (RFC 4279, section 2).
     Nothing,
     /// A secret that the client encrypts (RFC 5246, section 7.4.7.1).
     Rsa,
-    /// Public values of Diffie-Hellman (RFC 5246, sections 7.4.3 and 7.4.7.2).
+    /// Public values of finite-field Diffie-Hellman (RFC 5246, sections 7.4.3 and 7.4.7.2).
     Dh,
-    /// Public values of Diffie-Hellman over elliptic curves (RFC 8422, sections 5.4 and 5.7).
+    /// Public values of elliptic-curve Diffie-Hellman (RFC 8422, sections 5.4 and 5.7).
     Ecdh,
 }
 
 /// The key exchange of a suite.
 #[derive(Clone, Copy, Debug, PartialEq, Eq)]
 pub struct KeyExchange {
-    /// Whether a key is used that both sides know before (RFC 4279, sections 2 to 4; RFC 5489, section 2).
+    /// Whether a pre-shared key is used, with its identity (RFC 4279, sections 2 to 4; RFC 5489,
+    /// section 2).
     pub has_identity: bool,
-    /// What else the key is made of.
+    /// What else is transmitted.
     pub public: Public,
     /// Whether the server signs its public values.
     pub is_signed: bool,
 }
 
-/// One without a signature.
+/// Returns a key exchange without a signature.
 const fn unsigned(has_identity: bool, public: Public) -> KeyExchange
     ensures { result ≡ unsigned_by has_identity public }
 {
@@ -39,7 +40,7 @@ const fn unsigned(has_identity: bool, public: Public) -> KeyExchange
     }
 }
 
-/// One whose public values the server signs.
+/// Returns a key exchange whose public values the server signs, without a pre-shared key.
 const fn signed(public: Public) -> KeyExchange
     ensures { result ≡ signed_by public }
 {
@@ -50,7 +51,7 @@ const fn signed(public: Public) -> KeyExchange
     }
 }
 
-/// RSA alone, also of export.
+/// RSA alone, including export suites.
 static RSA: &[(u16, u16)] = &[
     (0x0001, 0x000a),
     (0x002f, 0x002f),
@@ -69,7 +70,8 @@ static RSA: &[(u16, u16)] = &[
     (0xc0a0, 0xc0a1),
 ];
 
-/// Diffie-Hellman with a certificate: DHE, and with fixed keys, whose server has no key exchange to send.
+/// Diffie-Hellman with a certificate: DHE, and fixed keys, for which the server sends no key
+/// exchange.
 static DH: &[(u16, u16)] = &[
     (0x000b, 0x0016),
     (0x0030, 0x0033),
@@ -107,7 +109,8 @@ static ANONYMOUS_DH: &[(u16, u16)] = &[
     (0xc084, 0xc085),
 ];
 
-/// Diffie-Hellman over elliptic curves, with a certificate: ECDHE, and with fixed keys, whose server has no key exchange to send.
+/// Elliptic-curve Diffie-Hellman with a certificate: ECDHE, and fixed keys, for which the server
+/// sends no key exchange.
 static ECDH: &[(u16, u16)] = &[
     (0xc001, 0xc014),
     (0xc023, 0xc032),
@@ -119,10 +122,10 @@ static ECDH: &[(u16, u16)] = &[
     (0xcca8, 0xcca9),
 ];
 
-/// The same without a certificate.
+/// Elliptic-curve Diffie-Hellman without a certificate.
 static ANONYMOUS_ECDH: &[(u16, u16)] = &[(0xc015, 0xc019)];
 
-/// A key that both sides know before, alone.
+/// A pre-shared key alone.
 static KNOWN_KEY: &[(u16, u16)] = &[
     (0x002c, 0x002c),
     (0x008a, 0x008d),
@@ -137,7 +140,7 @@ static KNOWN_KEY: &[(u16, u16)] = &[
     (0xccab, 0xccab),
 ];
 
-/// Such a key with Diffie-Hellman.
+/// A pre-shared key with Diffie-Hellman.
 static KNOWN_KEY_WITH_DH: &[(u16, u16)] = &[
     (0x002d, 0x002d),
     (0x008e, 0x0091),
@@ -152,7 +155,7 @@ static KNOWN_KEY_WITH_DH: &[(u16, u16)] = &[
     (0xccad, 0xccad),
 ];
 
-/// Such a key with Diffie-Hellman over elliptic curves.
+/// A pre-shared key with elliptic-curve Diffie-Hellman.
 static KNOWN_KEY_WITH_ECDH: &[(u16, u16)] = &[
     (0xc033, 0xc03b),
     (0xc070, 0xc071),
@@ -161,7 +164,7 @@ static KNOWN_KEY_WITH_ECDH: &[(u16, u16)] = &[
     (0xd001, 0xd005),
 ];
 
-/// Such a key with RSA.
+/// A pre-shared key with RSA.
 static KNOWN_KEY_WITH_RSA: &[(u16, u16)] = &[
     (0x002e, 0x002e),
     (0x0092, 0x0095),
@@ -174,7 +177,7 @@ static KNOWN_KEY_WITH_RSA: &[(u16, u16)] = &[
     (0xccae, 0xccae),
 ];
 
-/// Whether a number is within one of the ranges, each from its first to its last.
+/// Returns whether a number is in one of the ranges, each from its first to its last number.
 fn is_within(ranges: &[(u16, u16)], number: u16) -> bool
     ensures { result ≡ is_in ranges.now number }
 {
@@ -184,7 +187,8 @@ fn is_within(ranges: &[(u16, u16)], number: u16) -> bool
 }
 
 impl KeyExchange {
-    /// That of a suite of the registry of TLS Cipher Suites; `None` of TLS 1.3's, and of those by Kerberos, SRP, GOST and passwords.
+    /// Returns the key exchange of a registered suite; `None` for those of TLS 1.3, and those with
+    /// Kerberos, SRP, GOST or passwords.
     pub fn of(suite: TlsCipherSuiteID) -> Option<KeyExchange>
         ensures { result ≡ key_exchange suite.0 }
     {
@@ -202,8 +206,10 @@ impl KeyExchange {
         }
     }
 
-    /// Whether the server's key exchange has the parameters of a curve (RFC 8422, section 5.4). Suites of fixed keys, whose server sends no key
-    /// exchange, are not told apart.
+    /// Returns whether the server's key exchange has the parameters of a curve (RFC 8422, section
+    /// 5.4).
+    ///
+    /// Suites with fixed keys, whose server sends no key exchange, aren't distinguished.
     pub fn is_over_curves(self) -> bool
         ensures { result ≡ is_over_curves self }
     {

@@ -1,4 +1,4 @@
-//! Signed certificate timestamps, by which a log says that it knows a certificate (RFC 6962).
+//! Signed certificate timestamps: a log's promises that it records a certificate (RFC 6962).
 ghost use Rattle.std.specs.Prelude.{map};
 ghost use Rattle.layouts.specs.Answers.{Gives, GivesOrMemory};
 ghost use Rattle.tls_base.specs.Timestamp.{SignedCertificateTimestamp as Timestamp, view_log_id, log_id as log_id_layout, view_timestamp, timestamp as timestamp_layout, serialized_timestamp, timestamp_list};
@@ -8,7 +8,7 @@ use crate::signature::{DigitallySigned, parse_digitally_signed};
 use layouts::{Err, IResult, InPlace, Needed, Room, block, counted2, items, number2, number8};
 use std::alloc::Global;
 
-/// Which log signed: the hash of its key (RFC 6962, section 3.2).
+/// The id of a log: the hash of its key (RFC 6962, section 3.2).
 #[derive(Clone, Debug, PartialEq, Drop)]
 pub struct CtLogID<'a> {
     /// The SHA-256 hash of the log's public key.
@@ -22,19 +22,19 @@ pub struct CtExtensions<'a>(pub &'a [u8]);
 /// A signed certificate timestamp (RFC 6962, section 3.2).
 #[derive(Clone, Debug, PartialEq, Drop)]
 pub struct SignedCertificateTimestamp<'a> {
-    /// The version of the protocol in which the timestamp is written.
+    /// The version of the protocol.
     pub version: CtVersion,
-    /// Which log signed.
+    /// The log that signed.
     pub id: CtLogID<'a>,
     /// Milliseconds since the start of 1970.
     pub timestamp: u64,
-    /// Extensions, of which none are known.
+    /// Extensions, none of which are defined.
     pub extensions: CtExtensions<'a>,
     /// The log's signature.
     pub signature: DigitallySigned<'a>,
 }
 
-/// 32 bytes.
+/// Reads 32 bytes, the id of a log.
 #[tactic(auto, using(layouts::proofs::OneAnswerLemmas::read_allowed), unfolding(layouts::specs::Reading::split_at))]
 fn log_id(i: &[u8]) -> IResult<&[u8], CtLogID>
     ensures { Gives view_log_id log_id_layout i.now result }
@@ -45,7 +45,7 @@ fn log_id(i: &[u8]) -> IResult<&[u8], CtLogID>
     }
 }
 
-/// A timestamp, without the length before it.
+/// Reads a timestamp without the length before it.
 #[tactic(auto, using(layouts::proofs::OneAnswerLemmas::read_allowed), unfolding(crate::specs::Timestamp::timestamp))]
 fn timestamp(i: &[u8]) -> IResult<&[u8], SignedCertificateTimestamp>
     ensures { Gives view_timestamp timestamp_layout i.now result }
@@ -65,11 +65,15 @@ fn timestamp(i: &[u8]) -> IResult<&[u8], SignedCertificateTimestamp>
     Ok((i, timestamp))
 }
 
-/// Reads a timestamp (RFC 6962, section 3.3): 2 bytes of length, and within so many bytes 1 byte of version, 32 of log,
-/// 8 of time, extensions after 2 bytes of length, and a signature as [`parse_digitally_signed`]. What these leave of
-/// the bytes is dropped. All numbers are big-endian.
+/// Reads a timestamp after its length (RFC 6962, section 3.3). All numbers are big-endian.
 ///
-/// `Incomplete` of the bytes that are missing of the first part that isn't whole, also of one within the length.
+/// - 2 bytes: the length of what follows;
+/// - 1 byte: the version; 32 bytes: the log's id; 8 bytes: the time;
+/// - extensions, after 2 bytes of length;
+/// - a signature, as [`parse_digitally_signed`]. Bytes after it, up to the length, are dropped.
+///
+/// `Incomplete` with the bytes missing from the first incomplete part, also if the length ends
+/// within it.
 pub fn parse_ct_signed_certificate_timestamp(i: &[u8]) -> IResult<&[u8], SignedCertificateTimestamp>
     ensures { Gives view_timestamp serialized_timestamp i.now result }
 {
@@ -95,11 +99,12 @@ impl<'a> InPlace<'a> for SignedCertificateTimestamp<'a> {
 
 impl Room for SignedCertificateTimestamp<'_> {}
 
-/// Reads timestamps (RFC 6962, section 3.3): 2 bytes of length, big-endian, and within so many bytes timestamps up to
-/// the first that isn't read. What is left of the bytes is dropped.
+/// Reads a list of timestamps (RFC 6962, section 3.3): 2 bytes of length, big-endian, then
+/// timestamps in that many bytes, up to the first that can't be read. The bytes from there are
+/// dropped.
 ///
-/// `Incomplete` of the bytes that are missing of the length, or of so many bytes. `OutOfMemory` where there is no
-/// memory for the list.
+/// `Incomplete` with the bytes missing from the length, or else from the list. `OutOfMemory` if the
+/// list can't be allocated.
 pub fn parse_ct_signed_certificate_timestamp_list(
     alloc: Global,
     i: &[u8],

@@ -6,9 +6,11 @@ ghost use Rattle.tls_base.specs.Timestamp.{serialized_timestamp, timestamp_list}
 use crate::timestamp::SignedCertificateTimestamp;
 use layouts::{IResult, Items, counted2};
 
-/// Reads timestamps in place (RFC 6962, section 3.3): as [`crate::parse_ct_signed_certificate_timestamp_list`], memory aside.
+/// Reads a list of timestamps in place (RFC 6962, section 3.3). Gives the same answer as
+/// [`crate::parse_ct_signed_certificate_timestamp_list`], but allocates nothing.
 ///
-/// The length of the list is judged; each timestamp is read as the walk comes to it.
+/// `Incomplete` with the bytes missing from the length, or else from the list. Each timestamp is
+/// read when the walk reaches it.
 #[inline(always)]
 pub fn certificate_timestamps(i: &[u8]) -> IResult<&[u8], Items<SignedCertificateTimestamp>>
     ensures { Gives (λ v. items_in serialized_timestamp v.bytes.now) timestamp_list i.now result }

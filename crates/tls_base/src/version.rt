@@ -11,11 +11,11 @@ use layouts::{IResult, Number, OutOfMemory, number2};
 use std::alloc::Global;
 use std::fmt;
 
-/// A version of TLS or DTLS: the ProtocolVersion of RFC 5246, section 6.2.1, its two bytes as one number, big-endian.
+/// A version of TLS or DTLS: the ProtocolVersion of RFC 5246, section 6.2.1, 2 bytes, big-endian.
 ///
-/// The version of a record may be an older one than that which is spoken. Up to TLS 1.2 this is the version of the
-/// ServerHello; in TLS 1.3 both hellos say 0x0303, and it stands in their extension supported_versions (RFC 8446,
-/// section 4.2.1).
+/// The version in a record may be older than the one in use. Up to TLS 1.2 the version in use is
+/// that of the ServerHello. In TLS 1.3 both hellos have 0x0303, and the version is in their
+/// extension supported_versions (RFC 8446, section 4.2.1).
 #[derive(Clone, Copy, Debug, Default, PartialEq, Eq)]
 pub struct TlsVersion(pub u16);
 
@@ -35,43 +35,43 @@ impl TlsVersion {
     /// TLS 1.3 (RFC 8446).
     pub const Tls13: TlsVersion = TlsVersion(0x0304);
 
-    /// TLS 1.3 as draft-ietf-tls-tls13-18 has it.
+    /// TLS 1.3 of draft-ietf-tls-tls13-18.
     pub const Tls13Draft18: TlsVersion = TlsVersion(0x7f12);
 
-    /// TLS 1.3 as draft-ietf-tls-tls13-19 has it.
+    /// TLS 1.3 of draft-ietf-tls-tls13-19.
     pub const Tls13Draft19: TlsVersion = TlsVersion(0x7f13);
 
-    /// TLS 1.3 as draft-ietf-tls-tls13-20 has it.
+    /// TLS 1.3 of draft-ietf-tls-tls13-20.
     pub const Tls13Draft20: TlsVersion = TlsVersion(0x7f14);
 
-    /// TLS 1.3 as draft-ietf-tls-tls13-21 has it.
+    /// TLS 1.3 of draft-ietf-tls-tls13-21.
     pub const Tls13Draft21: TlsVersion = TlsVersion(0x7f15);
 
-    /// TLS 1.3 as draft-ietf-tls-tls13-22 has it.
+    /// TLS 1.3 of draft-ietf-tls-tls13-22.
     pub const Tls13Draft22: TlsVersion = TlsVersion(0x7f16);
 
-    /// TLS 1.3 as draft-ietf-tls-tls13-23 has it.
+    /// TLS 1.3 of draft-ietf-tls-tls13-23.
     pub const Tls13Draft23: TlsVersion = TlsVersion(0x7f17);
 
     /// DTLS 1.0 (RFC 4347).
     pub const DTls10: TlsVersion = TlsVersion(0xfeff);
 
-    /// There is no such version (RFC 6347, section 1); its number is that which DTLS 1.1 would have.
+    /// The number that DTLS 1.1 would have. There is no such version (RFC 6347, section 1).
     pub const DTls11: TlsVersion = TlsVersion(0xfefe);
 
     /// DTLS 1.2 (RFC 6347).
     pub const DTls12: TlsVersion = TlsVersion(0xfefd);
 
-    /// The two bytes of the number, big-endian.
+    /// Returns the two bytes of the number, big-endian.
     pub const fn to_be_bytes(&self) -> [u8; 2]
         ensures { result ≡ bytes_of 2 self.now.0 }
     {
         self.0.to_be_bytes()
     }
 
-    /// The number in lower-case hexadecimal, without a prefix and without leading zeros.
+    /// Returns the number in lower-case hexadecimal, without prefix and leading zeros.
     ///
-    /// Refused only where memory runs out.
+    /// Fails only if memory runs out.
     pub fn lower_hex(&self, alloc: Global) -> Result<String, OutOfMemory>
         ensures { IfOk result (λ s. string_bytes s ≡ hexadecimal self.now.0) }
     {
@@ -79,7 +79,7 @@ impl TlsVersion {
         Ok(format!(in alloc; "{n:x}")?)
     }
 
-    /// Reads 2 bytes, big-endian. `Incomplete` of the bytes that are missing, 2 or 1.
+    /// Reads 2 bytes, big-endian. `Incomplete` with the number of missing bytes, 2 or 1.
     pub fn parse(i: &[u8]) -> IResult<&[u8], Self>
         ensures { Gives (λ v. v.0) (number 2) i.now result }
     {
@@ -102,7 +102,7 @@ impl Number for TlsVersion {
     }
 }
 
-/// The constants, each with its number and its name.
+/// The constants, each as its number and its name.
 static NAMES: &[(u16, &str)] = names!(
     TlsVersion: Ssl30, Tls10, Tls11, Tls12, Tls13, Tls13Draft18, Tls13Draft19, Tls13Draft20,
     Tls13Draft21, Tls13Draft22, Tls13Draft23, DTls10, DTls11, DTls12

@@ -1,4 +1,4 @@
--- Where TLS begins, one byte after the other.
+-- Where TLS begins, byte by byte.
 use Rattle.std.proofs.Common.{◌≡◌, ℕ, zero, suc, ◌+◌, ◌-◌, ◌<◌, ◌≤◌, Bool, true, false, cond, not, List, [], ◌∷◌, ◌++◌, length, take, drop, get_or, Option, Some, None, refl, sym, ◌∙◌, ap, subst, arith, nat_le}
 use Rattle.std.proofs.Math.Seq.{drop-cons}
 use Rattle.std.proofs.lemmas.List.{drop_all, take-append-le, length-append}
@@ -7,7 +7,8 @@ use Rattle.std.specs.Option.{option_map}
 use Rattle.tls_detection.specs.Place.{begins_behind, place_behind, is_answer, is_hello}
 
 -- where it begins
-pub begins_there : (a : Bool) (x : ℕ) (b : List ℕ) → begins_behind a (x ∷ b) ≡ true → place_behind a (x ∷ b) ≡ Some 0
+pub begins_there : (a : Bool) (x : ℕ) (b : List ℕ) → begins_behind a (x ∷ b) ≡ true
+    → place_behind a (x ∷ b) ≡ Some 0
 unfolding place_behind
 begins_there a x b e = ap (λ t. cond t (Some 0) (option_map suc (place_behind a b))) e
 
@@ -24,15 +25,18 @@ none_at_end a = refl
 test : Bool → List ℕ → Bool
 test a w = cond a (is_answer w) (is_hello 1 w)
 
-begins_is : (a : Bool) (b : List ℕ) → begins_behind a b ≡ cond (nat_le 11 (length b)) (test a (take 11 b)) false
+begins_is : (a : Bool) (b : List ℕ)
+    → begins_behind a b ≡ cond (nat_le 11 (length b)) (test a (take 11 b)) false
 unfolding begins_behind test
 begins_is a b = refl
 
--- further bytes change nothing of what 11 bytes tell
-begins_same : (a : Bool) (b c : List ℕ) → 11 ≤ length b → begins_behind a (b ++ c) ≡ begins_behind a b
+-- more bytes don't change what 11 bytes decide
+begins_same : (a : Bool) (b c : List ℕ) → 11 ≤ length b
+    → begins_behind a (b ++ c) ≡ begins_behind a b
 begins_same a b c h =
     begins_is a (b ++ c)
-    ∙ ap (λ t. cond t (test a (take 11 (b ++ c))) false) (le-leb 11 (length (b ++ c)) (omega (arith, h, length-append b c)))
+    ∙ ap (λ t. cond t (test a (take 11 (b ++ c))) false)
+    (le-leb 11 (length (b ++ c)) (omega (arith, h, length-append b c)))
     ∙ ap (test a) (take-append-le 11 b c h)
     ∙ sym (ap (λ t. cond t (test a (take 11 b)) false) (le-leb 11 (length b) h))
     ∙ sym (begins_is a b)
@@ -44,7 +48,8 @@ short_begins a b h =
 short_none : (a : Bool) (b : List ℕ) → length b < 11 → place_behind a b ≡ None
 short_none a [] h = none_at_end a
 short_none a (x ∷ b) h =
-    begins_later a x b (short_begins a (x ∷ b) h) ∙ ap (option_map suc) (short_none a b (omega (arith, h)))
+    begins_later a x b (short_begins a (x ∷ b) h)
+    ∙ ap (option_map suc) (short_none a b (omega (arith, h)))
 
 suc_none : (o : Option ℕ) → option_map suc o ≡ None → o ≡ None
 suc_none None e = refl
@@ -57,7 +62,8 @@ suc_some (Some m) n e = (m, refl, cc)
 Stands : Bool → List ℕ → List ℕ → Type 0
 Stands a b c = (n : ℕ) → place_behind a b ≡ Some n → place_behind a (b ++ c) ≡ Some n
 
-stands_on : (a : Bool) (x : ℕ) (b c : List ℕ) → Stands a b c → (t : Bool) → begins_behind a (x ∷ b) ≡ t
+stands_on : (a : Bool) (x : ℕ) (b c : List ℕ) → Stands a b c → (t : Bool)
+    → begins_behind a (x ∷ b) ≡ t
     → 11 ≤ length (x ∷ b) → Stands a (x ∷ b) c
 unfolding Stands
 stands_on a x b c rest true e' h n e =
@@ -68,14 +74,16 @@ stands_on a x b c rest false e' h n e =
     ∙ ap (option_map suc) (rest s.0 s.1)
     ∙ ap Some s.2
 
-stands_by : (a : Bool) (x : ℕ) (b c : List ℕ) → Stands a b c → (t : Bool) → nat_le 11 (length (x ∷ b)) ≡ t → Stands a (x ∷ b) c
+stands_by : (a : Bool) (x : ℕ) (b c : List ℕ) → Stands a b c → (t : Bool)
+    → nat_le 11 (length (x ∷ b)) ≡ t → Stands a (x ∷ b) c
 unfolding Stands
 stands_by a x b c rest true h n e =
     stands_on a x b c rest (begins_behind a (x ∷ b)) refl (leb-true 11 (length (x ∷ b)) h) n e
 stands_by a x b c rest false h n e =
     let none = short_none a (x ∷ b) (leb-false 11 (length (x ∷ b)) h) in cc
 
-pub place_stands : (a : Bool) (b c : List ℕ) (n : ℕ) → place_behind a b ≡ Some n → place_behind a (b ++ c) ≡ Some n
+pub place_stands : (a : Bool) (b c : List ℕ) (n : ℕ) → place_behind a b ≡ Some n
+    → place_behind a (b ++ c) ≡ Some n
 unfolding Stands
 place_stands a [] c n e = let none = none_at_end a in cc
 place_stands a (x ∷ b) c n e =
@@ -85,7 +93,8 @@ same_map : (o : Option ℕ) (k : ℕ) → k ≡ 0 → o ≡ option_map (λ n. k 
 same_map None k e = refl
 same_map (Some n) k e = ap Some (omega (arith, e))
 
-suc_map : (o : Option ℕ) (k : ℕ) → option_map suc (option_map (λ n. k + n) o) ≡ option_map (λ n. suc k + n) o
+suc_map : (o : Option ℕ) (k : ℕ)
+    → option_map suc (option_map (λ n. k + n) o) ≡ option_map (λ n. suc k + n) o
 suc_map None k = refl
 suc_map (Some n) k = ap Some (let e : suc (k + n) ≡ suc k + n = omega arith in e)
 
@@ -94,7 +103,8 @@ Moves a b c k = place_behind a (b ++ c) ≡ option_map (λ n. k + n) (place_behi
 
 moves_on : (a : Bool) (x : ℕ) (b c : List ℕ) → place_behind a (x ∷ b) ≡ None
     → (place_behind a b ≡ None → Moves a b c (length b - 10))
-    → (t : Bool) → begins_behind a (x ∷ b) ≡ t → 11 ≤ length (x ∷ b) → Moves a (x ∷ b) c (suc (length b - 10))
+    → (t : Bool) → begins_behind a (x ∷ b) ≡ t → 11 ≤ length (x ∷ b)
+    → Moves a (x ∷ b) c (suc (length b - 10))
 unfolding Moves
 moves_on a x b c e rest true e' h = let there = begins_there a x b e' in cc
 moves_on a x b c e rest false e' h =
@@ -120,19 +130,23 @@ moves_by a x b c e rest false h =
     subst (Moves a (x ∷ b) c) none (at_zero a (x ∷ b) c)
 
 pub place_moves : (a : Bool) (b c : List ℕ) → place_behind a b ≡ None
-    → place_behind a (b ++ c) ≡ option_map (λ n. (length b - 10) + n) (place_behind a (drop (length b - 10) b ++ c))
+    → place_behind a (b ++ c) ≡ option_map (λ n. (length b - 10) + n)
+    (place_behind a (drop (length b - 10) b ++ c))
 unfolding Moves
 place_moves a [] c e = same_map (place_behind a c) (0 - 10) refl
 place_moves a (x ∷ b) c e = moves_by a x b c e (place_moves a b c) (nat_le 11 (length (x ∷ b))) refl
 
 -- the search at one place
 pub found : (a : Bool) (b : List ℕ) (k : ℕ) → k < length b → begins_behind a (drop k b) ≡ true
-    → option_map (λ n. k + n) (place_behind a (drop k b)) ≡ place_behind a b → Some k ≡ place_behind a b
+    → option_map (λ n. k + n) (place_behind a (drop k b)) ≡ place_behind a b
+    → Some k ≡ place_behind a b
 found a b k h e inv =
     let next = drop-cons b k 0 h in
     let there : place_behind a (drop k b) ≡ Some 0 =
-    ap (place_behind a) next ∙ begins_there a (get_or b k 0) (drop (suc k) b) (ap (begins_behind a) (sym next) ∙ e) in
-    (let same : k ≡ k + 0 = omega arith in ap Some same) ∙ sym (ap (option_map (λ n. k + n)) there) ∙ inv
+    ap (place_behind a) next
+    ∙ begins_there a (get_or b k 0) (drop (suc k) b) (ap (begins_behind a) (sym next) ∙ e) in
+    (let same : k ≡ k + 0 = omega arith in ap Some same)
+    ∙ sym (ap (option_map (λ n. k + n)) there) ∙ inv
 
 pub passed : (a : Bool) (b : List ℕ) (k : ℕ) → k < length b → begins_behind a (drop k b) ≡ false
     → option_map (λ n. k + n) (place_behind a (drop k b)) ≡ place_behind a b
@@ -148,12 +162,14 @@ passed a b k h e inv =
     ∙ sym (ap (option_map (λ n. k + n)) later)
     ∙ inv
   where
-    moved : (o : Option ℕ) (k : ℕ) → option_map (λ n. suc k + n) o ≡ option_map (λ n. k + n) (option_map suc o)
+    moved : (o : Option ℕ) (k : ℕ)
+        → option_map (λ n. suc k + n) o ≡ option_map (λ n. k + n) (option_map suc o)
     moved None k = refl
     moved (Some n) k = ap Some (let e : suc k + n ≡ k + suc n = omega arith in e)
 
 pub none_left : (a : Bool) (b : List ℕ) (k : ℕ) → length b ≤ k
-    → option_map (λ n. k + n) (place_behind a (drop k b)) ≡ place_behind a b → None ≡ place_behind a b
+    → option_map (λ n. k + n) (place_behind a (drop k b)) ≡ place_behind a b
+    → None ≡ place_behind a b
 none_left a b k h inv =
     let none : drop k b ≡ [] = drop_all k b h in
     sym (ap (λ l. option_map (λ n. k + n) (place_behind a l)) none

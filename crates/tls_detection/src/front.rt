@@ -1,4 +1,4 @@
-//! Whether bytes begin as TLS or DTLS does.
+//! Whether bytes begin like TLS or DTLS.
 ghost use Rattle.std.specs.Prelude.{◌≡◌};
 ghost use Rattle.layouts.specs.Reading.{reading};
 ghost use Rattle.tls_records.specs.DtlsRecord as datagram;
@@ -10,13 +10,14 @@ use tls_records::{
     parse_tls_record_header,
 };
 
-/// How many bytes tell whether a side speaks TLS: the header of a record (RFC 8446, section 5.1).
+/// How many bytes decide whether a side speaks TLS: the header of a record (RFC 8446, section 5.1).
 pub const HEADER_LEN: usize = 5;
 
-/// The type of the records that hold handshake messages.
+/// The content type of handshake records.
 const HANDSHAKE: u8 = 22;
 
-/// A type of records that there is, the major version 3, and a length within the limit. The minor version is ignored (RFC 8446, section 5.1).
+/// Whether this is the header of a TLS record: a known content type, the major version 3, and a
+/// length within the limit. The minor version is ignored (RFC 8446, section 5.1).
 fn is_header(header: &TlsRecordHeader) -> bool
     ensures { result ≡ is_front (stream.view_header header.now) }
 {
@@ -27,7 +28,7 @@ fn is_header(header: &TlsRecordHeader) -> bool
         && header.len <= MAX_RECORD_LEN
 }
 
-/// Whether a stream begins with the header of a record of TLS.
+/// Whether a stream begins with the header of a TLS record.
 pub fn begins_tls(bytes: &[u8]) -> bool
     ensures { result ≡ begins bytes.now }
 {
@@ -37,11 +38,11 @@ pub fn begins_tls(bytes: &[u8]) -> bool
     }
 }
 
-/// Whether these are the first bytes of a stream of TLS: they begin with the header of a record (RFC 8446, section 5.1), with a type from 20
-/// to 24, the major version 3, whatever the minor one, and a length of at most 16,640 bytes. `None` where there are fewer than 5 bytes, which
-/// don't tell.
+/// Whether a stream begins as TLS: with the header of a record (RFC 8446, section 5.1) whose
+/// content type is 20 to 24, whose major version is 3 with any minor one, and whose length is at
+/// most 16,640 bytes. `None` for fewer than 5 bytes, which don't decide it.
 ///
-/// By this rule `tlslog` takes a side of a connection for TLS.
+/// `tlslog` uses this rule to recognize TLS.
 pub fn looks_like_tls(bytes: &[u8]) -> Option<bool>
     ensures { result ≡ looks bytes.now }
 {
@@ -51,8 +52,9 @@ pub fn looks_like_tls(bytes: &[u8]) -> Option<bool>
     Some(begins_tls(bytes))
 }
 
-/// The type of the handshake message that a stream begins with (RFC 8446, sections 4 and 5.1): 1 is that of a client, 2 that of a server.
-/// `None` where it begins otherwise, or has fewer than 6 bytes.
+/// The type of the handshake message that a stream begins with (RFC 8446, sections 4 and 5.1): 1
+/// for a ClientHello, 2 for a ServerHello. `None` if the stream begins otherwise, or has fewer than
+/// 6 bytes.
 pub fn first_message(bytes: &[u8]) -> Option<u8>
     ensures { result ≡ first bytes.now }
 {
@@ -64,8 +66,9 @@ pub fn first_message(bytes: &[u8]) -> Option<u8>
     }
 }
 
-/// Whether a record of this version is one of DTLS: its major version is 254, whatever the minor one, since where an association begins that says how
-/// records are laid out, and not which version is spoken (RFC 6347, section 4.2.1); or it is 0x0100, as OpenSSL had it before RFC 4347.
+/// Whether a record of this version is one of DTLS. The major version is 254. The minor one is
+/// ignored: at the beginning of an association it gives the layout of records, and not the version
+/// that is spoken (RFC 6347, section 4.2.1). 0x0100 counts too; OpenSSL used it before RFC 4347.
 #[tactic(auto, unfolding(crate::specs::Front::is_datagram_version))]
 pub fn is_datagram_version(version: u16) -> bool
     ensures { result ≡ is_version_of_datagrams version }
@@ -73,7 +76,8 @@ pub fn is_datagram_version(version: u16) -> bool
     version >= 0xfe00 && version <= 0xfeff || version == 0x0100
 }
 
-/// A type of records that there is, a version of DTLS, and a length that the datagram has.
+/// Whether this is the header of a DTLS record: a known content type, a version of DTLS, and a
+/// length that fits in the datagram.
 fn is_header_of_datagram(header: &DTLSRecordHeader, rest: &[u8]) -> bool
     ensures { result ≡ is_front_of_datagram (datagram.view_header header.now) rest.now }
 {
@@ -83,7 +87,7 @@ fn is_header_of_datagram(header: &DTLSRecordHeader, rest: &[u8]) -> bool
         && header.length as usize <= rest.len()
 }
 
-/// The epoch of the record of DTLS that a datagram begins with; `None` where it begins otherwise.
+/// The epoch of the DTLS record that a datagram begins with; `None` if it begins otherwise.
 pub fn front_epoch(bytes: &[u8]) -> Option<u16>
     ensures { result ≡ epoch_in (reading datagram.record_header bytes.now) }
 {
@@ -98,16 +102,16 @@ pub fn front_epoch(bytes: &[u8]) -> Option<u16>
     }
 }
 
-/// Whether bytes begin with the header by which CAPWAP tells that what stands behind is encrypted (RFC 5415, section 4.2): version 0, type 1, and 3
-/// bytes of 0.
+/// Whether bytes begin with the CAPWAP header of an encrypted payload (RFC 5415, section 4.2):
+/// version 0, type 1, and 3 bytes of 0.
 fn has_capwap_header(bytes: &[u8]) -> bool
     ensures { result ≡ has_capwap_header_in bytes.now }
 {
     bytes.len() >= 4 && bytes[0] == 1 && bytes[1] == 0 && bytes[2] == 0 && bytes[3] == 0
 }
 
-/// The datagram of DTLS that a datagram of UDP holds: what stands behind CAPWAP's header of 4 bytes (RFC 5415, section 4.2), where DTLS begins
-/// there; else all of it.
+/// The DTLS datagram inside a UDP datagram: the bytes after a CAPWAP header of 4 bytes (RFC 5415,
+/// section 4.2) if DTLS begins there, else all bytes.
 pub fn held_datagram(bytes: &[u8]) -> &[u8]
     ensures { result.now ≡ held_datagram_of bytes.now }
 {

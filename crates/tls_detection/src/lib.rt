@@ -1,7 +1,10 @@
-//! Whether bytes are TLS or DTLS, by what they begin with, whatever their ports.
+//! Decides whether bytes are TLS or DTLS by how they begin, whatever the ports.
 //!
-//! The record calls refuse no content type and no version, as their layouts don't: of text that isn't TLS they may answer that bytes are
-//! missing. Who reads what anybody sends asks [`looks_like_tls`] first.
+//! The record parsers refuse no content type and no version, so for text that isn't TLS they may
+//! return `Incomplete`. To read traffic of unknown protocols, ask [`looks_like_tls`] first.
+//!
+//! [`place_behind`] finds TLS after other bytes. Its promise is in [`laws`]: how the stream is cut
+//! doesn't matter. `specs/Front.antt` and `specs/Place.antt` define both.
 #![tactic(auto)]
 
 mod front;

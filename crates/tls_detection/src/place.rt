@@ -1,17 +1,17 @@
-//! Where TLS begins behind other bytes.
+//! Where TLS begins after other bytes.
 ghost use Rattle.std.specs.Prelude.{◌≡◌, length};
 ghost use Rattle.tls_detection.specs.Place.{begins_behind as begins, is_alert as alert, is_answer as answer, is_hello as hello, place_behind as place_of};
 
-/// How many bytes tell that TLS begins: the header of a record, that of a handshake message, and the version in a hello (RFC 8446, sections 4
-/// and 5.1).
+/// How many bytes decide that TLS begins: the header of a record, the header of a handshake
+/// message, and the version in a hello (RFC 8446, sections 4 and 5.1).
 pub const HELLO_FRONT_LEN: usize = 11;
 
-/// The types of the messages with which a handshake begins (RFC 8446, section 4).
+/// The types of the messages that begin a handshake (RFC 8446, section 4).
 const CLIENT_HELLO: u8 = 1;
 
 const SERVER_HELLO: u8 = 2;
 
-/// Whether these are the first bytes of a record that begins with a hello of that type.
+/// Whether these are the first bytes of a record that begins with a hello of this type.
 #[tactic(auto, unfolding(crate::specs::Place::is_hello))]
 fn is_hello(msg_type: u8, front: &[u8]) -> bool
     requires { length front.now ≡ 11 }
@@ -27,7 +27,7 @@ fn is_hello(msg_type: u8, front: &[u8]) -> bool
         && front[10] <= 3
 }
 
-/// Whether these are the first bytes of a record that is an alert in the clear.
+/// Whether these are the first bytes of a record with an alert in the clear.
 #[tactic(auto, unfolding(crate::specs::Place::is_alert))]
 fn is_alert(front: &[u8]) -> bool
     requires { length front.now ≡ 11 }
@@ -40,7 +40,7 @@ fn is_alert(front: &[u8]) -> bool
         && (front[5] == 1 || front[5] == 2)
 }
 
-/// Whether these are the first bytes with which a server answers.
+/// Whether these are the first bytes of a server's answer.
 #[tactic(auto, unfolding(crate::specs::Place::is_answer))]
 fn is_answer(front: &[u8]) -> bool
     requires { length front.now ≡ 11 }
@@ -49,7 +49,8 @@ fn is_answer(front: &[u8]) -> bool
     is_hello(SERVER_HELLO, front) || is_alert(front)
 }
 
-/// Whether TLS begins here: with a ClientHello, or, of a side that `answers`, with a ServerHello or an alert.
+/// Whether TLS begins here: with a ClientHello, or if the side `answers`, with a ServerHello or an
+/// alert.
 #[tactic(auto, unfolding(crate::specs::Place::begins_behind))]
 fn begins_behind(bytes: &[u8], answers: bool) -> bool
     ensures { result ≡ begins answers bytes.now }
@@ -65,9 +66,10 @@ fn begins_behind(bytes: &[u8], answers: bool) -> bool
     }
 }
 
-/// The first place at which TLS begins in the bytes of a side, whatever stands in front of it: for a client a record's header and that of a
-/// ClientHello (RFC 8446, sections 4.1.2 and 5.1), for a side that `answers` those of a ServerHello, or of an alert of 2 bytes. `None` where there is
-/// none: it may begin at one of the last 10 bytes, and at none in front of them.
+/// The first place where TLS begins in a side's bytes, whatever precedes it. For a client, a
+/// record's header and a ClientHello's (RFC 8446, sections 4.1.2 and 5.1); for a side that
+/// `answers`, those of a ServerHello or of an alert of 2 bytes. With `None`, TLS may still begin in
+/// the last 10 bytes, but not before them.
 pub fn place_behind(bytes: &[u8], answers: bool) -> Option<usize>
     ensures { result ≡ place_of answers bytes.now }
 {

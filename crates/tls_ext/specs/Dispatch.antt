@@ -1,5 +1,5 @@
--- Which content an extension of each type has, for each side that reads (RFC 8446, section 4.2). This table is written
--- apart from that of the code: the two are proved to say the same.
+-- The content of an extension of each type, for each side (RFC 8446, section 4.2). This table is
+-- written independently of the code's; the two are proved equal.
 use Rattle.std.specs.Prelude.{ℕ, List, [], ◌∷◌, Bool, true, false, bit_and, ◌==◌, ◌&&◌}
 use Rattle.tls_base.specs.ExtensionNumbers as extension_number
 use Rattle.layouts.specs.Layout.{Layout, number, list, ◌>>=◌, choose, counted_window}
@@ -10,7 +10,8 @@ use Rattle.tls_ext.specs.Content.{opaque_content}
 use Rattle.tls_ext.specs.declared.kind.Side.{Side}
 use Rattle.tls_ext.specs.declared.kind.Side.TheVariants.{General, Client, Server}
 
--- Which sides read a kind: the general one reads any message, the client's a ClientHello, the server's a ServerHello.
+-- Which sides read a kind: `General` reads any message, `Client` a ClientHello, `Server` a
+-- ServerHello.
 abbrev pub all_sides : Side → Bool
 all_sides side = true
 
@@ -24,7 +25,7 @@ general_only General = true
 general_only Client = false
 general_only Server = false
 
--- What is said of a kind: its number, the layout of its content, and the sides that read it.
+-- A row of the table: the type's number, the layout of its content, and the sides that read it.
 pub record Row : Type 1 where
   pub extension_type : ℕ
   pub layout : Layout Extension
@@ -33,14 +34,15 @@ pub record Row : Type 1 where
 abbrev pub row : ℕ → Layout Extension → (Side → Bool) → Row
 row n l sides = record { extension_type = n; layout = l; read_by = sides }
 
--- The rows of the contents that are no lists, by their numbers.
+-- The rows whose content isn't a list, by their numbers.
 abbrev pub other_rows : List Row
 other_rows =
     row extension_number.max_fragment_length content.max_fragment_length all_sides
     ∷ row extension_number.status_request content.status_request all_sides
     ∷ row extension_number.ec_point_formats content.ec_point_formats all_sides
     ∷ row extension_number.heartbeat content.heartbeat all_sides
-    ∷ row extension_number.signed_certificate_timestamp content.signed_certificate_timestamp all_sides
+    ∷ row extension_number.signed_certificate_timestamp
+    content.signed_certificate_timestamp all_sides
     ∷ row extension_number.padding content.padding not_server
     ∷ row extension_number.encrypt_then_mac content.encrypt_then_mac all_sides
     ∷ row extension_number.extended_master_secret content.extended_master_secret all_sides
@@ -57,65 +59,67 @@ other_rows =
     ∷ row extension_number.encrypted_server_name content.encrypted_server_name not_server
     ∷ []
 
--- The rows of those that are.
+-- The rows whose content is a list, by their numbers.
 abbrev pub list_rows : List Row
 list_rows =
     row extension_number.server_name content.server_names all_sides
     ∷ row extension_number.supported_groups content.supported_groups not_server
     ∷ row extension_number.signature_algorithms content.signature_algorithms all_sides
-    ∷ row extension_number.application_layer_protocol_negotiation content.application_layer_protocol_negotiation all_sides
+    ∷ row extension_number.application_layer_protocol_negotiation
+    content.application_layer_protocol_negotiation all_sides
     ∷ row extension_number.supported_versions content.supported_versions all_sides
     ∷ row extension_number.psk_key_exchange_modes content.psk_key_exchange_modes not_server
     ∷ row extension_number.oid_filters content.oid_filters not_server
     ∷ []
 
--- The content for each number at a side.
+-- The content for each side and number.
 abbrev pub Contents : Type 1
 Contents = Side → ℕ → Layout Extension
 
--- What that row has, for its number at its sides; else what the others have.
+-- The row's layout, for its number and its sides; else the layout of the others.
 abbrev pub in_front : Row → Contents → Contents
 in_front r others side n = choose (n == r.extension_type && r.read_by side) r.layout (others side n)
 
--- A number that no row has, or that its row has not at that side.
+-- A number that has no row, or none for this side.
 abbrev pub unknown_content : Contents
 unknown_content side n = opaque_content (ext.unknown n)
 
--- What these rows have; else what the others have.
+-- The layouts of these rows; else those of the others.
 abbrev pub contents : List Row → Contents → Contents
 contents [] others = others
 contents (r ∷ rs) others = in_front r (contents rs others)
 
--- What is read of a number that no other row has.
+-- The content of a number that none of the other rows has.
 unfoldable pub registered_list : Contents
 registered_list = contents list_rows unknown_content
 
--- What is read of a number.
+-- The content of a number that isn't a GREASE number.
 unfoldable pub registered : Contents
 registered = contents other_rows registered_list
 
--- A number that is kept free so that peers ignore what they don't know: each of its bytes ends in the hexadecimal digit
--- a. These are 256 numbers: RFC 8701, section 2, has the sixteen of them whose two bytes are equal.
+-- A GREASE number, reserved so that peers learn to ignore unknown ones: each of its bytes ends in
+-- the hexadecimal digit a. These are 256 numbers; RFC 8701, section 2, reserves the sixteen whose
+-- two bytes are equal.
 abbrev pub is_grease : ℕ → Bool
 is_grease n = bit_and n 0x0f0f == 0x0a0a
 
--- The content of an extension of the type n.
+-- The content of an extension of type n.
 unfoldable pub extension_content : Contents
 extension_content side n = choose (is_grease n) (opaque_content (ext.grease n)) (registered side n)
 
--- ExtensionType extension_type; opaque extension_data<0..2^16-1> (RFC 8446, section 4.2), whose content is read within
--- its length alone.
+-- ExtensionType extension_type; opaque extension_data<0..2^16-1> (RFC 8446, section 4.2). The
+-- content is read within that length.
 unfoldable pub extension : Side → Layout Extension
 extension side = do
   n ← number 2
   counted_window 2 (extension_content side n)
 
--- Extensions, one after the other, up to the first that isn't read.
+-- Extensions, one after another, up to the first that can't be read.
 abbrev pub extensions : Side → Layout (List Extension)
 extensions side = list (extension side)
 
--- One of any message, and those of any message, of a ClientHello and of a ServerHello: outside this crate the sides have no
--- names.
+-- Extensions of any message, of a ClientHello and of a ServerHello. Outside this crate the sides
+-- have no names.
 abbrev pub general_extension : Layout Extension
 general_extension = extension General
 

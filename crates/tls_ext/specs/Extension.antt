@@ -1,4 +1,4 @@
--- What an extension says, apart from where it lies in memory (RFC 8446, section 4.2).
+-- The values of extensions, regardless of their place in memory (RFC 8446, section 4.2).
 use Rattle.std.specs.Prelude.{ℕ, List, map, Option}
 use Rattle.std.specs.Option.{option_map}
 use Rattle.std.specs.Borrow.{Bor}
@@ -10,7 +10,7 @@ use Rattle.tls_ext.specs.declared.extension.OidFilter.{OidFilter as RustOidFilte
 use Rattle.tls_ext.specs.declared.extension.TlsExtension.{TlsExtension}
 use Rattle.tls_ext.specs.declared.extension.TlsExtension.TheVariants as rust
 
--- A name of a server: its NameType and its bytes (RFC 6066, section 3).
+-- A server name: its NameType and its bytes (RFC 6066, section 3).
 pub record ServerName : Type 0 where
   pub name_type : ℕ
   pub name : Bytes
@@ -18,7 +18,8 @@ pub record ServerName : Type 0 where
 abbrev pub view_server_name : SNIType × Bor (List ℕ) → ServerName
 view_server_name n = record { name_type = n.0.0; name = n.1.now }
 
--- A CertificateStatusRequest: its CertificateStatusType and the request, undivided (RFC 6066, section 8).
+-- A CertificateStatusRequest: its CertificateStatusType and the request, as bytes (RFC 6066,
+-- section 8).
 pub record StatusRequest : Type 0 where
   pub status_type : ℕ
   pub request : Bytes
@@ -37,7 +38,7 @@ view_oid_filter f = record {
   certificate_extension_values = f.cert_ext_val.now;
 }
 
--- EncryptedSNI, a draft that came before encrypted hellos (draft-ietf-tls-esni-02, section 5).
+-- EncryptedSNI of a draft before Encrypted Client Hello (draft-ietf-tls-esni-02, section 5).
 pub record EncryptedServerName : Type 0 where
   pub suite : ℕ
   pub key_share_group : ℕ
@@ -45,7 +46,7 @@ pub record EncryptedServerName : Type 0 where
   pub record_digest : Bytes
   pub encrypted_sni : Bytes
 
--- The kinds of extensions, each under its name in the registry of extension types.
+-- The kinds of extensions, by their names in the registry of extension types.
 pub data Extension : Type 0 where
   server_name : List ServerName → Extension
   max_fragment_length : ℕ → Extension
@@ -73,7 +74,7 @@ pub data Extension : Type 0 where
   next_protocol_negotiation : Extension
   renegotiation_info : Bytes → Extension
   encrypted_server_name : EncryptedServerName → Extension
-  -- a number that is kept free, and the content
+  -- a GREASE number, and the content
   grease : ℕ → Bytes → Extension
   -- any other number, and the content
   unknown : ℕ → Bytes → Extension
@@ -87,7 +88,8 @@ view (rust.EcPointFormats formats) = ec_point_formats formats.now
 view (rust.SignatureAlgorithms algorithms) = signature_algorithms algorithms.items
 view (rust.Heartbeat mode) = heartbeat mode
 view (rust.ALPN names) = application_layer_protocol_negotiation (map (λ n. n.now) names.items)
-view (rust.SignedCertificateTimestamp timestamps) = signed_certificate_timestamp (option_map (λ t. t.now) timestamps)
+view (rust.SignedCertificateTimestamp timestamps) =
+    signed_certificate_timestamp (option_map (λ t. t.now) timestamps)
 view (rust.Padding bytes) = padding bytes.now
 view rust.EncryptThenMac = encrypt_then_mac
 view rust.ExtendedMasterSecret = extended_master_secret
@@ -114,7 +116,7 @@ view (rust.EncryptedServerName suite group share digest sni) = encrypted_server_
 view (rust.Grease number content) = grease number content.now
 view (rust.Unknown kind content) = unknown kind.0 content.now
 
--- The ExtensionType of each kind (RFC 8446, section 4.2); a number that is kept free stands for all of them as 0xfafa.
+-- The ExtensionType of each kind (RFC 8446, section 4.2). All GREASE numbers have 0xfafa.
 abbrev pub extension_type : Extension → ℕ
 extension_type (server_name names) = extension_number.server_name
 extension_type (max_fragment_length code) = extension_number.max_fragment_length
@@ -123,8 +125,10 @@ extension_type (supported_groups groups) = extension_number.supported_groups
 extension_type (ec_point_formats formats) = extension_number.ec_point_formats
 extension_type (signature_algorithms algorithms) = extension_number.signature_algorithms
 extension_type (heartbeat mode) = extension_number.heartbeat
-extension_type (application_layer_protocol_negotiation names) = extension_number.application_layer_protocol_negotiation
-extension_type (signed_certificate_timestamp timestamps) = extension_number.signed_certificate_timestamp
+extension_type (application_layer_protocol_negotiation names) =
+    extension_number.application_layer_protocol_negotiation
+extension_type (signed_certificate_timestamp timestamps) =
+    extension_number.signed_certificate_timestamp
 extension_type (padding bytes) = extension_number.padding
 extension_type encrypt_then_mac = extension_number.encrypt_then_mac
 extension_type extended_master_secret = extension_number.extended_master_secret

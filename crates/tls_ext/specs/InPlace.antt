@@ -21,7 +21,7 @@ view_raw_extension e = record { kind = e.extension_type.0; content = e.content.n
 abbrev pub raw_extension : Layout Framed
 raw_extension = framed 2 2
 
--- The extension that it is, where each type has that content.
+-- The value of the extension, if `content` gives the content of each type.
 abbrev pub extension_of : (ℕ → Layout Extension) → Framed → Result Extension Refusal
 extension_of content e = value_of (reading (content e.kind) e.content)
 
@@ -40,7 +40,7 @@ view_key_share_entry e = record { kind = e.group.0; content = e.kx.now }
 abbrev pub client_shares : Layout (List Framed)
 client_shares = counted_window 2 (list key_share_entry)
 
--- The first of that kind.
+-- The first part of this kind.
 abbrev pub first_of : ℕ → List Framed → Option Framed
 first_of kind [] = None
 first_of kind (x ∷ xs) = if x.kind == kind then Some x else first_of kind xs
@@ -50,17 +50,19 @@ found (Some x) e = Ok (Some x.content)
 found None None = Ok None
 found None (Some e) = Err e
 
--- The content of the first extension of that type. Where there is none, what ended the extensions in front of their bytes'
--- end, if anything did.
+-- The content of the first extension of this type. If there is none, the refusal that ended the
+-- extensions before the end of their bytes, if there was one.
 abbrev pub content_of : ℕ → Bytes → Result (Option Bytes) Refusal
 content_of kind b = found (first_of kind (items_in raw_extension b)) (refusal_in raw_extension b)
 
--- What a content of that layout has, where an extension has such a content.
-abbrev pub picked : {A : Type 0} → (Extension → Option A) → Answer Extension → Result (Option A) Refusal
+-- The part of a content that `pick` takes, if the content is read.
+abbrev pub picked : {A : Type 0} → (Extension → Option A) → Answer Extension
+    → Result (Option A) Refusal
 picked pick (Ok x) = Ok (pick x.0)
 picked pick (Err e) = Err e
 
-abbrev pub in_content : {A : Type 0} → Layout Extension → (Extension → Option A) → Result (Option Bytes) Refusal
+abbrev pub in_content : {A : Type 0} → Layout Extension → (Extension → Option A)
+    → Result (Option Bytes) Refusal
     → Result (Option A) Refusal
 in_content l pick (Ok (Some c)) = picked pick (reading l c)
 in_content l pick (Ok None) = Ok None
@@ -70,7 +72,8 @@ abbrev pub first_name : Extension → Option Bytes
 first_name (ext.server_name (n ∷ ns)) = Some n.name
 first_name e = None
 
--- The name of the host that a client asks for (RFC 6066, section 3): the first in its first server_name.
+-- The host name that a client requests (RFC 6066, section 3): the first name in its first
+-- server_name.
 abbrev pub host_name : Bytes → Result (Option Bytes) Refusal
 host_name b = in_content content.server_names first_name (content_of extension_number.server_name b)
 
@@ -78,7 +81,7 @@ abbrev pub names_of_protocols : Extension → Option (List Bytes)
 names_of_protocols (ext.application_layer_protocol_negotiation names) = Some names
 names_of_protocols e = None
 
--- The names of protocols in its first application_layer_protocol_negotiation (RFC 7301, section 3.1).
+-- The protocol names in the first application_layer_protocol_negotiation (RFC 7301, section 3.1).
 abbrev pub protocol_names : Bytes → Result (Option (List Bytes)) Refusal
 protocol_names b =
     in_content content.application_layer_protocol_negotiation names_of_protocols
@@ -88,8 +91,8 @@ abbrev pub listed_versions : Extension → Option (List ℕ)
 listed_versions (ext.supported_versions versions) = Some versions
 listed_versions e = None
 
--- How late a version is: by its number, but a version of DTLS, whose number begins with 0xfe, is the later the lower its number is (RFC 6347,
--- section 4.1; RFC 9147, section 5.3).
+-- The rank of a version: later versions have higher ranks. It is the number, except for DTLS
+-- (0xfe..), where lower numbers are later (RFC 6347, section 4.1; RFC 9147, section 5.3).
 abbrev pub lateness : ℕ → ℕ
 lateness v = if nat_le 0xfe00 v && nat_le v 0xfeff then 0xfe00 + (0xfeff - v) else v
 
@@ -97,7 +100,7 @@ abbrev pub later : ℕ → Option ℕ → ℕ
 later v None = v
 later v (Some w) = if nat_lt (lateness w) (lateness v) then v else w
 
--- The latest version that isn't a number of GREASE.
+-- The latest version that isn't a GREASE number.
 abbrev pub latest : List ℕ → Option ℕ
 latest [] = None
 latest (v ∷ vs) = if is_grease v then latest vs else Some (later v (latest vs))
@@ -107,7 +110,8 @@ latest_of version (Ok (Some versions)) = Ok (latest versions)
 latest_of version (Ok None) = Ok (Some version)
 latest_of version (Err e) = Err e
 
--- The latest version in the first supported_versions (RFC 8446, section 4.2.1); where there is none, the one in the hello.
+-- The latest version in the first supported_versions (RFC 8446, section 4.2.1), or the hello's own
+-- if there is no such extension.
 abbrev pub best_version : ℕ → Bytes → Result (Option ℕ) Refusal
 best_version version b =
     latest_of version (in_content content.supported_versions listed_versions

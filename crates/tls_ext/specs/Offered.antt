@@ -1,4 +1,4 @@
--- What a hello says by the first extension of a type; nothing where that is missing, or refused.
+-- What a hello offers by the first extension of a type; nothing if it is missing or refused.
 use Rattle.std.specs.Prelude.{ℕ, List, [], Option, Some, None, Result, Ok, Err}
 use Rattle.tls_base.specs.ExtensionNumbers as extension_number
 use Rattle.layouts.specs.Bytes.{Bytes}
@@ -8,16 +8,16 @@ use Rattle.tls_ext.specs.Extension as ext
 use Rattle.tls_ext.specs.Extension.{Extension}
 use Rattle.tls_ext.specs.InPlace.{content_of, in_content}
 
--- What is told, and nothing where it is refused.
+-- The value, or nothing if it is refused.
 abbrev pub known : {A : Type 0} → Result (Option A) Refusal → Option A
 known (Ok x) = x
 known (Err e) = None
 
--- The content of the first extension of that type (RFC 8446, section 4.2).
+-- The content of the first extension of this type (RFC 8446, section 4.2).
 abbrev pub content_in : ℕ → Bytes → Option Bytes
 content_in kind b = known (content_of kind b)
 
--- What an extension lists.
+-- The list in an extension, or no items.
 abbrev pub listed : {A : Type 0} → Result (Option (List A)) Refusal → List A
 listed (Ok (Some xs)) = xs
 listed _ = []
@@ -28,7 +28,9 @@ listed_groups _ = None
 
 -- The groups in supported_groups (RFC 8446, section 4.2.7).
 abbrev pub groups_in : Bytes → List ℕ
-groups_in b = listed (in_content content.supported_groups listed_groups (content_of extension_number.supported_groups b))
+groups_in b =
+    listed (in_content content.supported_groups listed_groups
+    (content_of extension_number.supported_groups b))
 
 abbrev pub listed_formats : Extension → Option (List ℕ)
 listed_formats (ext.ec_point_formats formats) = Some formats
@@ -36,7 +38,9 @@ listed_formats _ = None
 
 -- The formats in ec_point_formats (RFC 8422, section 5.1.2).
 abbrev pub formats_in : Bytes → List ℕ
-formats_in b = listed (in_content content.ec_point_formats listed_formats (content_of extension_number.ec_point_formats b))
+formats_in b =
+    listed (in_content content.ec_point_formats listed_formats
+    (content_of extension_number.ec_point_formats b))
 
 abbrev pub listed_algorithms : Extension → Option (List ℕ)
 listed_algorithms (ext.signature_algorithms algorithms) = Some algorithms
@@ -45,4 +49,5 @@ listed_algorithms _ = None
 -- The algorithms in signature_algorithms (RFC 8446, section 4.2.3).
 abbrev pub algorithms_in : Bytes → List ℕ
 algorithms_in b =
-    listed (in_content content.signature_algorithms listed_algorithms (content_of extension_number.signature_algorithms b))
+    listed (in_content content.signature_algorithms listed_algorithms
+    (content_of extension_number.signature_algorithms b))

@@ -8,13 +8,13 @@ use Rattle.tls_ext.specs.Extension as ext
 use Rattle.tls_ext.specs.Extension.{Extension}
 use Rattle.tls_ext.specs.Content as content
 
--- An extension of that very type, whose content is read within its length alone.
+-- An extension of this type. Its content is read within its length.
 unfoldable pub tagged : ℕ → Layout Extension → Layout Extension
 tagged kind l = do
   tag (bytes_of 2 kind)
   counted_window 2 l
 
--- The same, of which the content isn't read.
+-- An extension of this type whose content isn't parsed.
 unfoldable pub tagged_bytes : ℕ → Layout Bytes
 tagged_bytes kind = do
   tag (bytes_of 2 kind)
@@ -28,7 +28,7 @@ tagged_heartbeat = do
   test (n == 1) Verify
   window 1 content.heartbeat
 
--- An extension of any type, whose content isn't read.
+-- An extension of any type whose content isn't parsed.
 unfoldable pub unknown : Layout Extension
 unknown = do
   kind ← number 2

@@ -1,4 +1,4 @@
--- What a call returned, with another rest.
+-- The result of a call, with another rest.
 use Rattle.std.specs.Prelude.{ℕ, List, Ok, Err}
 use Rattle.std.specs.Borrow.{Bor}
 use Rattle.layouts.specs.Answers.{Returned}

@@ -1,7 +1,8 @@
-//! The contents of extensions: what stands after an extension's type and its length (RFC 8446, section 4.2).
+//! Parses the contents of extensions: the bytes after an extension's type and length (RFC 8446,
+//! section 4.2).
 //!
-//! Each call reads the front of its input and leaves the rest. All numbers are big-endian. A list or a block may be empty,
-//! also where the RFC has a lower bound on its length.
+//! Each call reads the start of its input and returns the rest. All numbers are big-endian. A list
+//! or a block may be empty, even if the RFC has a lower bound on its length.
 #![tactic(auto, using(layouts::proofs::OneAnswerLemmas::read_allowed))]
 
 ghost use Rattle.std.specs.Prelude.{◌≤◌, length, Ok};
@@ -20,7 +21,7 @@ use layouts::{
 use std::alloc::Global;
 use tls_base::{CertificateStatusType, NamedGroup, SNIType, TlsCipherSuiteID, TlsVersion};
 
-/// All bytes of a content, behind what is left of them: nothing. It never refuses.
+/// Takes all bytes of a content, and leaves none. Never refuses.
 #[tactic(auto, using(layouts::proofs::OneAnswerLemmas::read_allowed), unfolding(layouts::specs::Reading::split_at))]
 #[inline(always)]
 pub(crate) fn whole(i: &[u8]) -> (&[u8], &[u8])
@@ -30,7 +31,7 @@ pub(crate) fn whole(i: &[u8]) -> (&[u8], &[u8])
     (left, bytes)
 }
 
-/// All bytes of a content, as an extension of that kind.
+/// Expands to an extension of this kind with all bytes of its content.
 macro_rules! opaque {
     ($i:ident, $kind:ident) => {{
         let (i, bytes) = whole($i);
@@ -38,7 +39,7 @@ macro_rules! opaque {
     }};
 }
 
-/// An extension of that kind, which says all by being there: its content is empty.
+/// Expands to an extension of this kind, whose content must be empty: the extension is a flag.
 macro_rules! empty {
     ($i:ident, $kind:ident) => {{
         if !$i.is_empty() {
@@ -48,7 +49,7 @@ macro_rules! empty {
     }};
 }
 
-/// Padding (RFC 7685, section 3), which is all bytes of `i`. It never refuses.
+/// Reads padding (RFC 7685, section 3): all bytes of `i`. Never refuses.
 #[tactic(auto, using(layouts::proofs::OneAnswerLemmas::read_allowed), unfolding(crate::specs::Content::padding))]
 pub(crate) fn padding_content(i: &[u8]) -> IResult<&[u8], TlsExtension>
     ensures { Gives view content.padding i.now result }
@@ -56,7 +57,7 @@ pub(crate) fn padding_content(i: &[u8]) -> IResult<&[u8], TlsExtension>
     opaque!(i, Padding)
 }
 
-/// A session ticket (RFC 5077, section 3.2), which is all bytes of `i`. It never refuses.
+/// Reads a session ticket (RFC 5077, section 3.2): all bytes of `i`. Never refuses.
 #[tactic(auto, using(layouts::proofs::OneAnswerLemmas::read_allowed), unfolding(crate::specs::Content::session_ticket))]
 pub(crate) fn session_ticket_content(i: &[u8]) -> IResult<&[u8], TlsExtension>
     ensures { Gives view content.session_ticket i.now result }
@@ -64,7 +65,7 @@ pub(crate) fn session_ticket_content(i: &[u8]) -> IResult<&[u8], TlsExtension>
     opaque!(i, SessionTicket)
 }
 
-/// Key shares under their older number, which are all bytes of `i`. It never refuses.
+/// Reads key shares under their older number: all bytes of `i`. Never refuses.
 #[tactic(auto, using(layouts::proofs::OneAnswerLemmas::read_allowed), unfolding(crate::specs::Content::key_share_old))]
 pub(crate) fn key_share_old_content(i: &[u8]) -> IResult<&[u8], TlsExtension>
     ensures { Gives view content.key_share_old i.now result }
@@ -72,7 +73,7 @@ pub(crate) fn key_share_old_content(i: &[u8]) -> IResult<&[u8], TlsExtension>
     opaque!(i, KeyShareOld)
 }
 
-/// Pre-shared keys (RFC 8446, section 4.2.11), which are all bytes of `i`. It never refuses.
+/// Reads pre-shared keys (RFC 8446, section 4.2.11): all bytes of `i`. Never refuses.
 #[tactic(auto, using(layouts::proofs::OneAnswerLemmas::read_allowed), unfolding(crate::specs::Content::pre_shared_key))]
 pub(crate) fn pre_shared_key_content(i: &[u8]) -> IResult<&[u8], TlsExtension>
     ensures { Gives view content.pre_shared_key i.now result }
@@ -80,7 +81,7 @@ pub(crate) fn pre_shared_key_content(i: &[u8]) -> IResult<&[u8], TlsExtension>
     opaque!(i, PreSharedKey)
 }
 
-/// A cookie (RFC 8446, section 4.2.2), which is all bytes of `i`. It never refuses.
+/// Reads a cookie (RFC 8446, section 4.2.2): all bytes of `i`. Never refuses.
 #[tactic(auto, using(layouts::proofs::OneAnswerLemmas::read_allowed), unfolding(crate::specs::Content::cookie))]
 pub(crate) fn cookie_content(i: &[u8]) -> IResult<&[u8], TlsExtension>
     ensures { Gives view content.cookie i.now result }
@@ -88,7 +89,7 @@ pub(crate) fn cookie_content(i: &[u8]) -> IResult<&[u8], TlsExtension>
     opaque!(i, Cookie)
 }
 
-/// Key shares (RFC 8446, section 4.2.8), which are all bytes of `i`. It never refuses.
+/// Reads key shares (RFC 8446, section 4.2.8): all bytes of `i`. Never refuses.
 #[tactic(auto, using(layouts::proofs::OneAnswerLemmas::read_allowed), unfolding(crate::specs::Content::key_share))]
 pub(crate) fn key_share_content(i: &[u8]) -> IResult<&[u8], TlsExtension>
     ensures { Gives view content.key_share i.now result }
@@ -96,7 +97,8 @@ pub(crate) fn key_share_content(i: &[u8]) -> IResult<&[u8], TlsExtension>
     opaque!(i, KeyShare)
 }
 
-/// The wish to encrypt before the MAC (RFC 7366, section 2). `Error` of kind `Verify` where `i` isn't empty.
+/// Reads the flag encrypt_then_mac (RFC 7366, section 2). `Error` of kind `Verify` if `i` isn't
+/// empty.
 #[tactic(auto, using(layouts::proofs::OneAnswerLemmas::read_allowed), unfolding(crate::specs::Content::encrypt_then_mac))]
 pub(crate) fn encrypt_then_mac_content(i: &[u8]) -> IResult<&[u8], TlsExtension>
     ensures { Gives view content.encrypt_then_mac i.now result }
@@ -104,7 +106,8 @@ pub(crate) fn encrypt_then_mac_content(i: &[u8]) -> IResult<&[u8], TlsExtension>
     empty!(i, EncryptThenMac)
 }
 
-/// The wish for an extended master secret (RFC 7627, section 5.1). `Error` of kind `Verify` where `i` isn't empty.
+/// Reads the flag extended_master_secret (RFC 7627, section 5.1). `Error` of kind `Verify` if `i`
+/// isn't empty.
 #[tactic(auto, using(layouts::proofs::OneAnswerLemmas::read_allowed), unfolding(crate::specs::Content::extended_master_secret))]
 pub(crate) fn extended_master_secret_content(i: &[u8]) -> IResult<&[u8], TlsExtension>
     ensures { Gives view content.extended_master_secret i.now result }
@@ -112,7 +115,7 @@ pub(crate) fn extended_master_secret_content(i: &[u8]) -> IResult<&[u8], TlsExte
     empty!(i, ExtendedMasterSecret)
 }
 
-/// The leave to ask for authentication after the handshake (RFC 8446, section 4.2.6). `Error` of kind `Verify` where `i`
+/// Reads the flag post_handshake_auth (RFC 8446, section 4.2.6). `Error` of kind `Verify` if `i`
 /// isn't empty.
 #[tactic(auto, using(layouts::proofs::OneAnswerLemmas::read_allowed), unfolding(crate::specs::Content::post_handshake_auth))]
 pub(crate) fn post_handshake_auth_content(i: &[u8]) -> IResult<&[u8], TlsExtension>
@@ -121,7 +124,8 @@ pub(crate) fn post_handshake_auth_content(i: &[u8]) -> IResult<&[u8], TlsExtensi
     empty!(i, PostHandshakeAuth)
 }
 
-/// Next protocol negotiation (draft-agl-tls-nextprotoneg-04, section 3). `Error` of kind `Verify` where `i` isn't empty.
+/// Reads the flag next_protocol_negotiation (draft-agl-tls-nextprotoneg-04, section 3). `Error` of
+/// kind `Verify` if `i` isn't empty.
 #[tactic(auto, using(layouts::proofs::OneAnswerLemmas::read_allowed), unfolding(crate::specs::Content::next_protocol_negotiation))]
 pub(crate) fn next_protocol_negotiation_content(i: &[u8]) -> IResult<&[u8], TlsExtension>
     ensures { Gives view content.next_protocol_negotiation i.now result }
@@ -129,10 +133,10 @@ pub(crate) fn next_protocol_negotiation_content(i: &[u8]) -> IResult<&[u8], TlsE
     empty!(i, NextProtocolNegotiation)
 }
 
-/// Reads the name of a server (RFC 6066, section 3): 1 byte of type, 2 bytes of length, and that many
+/// Reads a server name (RFC 6066, section 3): 1 byte of type, 2 bytes of length, and that many
 /// bytes.
 ///
-/// `Incomplete` of the missing bytes.
+/// `Incomplete` with the number of missing bytes.
 #[tactic(auto, using(layouts::proofs::OneAnswerLemmas::read_allowed), unfolding(crate::specs::Content::server_name))]
 pub fn parse_tls_extension_sni_hostname(i: &[u8]) -> IResult<&[u8], (SNIType, &[u8])>
     ensures { Gives view_server_name server_name i.now result }
@@ -142,7 +146,7 @@ pub fn parse_tls_extension_sni_hostname(i: &[u8]) -> IResult<&[u8], (SNIType, &[
     Ok((i, (name_type, name)))
 }
 
-/// How a name of a server is read: its type and its bytes (RFC 6066, section 3).
+/// Server names as items of a list: the type and the bytes of each (RFC 6066, section 3).
 #[derive(Clone, Copy)]
 pub struct ServerName;
 
@@ -169,12 +173,12 @@ impl Room for ServerName {
     }
 }
 
-/// Reads the names of a server (RFC 6066, section 3): none where `i` is empty; else 2 bytes of length, and within that
-/// many bytes the names, each as [`parse_tls_extension_sni_hostname`] reads it. They end before the first that isn't
-/// read, and what is left of these bytes is dropped.
+/// Reads the server names (RFC 6066, section 3): none if `i` is empty, else 2 bytes of length and
+/// that many bytes of names. Each is read as by [`parse_tls_extension_sni_hostname`]. The list ends
+/// before the first name that can't be read; the bytes from there are dropped.
 ///
-/// - `Incomplete` of the missing bytes of the length, or else of the list.
-/// - `OutOfMemory` where memory for the list runs out.
+/// - `Incomplete` with the bytes missing from the length, or else from the list.
+/// - `OutOfMemory` if the list can't be allocated.
 #[tactic(auto, using(layouts::proofs::OneAnswerLemmas::read_allowed), unfolding(crate::specs::Content::server_names))]
 pub fn parse_tls_extension_sni_content(alloc: Global, i: &[u8]) -> IResult<&[u8], TlsExtension>
     ensures { GivesOrMemory view content.server_names i.now result }
@@ -189,7 +193,7 @@ pub fn parse_tls_extension_sni_content(alloc: Global, i: &[u8]) -> IResult<&[u8]
 
 /// Reads a maximum fragment length (RFC 6066, section 4), 1 byte of code.
 ///
-/// `Incomplete(1)` where `i` is empty.
+/// `Incomplete(1)` if `i` is empty.
 #[tactic(auto, using(layouts::proofs::OneAnswerLemmas::read_allowed), unfolding(crate::specs::Content::max_fragment_length))]
 pub fn parse_tls_extension_max_fragment_length_content(i: &[u8]) -> IResult<&[u8], TlsExtension>
     ensures { Gives view content.max_fragment_length i.now result }
@@ -198,10 +202,10 @@ pub fn parse_tls_extension_max_fragment_length_content(i: &[u8]) -> IResult<&[u8
     Ok((i, TlsExtension::MaxFragmentLength(code)))
 }
 
-/// A status request (RFC 6066, section 8): `None` where `i` is empty; else 1 byte of status type, and all bytes
-/// after it.
+/// Reads a status request (RFC 6066, section 8): `None` if `i` is empty, else 1 byte of status type
+/// and all bytes after it.
 ///
-/// It never refuses.
+/// Never refuses.
 #[tactic(auto, using(layouts::proofs::OneAnswerLemmas::read_allowed), unfolding(crate::specs::Content::status_request))]
 pub(crate) fn status_request_content(i: &[u8]) -> IResult<&[u8], TlsExtension>
     ensures { Gives view content.status_request i.now result }
@@ -214,12 +218,12 @@ pub(crate) fn status_request_content(i: &[u8]) -> IResult<&[u8], TlsExtension>
     Ok((i, TlsExtension::StatusRequest(Some((status_type, request)))))
 }
 
-/// Reads the supported groups (RFC 8422, section 5.1.1; RFC 8446, section 4.2.7): 2 bytes of length, and within that many
-/// bytes the groups, 2 bytes each.
+/// Reads the supported groups (RFC 8422, section 5.1.1; RFC 8446, section 4.2.7): 2 bytes of length
+/// and that many bytes of groups, 2 bytes each.
 ///
-/// - `Incomplete` of the missing bytes of the length, or else of the groups.
-/// - `Error` of kind `LengthValue` where the length is odd.
-/// - `OutOfMemory` where memory for the list runs out.
+/// - `Incomplete` with the bytes missing from the length, or else from the groups.
+/// - `Error` of kind `LengthValue` if the length is odd.
+/// - `OutOfMemory` if the list can't be allocated.
 #[tactic(auto, using(layouts::proofs::OneAnswerLemmas::read_allowed), unfolding(crate::specs::Content::supported_groups))]
 pub fn parse_tls_extension_elliptic_curves_content(
     alloc: Global,
@@ -232,9 +236,10 @@ pub fn parse_tls_extension_elliptic_curves_content(
     Ok((i, TlsExtension::EllipticCurves(groups)))
 }
 
-/// Reads the supported point formats (RFC 8422, section 5.1.2): 1 byte of length, and that many bytes, one each.
+/// Reads the supported point formats (RFC 8422, section 5.1.2): 1 byte of length, and that many
+/// bytes, one each.
 ///
-/// `Incomplete` of the missing bytes of the length, or else of the formats.
+/// `Incomplete` with the bytes missing from the length, or else from the formats.
 #[tactic(auto, using(layouts::proofs::OneAnswerLemmas::read_allowed), unfolding(crate::specs::Content::ec_point_formats))]
 pub fn parse_tls_extension_ec_point_formats_content(i: &[u8]) -> IResult<&[u8], TlsExtension>
     ensures { Gives view content.ec_point_formats i.now result }
@@ -243,11 +248,11 @@ pub fn parse_tls_extension_ec_point_formats_content(i: &[u8]) -> IResult<&[u8], 
     Ok((i, TlsExtension::EcPointFormats(formats)))
 }
 
-/// Reads the supported signature algorithms (RFC 8446, section 4.2.3): 2 bytes of length, and within that many bytes the
-/// numbers, 2 bytes each. An odd byte at their end is dropped.
+/// Reads the signature algorithms (RFC 8446, section 4.2.3): 2 bytes of length and that many bytes
+/// of numbers, 2 bytes each. An odd byte at the end is dropped.
 ///
-/// - `Incomplete` of the missing bytes of the length, or else of the list.
-/// - `OutOfMemory` where memory for the list runs out.
+/// - `Incomplete` with the bytes missing from the length, or else from the list.
+/// - `OutOfMemory` if the list can't be allocated.
 #[tactic(auto, using(layouts::proofs::ListLemmas::map_same, layouts::proofs::OneAnswerLemmas::read_allowed), unfolding(crate::specs::Content::signature_algorithms))]
 pub fn parse_tls_extension_signature_algorithms_content(
     alloc: Global,
@@ -260,9 +265,9 @@ pub fn parse_tls_extension_signature_algorithms_content(
     Ok((i, TlsExtension::SignatureAlgorithms(algorithms)))
 }
 
-/// Reads who may send heartbeats (RFC 6520, section 2), 1 byte.
+/// Reads the heartbeat mode, which states who may send heartbeats (RFC 6520, section 2): 1 byte.
 ///
-/// `Incomplete(1)` where `i` is empty.
+/// `Incomplete(1)` if `i` is empty.
 #[tactic(auto, using(layouts::proofs::OneAnswerLemmas::read_allowed), unfolding(crate::specs::Content::heartbeat))]
 pub fn parse_tls_extension_heartbeat_content(i: &[u8]) -> IResult<&[u8], TlsExtension>
     ensures { Gives view content.heartbeat i.now result }
@@ -271,12 +276,12 @@ pub fn parse_tls_extension_heartbeat_content(i: &[u8]) -> IResult<&[u8], TlsExte
     Ok((i, TlsExtension::Heartbeat(mode)))
 }
 
-/// Reads the names of application protocols (RFC 7301, section 3.1): 2 bytes of length, and within that many bytes the
-/// names, each after 1 byte of length. They end before the first that isn't whole, and what is left of these bytes is
-/// dropped.
+/// Reads the application protocol names (RFC 7301, section 3.1): 2 bytes of length and that many
+/// bytes of names, each after 1 byte of length. The list ends before the first incomplete name; the
+/// bytes from there are dropped.
 ///
-/// - `Incomplete` of the missing bytes of the length, or else of the list.
-/// - `OutOfMemory` where memory for the list runs out.
+/// - `Incomplete` with the bytes missing from the length, or else from the list.
+/// - `OutOfMemory` if the list can't be allocated.
 #[tactic(auto, using(layouts::proofs::OneAnswerLemmas::read_allowed), unfolding(crate::specs::Content::application_layer_protocol_negotiation))]
 pub fn parse_tls_extension_alpn_content(alloc: Global, i: &[u8]) -> IResult<&[u8], TlsExtension>
     ensures { GivesOrMemory view content.application_layer_protocol_negotiation i.now result }
@@ -286,10 +291,10 @@ pub fn parse_tls_extension_alpn_content(alloc: Global, i: &[u8]) -> IResult<&[u8
     Ok((i, TlsExtension::ALPN(names)))
 }
 
-/// Reads the list of certificate timestamps (RFC 6962, section 3.3.1), undivided: 2 bytes of length and that many bytes,
-/// or `None`, with nothing read, where they aren't all there.
+/// Reads the list of certificate timestamps (RFC 6962, section 3.3.1) as bytes: 2 bytes of length
+/// and that many bytes. If they are incomplete, returns `None` and consumes nothing.
 ///
-/// It never refuses.
+/// Never refuses.
 #[tactic(auto, using(layouts::proofs::OneAnswerLemmas::read_allowed), unfolding(crate::specs::Content::signed_certificate_timestamp))]
 pub fn parse_tls_extension_signed_certificate_timestamp_content(
     i: &[u8],
@@ -300,9 +305,10 @@ pub fn parse_tls_extension_signed_certificate_timestamp_content(
     Ok((i, TlsExtension::SignedCertificateTimestamp(timestamps)))
 }
 
-/// The maximum length of a record's content (RFC 8449, section 4), 2 bytes.
+/// Reads the record size limit, the maximum length of a record's content (RFC 8449, section 4): 2
+/// bytes.
 ///
-/// `Incomplete` of the missing bytes.
+/// `Incomplete` with the number of missing bytes.
 #[tactic(auto, using(layouts::proofs::OneAnswerLemmas::read_allowed), unfolding(crate::specs::Content::record_size_limit))]
 pub(crate) fn record_size_limit_content(i: &[u8]) -> IResult<&[u8], TlsExtension>
     ensures { Gives view content.record_size_limit i.now result }
@@ -311,9 +317,10 @@ pub(crate) fn record_size_limit_content(i: &[u8]) -> IResult<&[u8], TlsExtension
     Ok((i, TlsExtension::RecordSizeLimit(limit)))
 }
 
-/// The most bytes of early data (RFC 8446, section 4.2.10): `None` where `i` is empty; else 4 bytes.
+/// Reads the maximum size of early data, in bytes (RFC 8446, section 4.2.10): `None` if `i` is
+/// empty, else 4 bytes.
 ///
-/// `Incomplete` of the missing bytes.
+/// `Incomplete` with the number of missing bytes.
 #[tactic(auto, using(layouts::proofs::OneAnswerLemmas::read_allowed), unfolding(crate::specs::Content::early_data))]
 pub(crate) fn early_data_content(i: &[u8]) -> IResult<&[u8], TlsExtension>
     ensures { Gives view content.early_data i.now result }
@@ -325,12 +332,13 @@ pub(crate) fn early_data_content(i: &[u8]) -> IResult<&[u8], TlsExtension>
     Ok((i, TlsExtension::EarlyData(Some(size))))
 }
 
-/// The supported versions (RFC 8446, section 4.2.1): one of 2 bytes where `i` has just these; else 1 byte of length,
-/// which isn't tested, and all bytes after it as versions of 2 bytes each.
+/// Reads the supported versions (RFC 8446, section 4.2.1). If `i` has 2 bytes, they are one
+/// version. Else it has 1 byte of length, which isn't checked, and all bytes after it are versions
+/// of 2 bytes each.
 ///
-/// - `Incomplete(1)` where `i` is empty.
-/// - `Error` of kind `LengthValue` where an odd number of bytes follows the length.
-/// - `OutOfMemory` where memory for the list runs out.
+/// - `Incomplete(1)` if `i` is empty.
+/// - `Error` of kind `LengthValue` if an odd number of bytes follows the length.
+/// - `OutOfMemory` if the list can't be allocated.
 #[tactic(auto, using(layouts::proofs::OneAnswerLemmas::read_allowed), unfolding(crate::specs::Content::supported_versions, layouts::specs::Reading::ignored_at))]
 pub(crate) fn supported_versions_content(alloc: Global, i: &[u8]) -> IResult<&[u8], TlsExtension>
     ensures { GivesOrMemory view content.supported_versions i.now result }
@@ -346,10 +354,11 @@ pub(crate) fn supported_versions_content(alloc: Global, i: &[u8]) -> IResult<&[u
     Ok((i, TlsExtension::SupportedVersions(versions)))
 }
 
-/// Reads how pre-shared keys may be used (RFC 8446, section 4.2.9): 1 byte of length, and that many bytes, one each.
+/// Reads the modes of pre-shared keys (RFC 8446, section 4.2.9): 1 byte of length and that many
+/// modes, 1 byte each.
 ///
-/// - `Incomplete` of the missing bytes of the length, or else of the modes.
-/// - `OutOfMemory` where memory for the list runs out.
+/// - `Incomplete` with the bytes missing from the length, or else from the modes.
+/// - `OutOfMemory` if the list can't be allocated.
 #[tactic(auto, using(layouts::proofs::OneAnswerLemmas::read_allowed), unfolding(crate::specs::Content::psk_key_exchange_modes))]
 pub fn parse_tls_extension_psk_key_exchange_modes_content(
     alloc: Global,
@@ -392,12 +401,12 @@ impl Room for OidFilter<'_> {
     }
 }
 
-/// The filters on certificates (RFC 8446, section 4.2.5): 2 bytes of length, and within that many bytes the filters, each
-/// an identifier after 1 byte of length and values after 2. They end before the first that isn't whole, and what is left
-/// of these bytes is dropped.
+/// Reads the filters on certificate extensions (RFC 8446, section 4.2.5): 2 bytes of length and
+/// that many bytes of filters. Each is an OID after 1 byte of length, and values after 2. The list
+/// ends before the first incomplete filter; the bytes from there are dropped.
 ///
-/// - `Incomplete` of the missing bytes of the length, or else of the list.
-/// - `OutOfMemory` where memory for the list runs out.
+/// - `Incomplete` with the bytes missing from the length, or else from the list.
+/// - `OutOfMemory` if the list can't be allocated.
 #[tactic(auto, using(layouts::proofs::OneAnswerLemmas::read_allowed), unfolding(crate::specs::Content::oid_filters))]
 pub(crate) fn oid_filters_content(alloc: Global, i: &[u8]) -> IResult<&[u8], TlsExtension>
     ensures { GivesOrMemory view content.oid_filters i.now result }
@@ -407,9 +416,10 @@ pub(crate) fn oid_filters_content(alloc: Global, i: &[u8]) -> IResult<&[u8], Tls
     Ok((i, TlsExtension::OidFilters(filters)))
 }
 
-/// Reads what a renegotiation is bound to (RFC 5746, section 3.2): 1 byte of length, and that many bytes.
+/// Reads the handshake data that a renegotiation is bound to (RFC 5746, section 3.2): 1 byte of
+/// length and that many bytes.
 ///
-/// `Incomplete` of the missing bytes of the length, or else of these.
+/// `Incomplete` with the bytes missing from the length, or else from the data.
 #[tactic(auto, using(layouts::proofs::OneAnswerLemmas::read_allowed), unfolding(crate::specs::Content::renegotiation_info))]
 pub fn parse_tls_extension_renegotiation_info_content(i: &[u8]) -> IResult<&[u8], TlsExtension>
     ensures { Gives view content.renegotiation_info i.now result }
@@ -418,11 +428,12 @@ pub fn parse_tls_extension_renegotiation_info_content(i: &[u8]) -> IResult<&[u8]
     Ok((i, TlsExtension::RenegotiationInfo(bytes)))
 }
 
-/// Reads an encrypted server name (draft-ietf-tls-esni-02, section 5): 2 bytes of a cipher suite, 2 bytes of a group,
-/// and a key share, a digest and the encrypted name, each after 2 bytes of length.
+/// Reads an encrypted server name (draft-ietf-tls-esni-02, section 5): a cipher suite and a group,
+/// 2 bytes each; then a key share, a digest and the encrypted name, each after 2 bytes of length.
 ///
-/// `Incomplete` of the missing bytes of the first part that isn't whole.
-// The one content of a few fields that the compiler would leave a call: then all of them went through its answer's memory.
+/// `Incomplete` with the bytes missing from the first incomplete part.
+// Always inlined: it is the one content of several fields that the compiler wouldn't inline, and as
+// a call it would make every content go through its result's memory.
 #[tactic(auto, using(layouts::proofs::OneAnswerLemmas::read_allowed), unfolding(crate::specs::Content::encrypted_server_name))]
 #[inline(always)]
 pub fn parse_tls_extension_encrypted_server_name(i: &[u8]) -> IResult<&[u8], TlsExtension>

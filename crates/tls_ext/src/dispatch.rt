@@ -1,4 +1,4 @@
-//! Extensions of any kind (RFC 8446, section 4.2), each read as the content that its type has.
+//! Parses extensions of any type (RFC 8446, section 4.2), with the content of that type.
 ghost use Rattle.std.specs.Prelude.{◌≡◌, ◌≤◌, length, map};
 ghost use Rattle.layouts.specs.Answers.{Gives, GivesOrMemory};
 ghost use Rattle.tls_ext.specs.Extension.{Extension, unknown, view};
@@ -16,8 +16,8 @@ use std::alloc::Global;
 use std::marker::PhantomData;
 use tls_base::TlsExtensionType;
 
-/// What the row of the type answers, where that side reads it, and else all bytes; `$other` where none of these rows has the
-/// type.
+/// Expands to a match on the type. Each row gives its content if the side reads it, else all bytes;
+/// `$other` is for types without a row.
 macro_rules! by_type {
     ([$kind:ident $side:ident $i:ident $given:tt => $other:expr]
         $($number:tt => $form:ident($variant:ident, $read:ident), $sides:ident;)*) => {
@@ -30,7 +30,7 @@ macro_rules! by_type {
     };
 }
 
-/// The content of an extension whose type no row has, or not at that side: all its bytes.
+/// Reads the content of a type that has no row, or none for this side: all bytes.
 #[tactic(auto, using(layouts::proofs::OneAnswerLemmas::read_allowed))]
 #[inline(always)]
 fn unknown_content(i: &[u8], kind: TlsExtensionType) -> IResult<&[u8], TlsExtension>
@@ -40,8 +40,10 @@ fn unknown_content(i: &[u8], kind: TlsExtensionType) -> IResult<&[u8], TlsExtens
     Ok((i, TlsExtension::Unknown(kind, content)))
 }
 
-/// The content of a type that no other row has. It is a function of its own, since in one match with the rows that are
-/// read in place these would answer in the memory that the calls for lists answer in.
+/// Reads the content of a type whose content is a list, or of an unknown type.
+///
+/// It is a separate function: in one match with the other rows, their results would go through the
+/// memory of these calls' results.
 #[tactic(auto, using(layouts::proofs::OneAnswerLemmas::read_allowed, layouts::proofs::OneAnswerLemmas::eqb_other), unfolding(crate::specs::Dispatch::registered_list))]
 #[inline(always)]
 fn list_content(
@@ -55,7 +57,7 @@ fn list_content(
     rows!(list_rows by_type kind side i (alloc, i) => unknown_content(i, kind))
 }
 
-/// The content of a type that isn't kept free.
+/// Reads the content of a type that isn't a GREASE number.
 #[tactic(auto, using(layouts::proofs::OneAnswerLemmas::read_allowed, layouts::proofs::OneAnswerLemmas::eqb_other), unfolding(crate::specs::Dispatch::registered, crate::specs::Dispatch::registered_list))]
 #[inline(always)]
 fn registered_content(
@@ -69,9 +71,10 @@ fn registered_content(
     rows!(other_rows by_type kind side i (i) => list_content(alloc, i, kind, side))
 }
 
-/// The content of an extension of the type `kind`, as `side` reads it.
+/// Reads the content of an extension of the type `kind`, for this side.
 ///
-/// It refuses as the content of that kind does. A type that is kept free, or that `side` doesn't read, has any content.
+/// The refusals are those of the kind's content. The content of a GREASE number, and of a type that
+/// `side` doesn't read, is never refused.
 #[tactic(auto, using(layouts::proofs::OneAnswerLemmas::read_allowed), unfolding(crate::specs::Dispatch::extension_content))]
 #[inline(always)]
 fn extension_content(
@@ -89,7 +92,7 @@ fn extension_content(
     registered_content(alloc, i, kind, side)
 }
 
-/// A whole extension, as `side` reads it.
+/// Reads a whole extension, for this side.
 #[tactic(auto, using(layouts::proofs::OneAnswerLemmas::read_allowed), unfolding(crate::specs::Dispatch::extension))]
 #[inline(always)]
 fn extension(alloc: Global, i: &[u8], side: Side) -> IResult<&[u8], TlsExtension>
@@ -101,21 +104,23 @@ fn extension(alloc: Global, i: &[u8], side: Side) -> IResult<&[u8], TlsExtension
     Ok((i, extension))
 }
 
-/// Reads an extension of any message (RFC 8446, section 4.2): 2 bytes of type, 2 bytes of length, and a content of that
-/// many bytes, which is read within them alone; what is left of them is dropped. All numbers are big-endian.
+/// Reads an extension of any message (RFC 8446, section 4.2): 2 bytes of type, 2 bytes of length,
+/// and a content of that many bytes. Bytes that the content leaves are dropped. All numbers are
+/// big-endian.
 ///
-/// A type whose bytes both end in the hexadecimal digit a is kept free: it is `Grease`, with its content. RFC 8701,
-/// section 2, keeps sixteen such numbers, those with two equal bytes; here all 256 are. A type whose content isn't read
-/// is `Unknown`, with its content.
+/// A type whose bytes both end in the hexadecimal digit a is `Grease`, with its content. RFC 8701,
+/// section 2, reserves sixteen such numbers, those with two equal bytes; here all 256 are. A type
+/// whose content isn't parsed is `Unknown`, with its content.
 ///
-/// - `Incomplete` of the missing bytes where the extension isn't whole.
-/// - What the content refuses, its `Incomplete` too. The call of that kind tells it, but for Heartbeat: of its content 1
-///   byte is read here and the others are dropped, `Incomplete(1)` where it is empty, while
-///   [`crate::parse_tls_extension_heartbeat`] takes no length but 1.
-/// - What the contents of kinds with no call of their own refuse: `Incomplete` of the missing bytes of a record size limit
-///   of 2 bytes, and of the length or the list of filters on certificates; `Error` of kind `Verify` where authentication
-///   after the handshake or next protocol negotiation isn't empty.
-/// - `OutOfMemory` where memory for a list runs out.
+/// - `Incomplete` with the number of missing bytes if the extension is incomplete.
+/// - The refusals of the content, which may be `Incomplete` too: those of the kind's own call,
+///   except for Heartbeat. Here 1 byte of its content is read and the others are dropped, with
+///   `Incomplete(1)` if it is empty, while [`crate::parse_tls_extension_heartbeat`] accepts only
+///   the length 1.
+/// - The refusals of contents without a call: `Incomplete` with the bytes missing from a record
+///   size limit of 2 bytes, or from the length or the list of filters on certificate extensions;
+///   `Error` of kind `Verify` if post_handshake_auth or next_protocol_negotiation isn't empty.
+/// - `OutOfMemory` if a list can't be allocated.
 #[inline(always)]
 pub fn parse_tls_extension(alloc: Global, i: &[u8]) -> IResult<&[u8], TlsExtension>
     ensures { GivesOrMemory view (extension_layout general) i.now result }
@@ -123,8 +128,8 @@ pub fn parse_tls_extension(alloc: Global, i: &[u8]) -> IResult<&[u8], TlsExtensi
     extension(alloc, i, Side::General)
 }
 
-/// Reads an extension of a ClientHello: as [`parse_tls_extension`], but the one type that this call doesn't read, the
-/// older number of key shares, is `Unknown`.
+/// Reads an extension of a ClientHello, as [`parse_tls_extension`], but the older number of key
+/// shares, which this call doesn't parse, is `Unknown`.
 #[inline(always)]
 pub fn parse_tls_client_hello_extension(alloc: Global, i: &[u8]) -> IResult<&[u8], TlsExtension>
     ensures { GivesOrMemory view (extension_layout client) i.now result }
@@ -132,9 +137,12 @@ pub fn parse_tls_client_hello_extension(alloc: Global, i: &[u8]) -> IResult<&[u8
     extension(alloc, i, Side::Client)
 }
 
-/// Reads an extension of a ServerHello: as [`parse_tls_extension`], but the types that this call doesn't read are
-/// `Unknown`: supported groups, padding, the older number of key shares, modes of pre-shared keys, filters on
-/// certificates, authentication after the handshake, and an encrypted server name.
+/// Reads an extension of a ServerHello, as [`parse_tls_extension`], but types that this call
+/// doesn't parse are `Unknown`:
+///
+/// - supported groups, padding, the older number of key shares;
+/// - modes of pre-shared keys, filters on certificate extensions;
+/// - post_handshake_auth, and an encrypted server name.
 #[inline(always)]
 pub fn parse_tls_server_hello_extension(alloc: Global, i: &[u8]) -> IResult<&[u8], TlsExtension>
     ensures { GivesOrMemory view (extension_layout server) i.now result }
@@ -142,7 +150,7 @@ pub fn parse_tls_server_hello_extension(alloc: Global, i: &[u8]) -> IResult<&[u8
     extension(alloc, i, Side::Server)
 }
 
-/// A side as a type, which the items of a list name.
+/// A side as a type, for the items of a list.
 trait Reader {
     ghost side: { Side };
 
@@ -150,7 +158,7 @@ trait Reader {
         ensures { result ≡ side };
 }
 
-/// The reader of any message.
+/// The side of any message.
 struct General;
 
 impl Reader for General {
@@ -161,7 +169,7 @@ impl Reader for General {
     }
 }
 
-/// The reader of a ClientHello.
+/// Reads extensions of a ClientHello.
 struct Client;
 
 impl Reader for Client {
@@ -172,7 +180,7 @@ impl Reader for Client {
     }
 }
 
-/// The reader of a ServerHello.
+/// Reads extensions of a ServerHello.
 struct Server;
 
 impl Reader for Server {
@@ -183,7 +191,7 @@ impl Reader for Server {
     }
 }
 
-/// An extension of a list, as that side reads it.
+/// An extension as an item of a list, for this side.
 struct ExtensionFor<R: Reader> {
     reader: PhantomData<R>,
 }
@@ -210,18 +218,18 @@ impl<R: Reader> Room for ExtensionFor<R> {
     }
 }
 
-/// Reads zero or more extensions, each as [`parse_tls_extension`] reads it, up to the first that isn't read, by `Error`
-/// or `Incomplete`; what is left begins there.
+/// Reads zero or more extensions, each as [`parse_tls_extension`], up to the first that is refused
+/// by `Error` or `Incomplete`. The rest begins there.
 ///
-/// It refuses for memory alone: `OutOfMemory` where memory for a list runs out.
+/// `OutOfMemory` if a list can't be allocated. Refuses nothing else.
 pub fn parse_tls_extensions(alloc: Global, i: &[u8]) -> IResult<&[u8], Vec<TlsExtension>>
     ensures { GivesOrMemory (λ v. map view v.items) (extensions general) i.now result }
 {
     items::<ExtensionFor<General>>(alloc, i)
 }
 
-/// Reads the extensions of a ClientHello: as [`parse_tls_extensions`], but each as
-/// [`parse_tls_client_hello_extension`] reads it.
+/// Reads the extensions of a ClientHello, as [`parse_tls_extensions`], each as
+/// [`parse_tls_client_hello_extension`].
 pub fn parse_tls_client_hello_extensions(
     alloc: Global,
     i: &[u8],
@@ -231,8 +239,8 @@ pub fn parse_tls_client_hello_extensions(
     items::<ExtensionFor<Client>>(alloc, i)
 }
 
-/// Reads the extensions of a ServerHello: as [`parse_tls_extensions`], but each as
-/// [`parse_tls_server_hello_extension`] reads it.
+/// Reads the extensions of a ServerHello, as [`parse_tls_extensions`], each as
+/// [`parse_tls_server_hello_extension`].
 pub fn parse_tls_server_hello_extensions(
     alloc: Global,
     i: &[u8],

@@ -1,4 +1,4 @@
-//! Extensions and what they hold.
+//! Extensions and their contents.
 ghost use Rattle.std.specs.Prelude.{◌≡◌, IfOk};
 ghost use Rattle.tls_ext.specs.Extension.{view, extension_type};
 
@@ -30,60 +30,63 @@ pub struct OidFilter<'a> {
 /// An extension of a hello message or a certificate request (RFC 8446, section 4.2).
 #[derive(Debug, PartialEq, Drop)]
 pub enum TlsExtension<'a> {
-    /// The names of the server that is asked for, each its type and its bytes (server_name; RFC 6066, section 3).
+    /// The names of the requested server, each its type and its bytes (server_name; RFC 6066,
+    /// section 3).
     SNI(Vec<(SNIType, &'a [u8])>),
     /// The code of a maximum fragment length (RFC 6066, section 4).
     MaxFragmentLength(u8),
-    /// The type of a status request and the request; `None` where a server answers (RFC 6066, section 8).
+    /// The type of a status request and the request; `None` from a server (RFC 6066, section 8).
     StatusRequest(Option<(CertificateStatusType, &'a [u8])>),
     /// The supported groups (RFC 8422, section 5.1.1; RFC 8446, section 4.2.7).
     EllipticCurves(Vec<NamedGroup>),
-    /// The supported point formats, a byte each (RFC 8422, section 5.1.2).
+    /// The supported point formats, 1 byte each (RFC 8422, section 5.1.2).
     EcPointFormats(&'a [u8]),
-    /// The supported signature algorithms, by number (RFC 8446, section 4.2.3).
+    /// The numbers of the supported signature algorithms (RFC 8446, section 4.2.3).
     SignatureAlgorithms(Vec<u16>),
-    /// Who may send heartbeats (RFC 6520, section 2).
+    /// The heartbeat mode: who may send heartbeats (RFC 6520, section 2).
     Heartbeat(u8),
-    /// The names of the application protocols (RFC 7301, section 3.1).
+    /// The application protocol names (RFC 7301, section 3.1).
     ALPN(Vec<&'a [u8]>),
     /// The list of certificate timestamps, without its length (RFC 6962, section 3.3.1).
     SignedCertificateTimestamp(Option<&'a [u8]>),
     /// The padding (RFC 7685, section 3).
     Padding(&'a [u8]),
-    /// The wish to encrypt before the MAC (RFC 7366, section 2).
+    /// The flag encrypt_then_mac (RFC 7366, section 2).
     EncryptThenMac,
-    /// The wish for an extended master secret (RFC 7627, section 5.1).
+    /// The flag extended_master_secret (RFC 7627, section 5.1).
     ExtendedMasterSecret,
-    /// The maximum length of a record's content (RFC 8449, section 4).
+    /// The record size limit: the maximum length of a record's content (RFC 8449, section 4).
     RecordSizeLimit(u16),
     /// A session ticket (RFC 5077, section 3.2).
     SessionTicket(&'a [u8]),
-    /// Key shares under the number that drafts of TLS 1.3 gave them.
+    /// Key shares, under their number in drafts of TLS 1.3.
     KeyShareOld(&'a [u8]),
-    /// The offered or the selected pre-shared keys (RFC 8446, section 4.2.11).
+    /// The offered pre-shared keys, or the selected one (RFC 8446, section 4.2.11).
     PreSharedKey(&'a [u8]),
-    /// The most bytes of early data; `None` outside a new session ticket (RFC 8446, section 4.2.10).
+    /// The maximum size of early data, in bytes; `None` outside NewSessionTicket (RFC 8446, section
+    /// 4.2.10).
     EarlyData(Option<u32>),
-    /// The supported versions, or the one that a server selected (RFC 8446, section 4.2.1). In TLS 1.3 this is the version
-    /// that is spoken, and not that of the hello.
+    /// The supported versions, or the one that a server selected (RFC 8446, section 4.2.1). In TLS
+    /// 1.3 the selected version is the one in use, and not that of the hello.
     SupportedVersions(Vec<TlsVersion>),
     /// A cookie (RFC 8446, section 4.2.2).
     Cookie(&'a [u8]),
-    /// How pre-shared keys may be used, a byte each (RFC 8446, section 4.2.9).
+    /// The modes of pre-shared keys, 1 byte each (RFC 8446, section 4.2.9).
     PskExchangeModes(Vec<u8>),
-    /// The filters on certificates (RFC 8446, section 4.2.5).
+    /// The filters on certificate extensions (RFC 8446, section 4.2.5).
     OidFilters(Vec<OidFilter<'a>>),
-    /// The leave to ask for authentication after the handshake (RFC 8446, section 4.2.6).
+    /// The flag post_handshake_auth (RFC 8446, section 4.2.6).
     PostHandshakeAuth,
     /// The key shares (RFC 8446, section 4.2.8).
     KeyShare(&'a [u8]),
-    /// Next protocol negotiation, as a client asks for it (draft-agl-tls-nextprotoneg-04, section 3).
+    /// The flag next_protocol_negotiation, as a client sends it (draft-agl-tls-nextprotoneg-04,
+    /// section 3).
     NextProtocolNegotiation,
-    /// What a renegotiation is bound to (RFC 5746, section 3.2).
+    /// The handshake data that a renegotiation is bound to (RFC 5746, section 3.2).
     RenegotiationInfo(&'a [u8]),
     /// An encrypted server name (draft-ietf-tls-esni-02, section 5).
     EncryptedServerName {
-        /// The suite that encrypts the name.
+        /// The cipher suite that encrypts the name.
         ciphersuite: TlsCipherSuiteID,
         /// The group of the key share.
         group: NamedGroup,
@@ -94,14 +97,15 @@ pub enum TlsExtension<'a> {
         /// The encrypted name.
         encrypted_sni: &'a [u8],
     },
-    /// A number that is kept free so that peers ignore what they don't know, and its content. Any number whose bytes both
-    /// end in the hexadecimal digit a is read so; RFC 8701, section 2, has sixteen of these.
+    /// A GREASE number and its content. GREASE numbers are reserved so that peers learn to ignore
+    /// unknown ones. Any number whose bytes both end in the hexadecimal digit a counts; RFC 8701,
+    /// section 2, reserves sixteen of these.
     Grease(u16, &'a [u8]),
-    /// An extension whose content isn't read: its type and its content.
+    /// An extension whose content isn't parsed: its type and its content.
     Unknown(TlsExtensionType, &'a [u8]),
 }
 
-/// For each row of the table of kinds the arm of its variant.
+/// Expands to a match with an arm for each row of the table: the type of its variant.
 macro_rules! type_of {
     ([$extension:ident] $($number:tt => $form:ident($kind:ident, $read:ident), $sides:ident;)*) => {
         match $extension {
@@ -112,7 +116,7 @@ macro_rules! type_of {
     };
 }
 
-/// The type of an extension. `Grease` has 0xfafa, and `Unknown` the type that it holds.
+/// Converts to the extension's type. `Grease` has 0xfafa, `Unknown` its own type.
 impl From<&TlsExtension<'_>> for TlsExtensionType {
     ghost from_gives = { λ e t. t.0 ≡ extension_type (view e.now) };
 
@@ -121,17 +125,19 @@ impl From<&TlsExtension<'_>> for TlsExtensionType {
     }
 }
 
-/// The same items in a vector of their own.
+/// Returns a copy of the items in a new vector.
 fn copied<T: Copy>(alloc: Global, items: &Vec<T>) -> Result<Vec<T>, AllocError>
     ensures { IfOk result (λ v. v.items ≡ items.now.items) }
 {
     Vec::from_slice(alloc, items.as_slice())
 }
 
-/// For each row of the table of kinds, but for those of several fields, the arm that copies its variant.
+/// Expands to a match with an arm for each row of the table: a copy of its variant. Variants of
+/// several fields have no arm here.
 macro_rules! copy_of {
     ([$extension:ident $alloc:ident] $($number:tt =>
-        $(list($list:ident, $l:ident))? $(value($value:ident, $v:ident))? $(empty($empty:ident, $e:ident))?
+        $(list($list:ident, $l:ident))? $(value($value:ident, $v:ident))?
+            $(empty($empty:ident, $e:ident))?
         $(fields $f:tt)?, $sides:ident;)*) => {
         match $extension {
             $($(TlsExtension::$list(items) => TlsExtension::$list(copied($alloc, items)?),)?)*
@@ -157,9 +163,9 @@ macro_rules! copy_of {
 }
 
 impl<'a> TlsExtension<'a> {
-    /// The same variant with the same fields; slices are shared, lists are copied.
+    /// Returns a copy of the extension. Slices are shared, lists are copied.
     ///
-    /// `OutOfMemory` where memory for a list runs out.
+    /// `OutOfMemory` if a list can't be allocated.
     pub fn try_clone(&self, alloc: Global) -> Result<TlsExtension<'a>, OutOfMemory>
         ensures { IfOk result (λ e. view e ≡ view self.now) }
     {

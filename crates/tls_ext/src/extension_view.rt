@@ -1,7 +1,9 @@
-//! Extensions in place (RFC 8446, section 4.2): each is its type and its content, which is read on demand.
+//! Extensions in place (RFC 8446, section 4.2): the type and the content of each. The content is
+//! parsed on demand.
 //!
-//! A walk over extensions judges where each ends, and no content. So it goes on behind an extension whose content is refused,
-//! as the calls that make lists don't; the calls of `content_view` judge one content.
+//! A walk over extensions checks where each ends, but no content. So it continues after an
+//! extension whose content would be refused, where the calls that make lists end. The calls of
+//! `content_view` check one content.
 ghost use Rattle.std.specs.Prelude.{◌≡◌, ℕ};
 ghost use Rattle.std.specs.Option.{option_map};
 ghost use Rattle.layouts.specs.Items.{Tells, items_in};
@@ -12,10 +14,10 @@ ghost use Rattle.tls_ext.specs.InPlace.{content_of, extension_type, raw_extensio
 use layouts::{Err, Error, IResult, InPlace, Items, counted2};
 use tls_base::TlsExtensionType;
 
-/// An extension whose content isn't read.
+/// An extension whose content isn't parsed.
 #[derive(Clone, Copy, Debug, PartialEq)]
 pub struct RawExtension<'a> {
-    /// What its content is.
+    /// The type of the extension.
     pub extension_type: TlsExtensionType,
     /// The content, without its length.
     pub content: &'a [u8],
@@ -43,7 +45,7 @@ impl<'a> InPlace<'a> for RawExtension<'a> {
     }
 }
 
-/// How the type of an extension is read, and its content passed over.
+/// Types of extensions as items of a list; contents are skipped.
 #[derive(Clone, Copy)]
 pub struct ExtensionType;
 
@@ -63,7 +65,8 @@ impl<'a> InPlace<'a> for ExtensionType {
     }
 }
 
-/// The extensions of a hello, of either side, from its `ext`; none where no whole block follows it.
+/// Returns a walk over the extensions of a client's or a server's hello, from its `ext`; none if
+/// that is `None`.
 #[inline(always)]
 pub fn extensions<'a>(ext: Option<&'a [u8]>) -> Items<'a, RawExtension<'a>>
     ensures { result.bytes.now ≡ held (option_map (λ x. x.now) ext.entry) }
@@ -74,7 +77,8 @@ pub fn extensions<'a>(ext: Option<&'a [u8]>) -> Items<'a, RawExtension<'a>>
     }
 }
 
-/// The types of the extensions of a hello, of either side, in their order, from its `ext`.
+/// Returns a walk over the types of the extensions of a client's or a server's hello, in their
+/// order, from its `ext`.
 #[inline(always)]
 pub fn extension_types<'a>(ext: Option<&'a [u8]>) -> Items<'a, ExtensionType>
     ensures { result.bytes.now ≡ held (option_map (λ x. x.now) ext.entry) }
@@ -82,15 +86,16 @@ pub fn extension_types<'a>(ext: Option<&'a [u8]>) -> Items<'a, ExtensionType>
     Items::new(extensions(ext).bytes())
 }
 
-/// The content of the first of `extensions` that has that type.
+/// Returns the content of the first of `extensions` with this type.
 ///
-/// Where there is none: `None` if all bytes of the extensions were walked, else what refuses the extension that the walk ended
-/// in front of.
+/// If there is none: `None` if the walk reached the end of the bytes, else the refusal of the
+/// extension that the walk ended at.
 pub fn first_content<'a>(
     extensions: Items<'a, RawExtension<'a>>,
     kind: TlsExtensionType,
 ) -> Result<Option<&'a [u8]>, Err<Error<&'a [u8]>>>
-    ensures { Tells (option_map (λ x. x.now)) (content_of kind.0 extensions.entry.bytes.now) result }
+    ensures { Tells (option_map (λ x. x.now))
+        (content_of kind.0 extensions.entry.bytes.now) result }
 {
     let block = extensions.bytes();
     let walk: Items<RawExtension> = Items::new(block);

@@ -1,7 +1,16 @@
-//! Extensions of TLS messages (RFC 8446, section 4.2).
+//! Parses and writes extensions of TLS messages (RFC 8446, section 4.2).
 //!
-//! Each call answers what a layout of `specs/` allows on the bytes: the value and the exact rest, or the refusal of the
-//! leftmost part that can't be read. Slices in a value are parts of the input.
+//! The promise: each parse call returns the one answer of its layout. That is the value and the
+//! exact rest, or the refusal of the leftmost part that can't be read. Slices in a value are parts
+//! of the input. What is written reads back ([`laws`]).
+//!
+//! - `specs/Content.antt` defines the content of each kind, `Dispatch` the kind of each type for
+//!   each side, `Tagged` an extension of one given type.
+//! - `specs/Extension.antt` defines the values, `InPlace` extensions that are parsed while they are
+//!   walked, and what [`server_name`], [`application_protocols`] and [`best_version`] return.
+//!   `Offered` defines what [`offered`] returns.
+//! - `specs/ExtensionText.antt` defines the encoding, which kinds are written, and what their
+//!   writers promise.
 #![tactic(auto, using(layouts::proofs::OneAnswerLemmas::read_allowed))]
 
 mod content;

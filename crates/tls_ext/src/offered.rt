@@ -1,4 +1,5 @@
-//! What a hello says by the first extension of a type, from its `ext`; nothing where that is missing, or refused.
+//! What a hello's `ext` offers: the lists in the first extension of a type, empty if it is missing
+//! or refused.
 ghost use Rattle.std.specs.Prelude.{◌≡◌, []};
 ghost use Rattle.std.specs.Option.{option_map};
 ghost use Rattle.layouts.specs.Items.{items_in};
@@ -11,16 +12,17 @@ use crate::extension_view::{extensions, first_content};
 use layouts::{InPlace, Items};
 use tls_base::{NamedGroup, TlsExtensionType};
 
-/// No items.
+/// Returns a walk over no items.
 pub fn none<'a, T: InPlace<'a>>() -> Items<'a, T>
     ensures { items_in T.layout result.bytes.now ≡ [] }
 {
     Items::new(&[])
 }
 
-/// The content of the first extension of that type; `None` where none was found.
+/// Returns the content of the first extension of this type; `None` if none was found.
 pub fn content<'a>(ext: Option<&'a [u8]>, kind: TlsExtensionType) -> Option<&'a [u8]>
-    ensures { option_map (λ x. x.now) result ≡ content_in kind.0 (held (option_map (λ x. x.now) ext.entry)) }
+    ensures { option_map (λ x. x.now) result ≡ content_in kind.0
+        (held (option_map (λ x. x.now) ext.entry)) }
 {
     match first_content(extensions(ext), kind) {
         Ok(content) => content,
@@ -28,9 +30,11 @@ pub fn content<'a>(ext: Option<&'a [u8]>, kind: TlsExtensionType) -> Option<&'a 
     }
 }
 
-/// The groups of the first supported_groups (RFC 8446, section 4.2.7); none where it is missing or refused.
+/// Returns the groups in the first supported_groups (RFC 8446, section 4.2.7); none if it is
+/// missing or refused.
 pub fn groups<'a>(ext: Option<&'a [u8]>) -> Items<'a, NamedGroup>
-    ensures { items_in (number 2) result.bytes.now ≡ groups_in (held (option_map (λ x. x.now) ext.entry)) }
+    ensures { items_in (number 2) result.bytes.now ≡ groups_in
+        (held (option_map (λ x. x.now) ext.entry)) }
 {
     let Ok(Some(content)) = first_content(extensions(ext), TlsExtensionType::SupportedGroups) else {
         return none::<NamedGroup>();
@@ -41,7 +45,8 @@ pub fn groups<'a>(ext: Option<&'a [u8]>) -> Items<'a, NamedGroup>
     }
 }
 
-/// The formats of the first ec_point_formats (RFC 8422, section 5.1.2), one a byte; none where it is missing or refused.
+/// Returns the formats in the first ec_point_formats (RFC 8422, section 5.1.2), 1 byte each; none
+/// if it is missing or refused.
 pub fn formats<'a>(ext: Option<&'a [u8]>) -> &'a [u8]
     ensures { result.now ≡ formats_in (held (option_map (λ x. x.now) ext.entry)) }
 {
@@ -54,9 +59,11 @@ pub fn formats<'a>(ext: Option<&'a [u8]>) -> &'a [u8]
     }
 }
 
-/// The algorithms of the first signature_algorithms (RFC 8446, section 4.2.3); none where it is missing or refused.
+/// Returns the algorithms in the first signature_algorithms (RFC 8446, section 4.2.3); none if it
+/// is missing or refused.
 pub fn algorithms<'a>(ext: Option<&'a [u8]>) -> Items<'a, u16>
-    ensures { items_in (number 2) result.bytes.now ≡ algorithms_in (held (option_map (λ x. x.now) ext.entry)) }
+    ensures { items_in (number 2) result.bytes.now ≡ algorithms_in
+        (held (option_map (λ x. x.now) ext.entry)) }
 {
     let Ok(Some(content)) = first_content(extensions(ext), TlsExtensionType::SignatureAlgorithms)
     else {

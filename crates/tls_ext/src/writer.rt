@@ -1,8 +1,9 @@
-//! Writing extensions (RFC 8446, section 4.2): the names of a server, a maximum fragment length and supported groups.
+//! Writes extensions (RFC 8446, section 4.2): server names, a maximum fragment length, and
+//! supported groups.
 //!
-//! A call judges the whole value first (`judge`), without memory; then it builds the text (`builder`), in one piece of memory
-//! of its very length; then it hands the text to the writer. So a refusal, and running out of memory, leave the writer as it
-//! was.
+//! A call first checks the whole value without allocating (`judge`). Then it builds the encoding in
+//! one allocation of exactly its length (`builder`), and hands it to the `Write`. So a refusal, or
+//! running out of memory, leaves the `Write` unchanged.
 ghost use Rattle.std.specs.Prelude.{map, OnOk};
 ghost use Rattle.tls_ext.specs.Extension.{view};
 ghost use Rattle.tls_ext.specs.ExtensionText.{IsReadBack, WritesExtension, WritesExtensions};
@@ -19,24 +20,24 @@ mod judge;
 use builder::{append_extension, append_extensions};
 use judge::{extension_len, extensions_len};
 
-/// Writes an extension (RFC 8446, section 4.2): 2 bytes of type, 2 bytes of length, and the content. All numbers are
-/// big-endian.
+/// Writes an extension (RFC 8446, section 4.2): 2 bytes of type, 2 bytes of length, and the
+/// content. All numbers are big-endian.
 ///
-/// - The names of a server (RFC 6066, section 3): 2 bytes of length, and each name as 1 byte of type, 2 bytes of length,
-///   and its bytes.
+/// - Server names (RFC 6066, section 3): 2 bytes of length, and each name as 1 byte of type, 2
+///   bytes of length, and its bytes.
 /// - A maximum fragment length (RFC 6066, section 4): 1 byte.
 /// - Supported groups (RFC 8446, section 4.2.7): 2 bytes of length, and 2 bytes each.
 ///
-/// Where the answer is `Ok`, `w` holds the text behind what it held; flushing it is left to the caller. `w` is left as it
-/// was where the answer is:
+/// With `Ok` the encoding was appended to what `w` held. The caller flushes `w`. These refusals
+/// leave `w` unchanged:
 ///
 /// - `NotYetImplemented`: the extension is of another kind.
-/// - `BadLength`: the content is above 65535 bytes. It is so where a name, or a list in it, is too long for its own length.
-///   32766 groups are taken, 32767 aren't.
-/// - `OutOfMemory`: memory for the text runs out.
+/// - `BadLength`: the content is longer than 65535 bytes. This includes a name, or a list in it,
+///   that is too long for its length field. 32766 groups fit, 32767 don't.
+/// - `OutOfMemory`: the encoding can't be allocated.
 ///
-/// The third outcome is `Io`: the extension can be written, but the writer failed, was interrupted, or took nothing. How
-/// much it got before is then unknown.
+/// `Io` means that the extension can be written, but `w` failed, was interrupted, or took no bytes.
+/// How much it took before is unknown.
 pub fn gen_tls_extension<W: Write>(
     alloc: Global,
     extension: &TlsExtension,
@@ -50,18 +51,19 @@ pub fn gen_tls_extension<W: Write>(
     write_whole(w, &text)
 }
 
-/// Writes a list of extensions (RFC 8446, section 4.2): 2 bytes of length, big-endian, and the extensions, each as
-/// [`gen_tls_extension`] writes it. [`crate::parse_tls_extensions`] reads what stands after the length as the same list.
+/// Writes a list of extensions (RFC 8446, section 4.2): 2 bytes of length, big-endian, and the
+/// extensions, each as by [`gen_tls_extension`]. [`crate::parse_tls_extensions`] reads the bytes
+/// after the length back as the same list.
 ///
-/// Where the answer is `Ok`, `w` holds the text behind what it held; flushing it is left to the caller. `w` is left as it
-/// was where the answer is:
+/// With `Ok` the encoding was appended to what `w` held. The caller flushes `w`. These refusals
+/// leave `w` unchanged:
 ///
-/// - `NotYetImplemented` or `BadLength`: as [`gen_tls_extension`] refuses the first extension that it doesn't take;
-///   `BadLength` also where it takes each, but together they are above 65535 bytes.
-/// - `OutOfMemory`: memory for the text runs out.
+/// - `NotYetImplemented` or `BadLength`: [`gen_tls_extension`] refuses the first extension that
+///   can't be written. `BadLength` also if each can, but together they are longer than 65535 bytes.
+/// - `OutOfMemory`: the encoding can't be allocated.
 ///
-/// The third outcome is `Io`: the list can be written, but the writer failed, was interrupted, or took nothing. How much it
-/// got before is then unknown.
+/// `Io` means that the list can be written, but `w` failed, was interrupted, or took no bytes. How
+/// much it took before is unknown.
 pub fn gen_tls_extensions<W: Write>(
     alloc: Global,
     extensions: &[TlsExtension],

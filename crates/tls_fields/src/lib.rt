@@ -1,4 +1,5 @@
-//! The public names of `layouts`, and its definitions, under the name that this crate had first. Nothing is defined here.
+//! Re-exports the public names of `layouts` and its definitions, under this crate's name. It
+//! defines nothing itself, and the promises are those of `layouts`.
 #![tactic(auto)]
 
 pub use layouts::{

@@ -1,4 +1,4 @@
--- Texts that are put together piece by piece, and their digests.
+-- Texts built piece by piece, and their digests.
 use Rattle.std.proofs.Common.{◌≡◌, ℕ, ◌/◌, ◌%◌, ◌≤◌, List, [], ◌∷◌, ◌++◌, Bool, true, false, not, cond, leb, ◌&&◌, ◌==◌, Result, Ok, Err, length, take, refl, sym, ◌∙◌, ap, arith}
 use Rattle.std.proofs.Common.{append_assoc}
 use Rattle.std.specs.List.{join_with_byte}
@@ -13,7 +13,7 @@ pub on_ok : {A E P : Type 0} (r : Result A E) → IsOk r → OnOk r P → P
 on_ok (Ok x) ok held = held
 on_ok (Err e) ok held = absurd cc
 
--- five fields, fed one after the other with `,` between them
+-- five fields, hashed in order with `,` between them
 pub five_fed : (a b c d e b2 c2 d2 e2 : List ℕ) → b ≡ b2 → c ≡ c2 → d ≡ d2 → e ≡ e2
     → (((((((([] ++ a) ++ 44 ∷ []) ++ b) ++ 44 ∷ []) ++ c) ++ 44 ∷ []) ++ d) ++ 44 ∷ []) ++ e
     ≡ join_with_byte 44 (a ∷ b2 ∷ c2 ∷ d2 ∷ e2 ∷ [])
@@ -24,7 +24,8 @@ five_fed a b c d e b2 c2 d2 e2 eb ec ed ee =
     ∙ ap (λ x. a ++ 44 ∷ (b2 ++ 44 ∷ (c2 ++ 44 ∷ (x ++ 44 ∷ e)))) ed
     ∙ ap (λ x. a ++ 44 ∷ (b2 ++ 44 ∷ (c2 ++ 44 ∷ (d2 ++ 44 ∷ x)))) ee
   where
-    nested : (a b c d e : List ℕ) → (((((((([] ++ a) ++ 44 ∷ []) ++ b) ++ 44 ∷ []) ++ c) ++ 44 ∷ []) ++ d) ++ 44 ∷ []) ++ e
+    nested : (a b c d e : List ℕ)
+        → (((((((([] ++ a) ++ 44 ∷ []) ++ b) ++ 44 ∷ []) ++ c) ++ 44 ∷ []) ++ d) ++ 44 ∷ []) ++ e
         ≡ a ++ 44 ∷ (b ++ 44 ∷ (c ++ 44 ∷ (d ++ 44 ∷ e)))
     nested a b c d e = simp append_assoc refl
 
@@ -32,10 +33,11 @@ pub three_fed : (a b c c2 : List ℕ) → c ≡ c2
     → (((([] ++ a) ++ 44 ∷ []) ++ b) ++ 44 ∷ []) ++ c ≡ join_with_byte 44 (a ∷ b ∷ c2 ∷ [])
 three_fed a b c c2 ec = nested a b c ∙ ap (λ x. a ++ 44 ∷ (b ++ 44 ∷ x)) ec
   where
-    nested : (a b c : List ℕ) → (((([] ++ a) ++ 44 ∷ []) ++ b) ++ 44 ∷ []) ++ c ≡ a ++ 44 ∷ (b ++ 44 ∷ c)
+    nested : (a b c : List ℕ)
+        → (((([] ++ a) ++ 44 ∷ []) ++ b) ++ 44 ∷ []) ++ c ≡ a ++ 44 ∷ (b ++ 44 ∷ c)
     nested a b c = simp append_assoc refl
 
--- pieces that were put one behind the other
+-- pieces written one after the other
 pub five_put : (t1 t2 t3 t4 t5 a b c d e : List ℕ) (n1 n2 n3 n4 n5 : ℕ)
     → take n1 t1 ≡ a → take n2 t2 ≡ take n1 t1 ++ b → take n3 t3 ≡ take n2 t2 ++ c
     → take n4 t4 ≡ take n3 t3 ++ d → take n5 t5 ≡ take n4 t4 ++ e → length t5 ≤ n5
@@ -50,10 +52,12 @@ five_put t1 t2 t3 t4 t5 a b c d e n1 n2 n3 n4 n5 s1 s2 s3 s4 s5 all =
 
 pub six_put : (t1 t2 t3 t4 t5 t6 a b c d e f a2 b2 c2 d2 e2 f2 : List ℕ) (n1 n2 n3 n4 n5 n6 : ℕ)
     → take n1 t1 ≡ a → take n2 t2 ≡ take n1 t1 ++ b → take n3 t3 ≡ take n2 t2 ++ c
-    → take n4 t4 ≡ take n3 t3 ++ d → take n5 t5 ≡ take n4 t4 ++ e → take n6 t6 ≡ take n5 t5 ++ f → length t6 ≤ n6
+    → take n4 t4 ≡ take n3 t3 ++ d → take n5 t5 ≡ take n4 t4 ++ e → take n6 t6 ≡ take n5 t5 ++ f
+    → length t6 ≤ n6
     → a ≡ a2 → b ≡ b2 → c ≡ c2 → d ≡ d2 → e ≡ e2 → f ≡ f2
     → t6 ≡ a2 ++ b2 ++ c2 ++ d2 ++ e2 ++ f2
-six_put t1 t2 t3 t4 t5 t6 a b c d e f a2 b2 c2 d2 e2 f2 n1 n2 n3 n4 n5 n6 s1 s2 s3 s4 s5 s6 all ea eb ec ed ee ef =
+six_put t1 t2 t3 t4 t5 t6 a b c d e f a2 b2 c2 d2 e2 f2 n1 n2 n3 n4 n5 n6 s1 s2 s3 s4 s5 s6 all ea
+    eb ec ed ee ef =
     sym (take_all n6 t6 all)
     ∙ behind s6 (behind s5 (behind s4 (behind s3 (behind s2 (s1 ∙ ea) eb) ec) ed) ee) ef
   where
@@ -66,9 +70,11 @@ some_byte x xs = ne_eqb (length (x ∷ xs)) 0 (λ e. absurd (omega (arith, e)))
 
 hex_some : (n : ℕ) (ns : List ℕ) → (length (hex_list (n ∷ ns)) == 0) ≡ false
 hex_some n [] =
-    some_byte (hex_digit (n / 4096)) (hex_digit (n / 256 % 16) ∷ hex_digit (n / 16 % 16) ∷ hex_digit (n % 16) ∷ [])
+    some_byte (hex_digit (n / 4096))
+    (hex_digit (n / 256 % 16) ∷ hex_digit (n / 16 % 16) ∷ hex_digit (n % 16) ∷ [])
 hex_some n (m ∷ ms) = some_byte (hex_digit (n / 4096))
-    (hex_digit (n / 256 % 16) ∷ hex_digit (n / 16 % 16) ∷ hex_digit (n % 16) ∷ 44 ∷ hex_list (m ∷ ms))
+    (hex_digit (n / 256 % 16) ∷ hex_digit (n / 16 % 16) ∷ hex_digit
+    (n % 16) ∷ 44 ∷ hex_list (m ∷ ms))
 
 placed_some : (n : ℕ) (ms : List ℕ) → (length (hex_list (placed n ms)) == 0) ≡ false
 unfolding placed
@@ -99,13 +105,15 @@ and_false false = refl
 types_empty : (ns algorithms : List ℕ) → ((length ns == 0) && not (has_any algorithms))
     ≡ (length (with_algorithms (hex_list (rising ns)) algorithms) == 0)
 types_empty ns [] = and_true (length ns == 0) ∙ hex_rising ns
-types_empty ns (a ∷ more) = and_false (length ns == 0) ∙ sym (behind_some (hex_list (rising ns)) 95 (hex_list (a ∷ more)))
+types_empty ns (a ∷ more) = and_false (length ns == 0)
+    ∙ sym (behind_some (hex_list (rising ns)) 95 (hex_list (a ∷ more)))
 
 filled_count : (room ns : List ℕ) (n : ℕ) → IsFilled room n ns → n ≡ length ns
 filled_count room ns n filled = sym (length-take-le n room filled.within) ∙ ap length filled.are
 
 pub suites_are : (n : ℕ) (room ns front part : List ℕ) → IsFilled room n ns → front ≡ take n room
-    → ((n == 0) ≡ (length (hex_list (rising front)) == 0) → part ≡ short_digest (hex_list (rising front)))
+    → ((n == 0) ≡ (length (hex_list (rising front)) == 0)
+    → part ≡ short_digest (hex_list (rising front)))
     → IsPart n part ns (hex_list (rising ns))
 suites_are n room ns front part filled is told =
     let all : front ≡ ns = is ∙ filled.are in
@@ -116,7 +124,8 @@ suites_are n room ns front part filled is told =
           ∙ ap (λ xs. short_digest (hex_list (rising xs))) all;
     }
 
-pub types_are : (n others : ℕ) (any : Bool) (room ns types algorithms said front part : List ℕ) → n ≡ length ns
+pub types_are : (n others : ℕ) (any : Bool) (room ns types algorithms said front part : List ℕ)
+    → n ≡ length ns
     → IsFilled room others types → front ≡ take others room → said ≡ algorithms → any ≡ has_any said
     → (((others == 0) && not any) ≡ (length (with_algorithms (hex_list (rising front)) said) == 0)
     → part ≡ short_digest (with_algorithms (hex_list (rising front)) said))

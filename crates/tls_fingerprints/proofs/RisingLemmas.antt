@@ -1,4 +1,4 @@
--- A list that rises and has the same numbers is the list in rising order.
+-- A rising list with the same numbers is the list in rising order.
 use Rattle.std.proofs.Common.{
   ◌≡◌,
   ℕ,
@@ -45,7 +45,7 @@ From-lower : (a b : ℕ) (xs : List ℕ) → a ≤ b → From b xs → From a xs
 From-lower a b [] le h = tt
 From-lower a b (x ∷ xs) le h = let first : b ≤ x = h.0 in (omega arith, From-lower a b xs le h.1)
 
--- how often v stands there
+-- how often v occurs
 abbrev one_at : ℕ → ℕ → ℕ
 one_at v x = cond (eqb x v) 1 0
 
@@ -72,14 +72,16 @@ times-placed v n [] = refl
 times-placed v n (m ∷ ms) = go (leb n m) (times-placed v n ms)
   where
     go : (t : Bool) → times_in v (placed n ms) ≡ one_at v n + times_in v ms
-        → times_in v (cond t (n ∷ m ∷ ms) (m ∷ placed n ms)) ≡ one_at v n + (one_at v m + times_in v ms)
+        → times_in v (cond t (n ∷ m ∷ ms) (m ∷ placed n ms)) ≡ one_at v n
+        + (one_at v m + times_in v ms)
     go true others = refl
     go false others = omega arith
 
 times-rising : (v : ℕ) (ns : List ℕ) → times_in v (rising ns) ≡ times_in v ns
 unfolding rising
 times-rising v [] = refl
-times-rising v (n ∷ ns) = times-placed v n (rising ns) ∙ ap (λ k. one_at v n + k) (times-rising v ns)
+times-rising v (n ∷ ns) = times-placed v n (rising ns)
+    ∙ ap (λ k. one_at v n + k) (times-rising v ns)
 
 From-placed : (a n : ℕ) (ms : List ℕ) → a ≤ n → From a ms → From a (placed n ms)
 unfolding placed
@@ -95,17 +97,20 @@ unfolding placed
 Rises-placed n [] h = (tt, tt)
 Rises-placed n (m ∷ ms) h = go (leb n m) refl (Rises-placed n ms h.1)
   where
-    go : (t : Bool) → leb n m ≡ t → Rises (placed n ms) → Rises (cond t (n ∷ m ∷ ms) (m ∷ placed n ms))
+    go : (t : Bool) → leb n m ≡ t → Rises (placed n ms)
+        → Rises (cond t (n ∷ m ∷ ms) (m ∷ placed n ms))
     go true e others = ((leb-true n m e, From-lower n m ms (leb-true n m e) h.0), h)
-    go false e others = let low : m < n = leb-false n m e in (From-placed m n ms (omega arith) h.0, others)
+    go false e others = let low : m < n = leb-false n m e in
+        (From-placed m n ms (omega arith) h.0, others)
 
 Rises-rising : (ns : List ℕ) → Rises (rising ns)
 unfolding rising
 Rises-rising [] = tt
 Rises-rising (n ∷ ns) = Rises-placed n (rising ns) (Rises-rising ns)
 
--- what stands in a rising list isn't below its first
-first_below : (a b : ℕ) (ms ns : List ℕ) → Rises (b ∷ ns) → times_in a (a ∷ ms) ≡ times_in a (b ∷ ns) → b ≤ a
+-- no member of a rising list is below its first
+first_below : (a b : ℕ) (ms ns : List ℕ) → Rises (b ∷ ns)
+    → times_in a (a ∷ ms) ≡ times_in a (b ∷ ns) → b ≤ a
 first_below a b ms ns up e = go (leb b a) refl
   where
     go : (t : Bool) → leb b a ≡ t → b ≤ a
@@ -116,7 +121,8 @@ first_below a b ms ns up e = go (leb b a) refl
         (omega arith, From-lower (suc a) b ns (omega arith) up.0) in
         absurd (omega (arith, e, none, one_at_self a))
 
-same_rising : (ms ns : List ℕ) → Rises ms → Rises ns → ((v : ℕ) → times_in v ms ≡ times_in v ns) → ms ≡ ns
+same_rising : (ms ns : List ℕ) → Rises ms → Rises ns
+    → ((v : ℕ) → times_in v ms ≡ times_in v ns) → ms ≡ ns
 same_rising [] [] up down e = refl
 same_rising [] (b ∷ ns) up down e = absurd (omega (arith, e b, one_at_self b))
 same_rising (a ∷ ms) [] up down e = absurd (omega (arith, e a, one_at_self a))
@@ -130,7 +136,8 @@ same_rising (a ∷ ms) (b ∷ ns) up down e =
 
 from_places : (a : ℕ) (xs : List ℕ) → ((j : ℕ) → j < length xs → a ≤ get_or xs j 0) → From a xs
 from_places a [] h = tt
-from_places a (x ∷ xs) h = (h 0 (omega arith), from_places a xs (λ j short. h (suc j) (omega arith)))
+from_places a (x ∷ xs) h =
+    (h 0 (omega arith), from_places a xs (λ j short. h (suc j) (omega arith)))
 
 Rises-sorted : (xs : List ℕ) → IsNonDecreasing xs → Rises xs
 Rises-sorted [] h = tt
@@ -144,17 +151,20 @@ times_sum v = is_sum_by (times_in v) (one_at v) refl (λ x xs. refl)
 
 pub sorted_is_rising : (xs ys : List ℕ) → IsPermutation xs ys → IsNonDecreasing ys → ys ≡ rising xs
 sorted_is_rising xs ys moved up = same_rising ys (rising xs) (Rises-sorted ys up) (Rises-rising xs)
-    (λ v. times_sum v ys ∙ sum_by-IsPermutation (one_at v) xs ys moved ∙ sym (times_sum v xs) ∙ sym (times-rising v xs))
+    (λ v. times_sum v ys ∙ sum_by-IsPermutation (one_at v) xs ys moved ∙ sym (times_sum v xs)
+    ∙ sym (times-rising v xs))
 
--- lists of the same numbers, each as often, are the same in rising order
+-- lists with the same numbers, each as often, have the same rising order
 rising_same : (ms ns : List ℕ) → ((v : ℕ) → times_in v ms ≡ times_in v ns) → rising ms ≡ rising ns
 rising_same ms ns e = same_rising (rising ms) (rising ns) (Rises-rising ms) (Rises-rising ns)
     (λ v. times-rising v ms ∙ e v ∙ sym (times-rising v ns))
 
 times_moved : (v : ℕ) (ms ns : List ℕ) → IsPermutation ms ns → times_in v ms ≡ times_in v ns
-times_moved v ms ns moved = times_sum v ms ∙ sym (sum_by-IsPermutation (one_at v) ms ns moved) ∙ sym (times_sum v ns)
+times_moved v ms ns moved = times_sum v ms ∙ sym (sum_by-IsPermutation (one_at v) ms ns moved)
+    ∙ sym (times_sum v ns)
 
-times-filter : (v : ℕ) (p : ℕ → Bool) (xs : List ℕ) → times_in v (filter p xs) ≡ cond (p v) (times_in v xs) 0
+times-filter : (v : ℕ) (p : ℕ → Bool) (xs : List ℕ)
+    → times_in v (filter p xs) ≡ cond (p v) (times_in v xs) 0
 times-filter v p [] = none (p v)
   where
     none : (b : Bool) → times_in v [] ≡ cond b 0 0
@@ -166,7 +176,8 @@ times-filter v p (x ∷ xs) = by_number (eqb x v) refl (times-filter v p xs)
     Others b = times_in v (filter p xs) ≡ cond b (times_in v xs) 0
 
     All : Bool → Bool → Type 0
-    All a b = times_in v (cond a (x ∷ filter p xs) (filter p xs)) ≡ cond b (one_at v x + times_in v xs) 0
+    All a b = times_in v (cond a (x ∷ filter p xs) (filter p xs)) ≡ cond b
+        (one_at v x + times_in v xs) 0
 
     it_is : (b : Bool) → Others b → All b b
     it_is true e = omega (arith, e)
@@ -186,14 +197,17 @@ times-filter v p (x ∷ xs) = by_number (eqb x v) refl (times-filter v p xs)
 
 times_kept : (v : ℕ) (p : ℕ → Bool) (ms ns : List ℕ) → times_in v ms ≡ times_in v ns
     → times_in v (filter p ms) ≡ times_in v (filter p ns)
-times_kept v p ms ns e = times-filter v p ms ∙ ap (λ n. cond (p v) n 0) e ∙ sym (times-filter v p ns)
+times_kept v p ms ns e = times-filter v p ms ∙ ap (λ n. cond (p v) n 0) e
+    ∙ sym (times-filter v p ns)
 
--- what is kept of the same numbers in another order is the same in rising order
-pub rising_kept : (p : ℕ → Bool) (ms ns : List ℕ) → IsPermutation ms ns → rising (filter p ms) ≡ rising (filter p ns)
+-- filtering a permutation has the same rising order
+pub rising_kept : (p : ℕ → Bool) (ms ns : List ℕ) → IsPermutation ms ns
+    → rising (filter p ms) ≡ rising (filter p ns)
 rising_kept p ms ns moved = rising_same (filter p ms) (filter p ns)
     (λ v. times_kept v p ms ns (times_moved v ms ns moved))
 
 pub rising_kept_twice : (p q : ℕ → Bool) (ms ns : List ℕ) → IsPermutation ms ns
     → rising (filter q (filter p ms)) ≡ rising (filter q (filter p ns))
 rising_kept_twice p q ms ns moved = rising_same (filter q (filter p ms)) (filter q (filter p ns))
-    (λ v. times_kept v q (filter p ms) (filter p ns) (times_kept v p ms ns (times_moved v ms ns moved)))
+    (λ v. times_kept v q (filter p ms) (filter p ns)
+    (times_kept v p ms ns (times_moved v ms ns moved)))

@@ -1,4 +1,4 @@
--- What a hello says that a fingerprint is made of.
+-- The fields of a hello that a fingerprint uses.
 use Rattle.std.specs.Prelude.{ℕ, List}
 use Rattle.std.specs.List.Sorted.{IsPermutation}
 use Rattle.std.specs.Option.{option_map}
@@ -11,16 +11,16 @@ use Rattle.tls_fingerprints.specs.declared.hellos.ClientHelloParts.{ClientHelloP
 use Rattle.tls_fingerprints.specs.declared.hellos.ServerHelloParts.{ServerHelloParts}
 
 pub record Client : Type 0 where
-  -- the version in the hello itself
+  -- the version field of the hello
   pub version : ℕ
-  -- the cipher suites that it offers, in its order
+  -- the cipher suites that the client offers, in its order
   pub suites : List ℕ
-  -- its extensions, as they stand
+  -- the bytes of its extensions
   pub extensions : Bytes
 
 pub record Server : Type 0 where
   pub version : ℕ
-  -- the cipher suite that it chose
+  -- the cipher suite that the server chose
   pub suite : ℕ
   pub extensions : Bytes
 
@@ -38,10 +38,10 @@ view_server h = record {
   extensions = held (option_map (λ x. x.now) h.ext);
 }
 
--- The types of extensions, in their order, up to the first that isn't whole.
+-- The extension types, in order, up to the first extension that isn't whole.
 abbrev pub types_in : Bytes → List ℕ
 types_in b = items_in extension_type b
 
--- They send extensions of the same types, in any order.
+-- Both send extensions of the same types, in any order.
 abbrev pub SendSameTypes : Client → Client → Type 0
 SendSameTypes g h = IsPermutation (types_in g.extensions) (types_in h.extensions)

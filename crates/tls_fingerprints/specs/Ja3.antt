@@ -9,7 +9,8 @@ use Rattle.tls_ext.specs.Offered.{groups_in, formats_in}
 use Rattle.tls_fingerprints.specs.Hellos.{Client, Server, types_in}
 use Rattle.tls_fingerprints.specs.declared.ja3_numbers.Ja3Numbers.{Ja3Numbers}
 
--- Five fields with `,` between each two: the version, the cipher suites, the types of extensions, the groups, the formats of points.
+-- Five fields separated by `,`: the version, the cipher suites, the extension types, the groups,
+-- the point formats.
 abbrev pub ja3_text_of : Client → Bytes
 ja3_text_of h = join_with_byte 44 (
     decimal h.version
@@ -19,7 +20,7 @@ ja3_text_of h = join_with_byte 44 (
     ∷ dashed (formats_in h.extensions)
     ∷ [])
 
--- The same five fields of numbers that are kept of a hello.
+-- These five fields for stored numbers of a hello.
 abbrev pub text_of_numbers : Ja3Numbers → Bytes
 text_of_numbers n = join_with_byte 44 (
     decimal n.version
@@ -36,7 +37,7 @@ digest_of text = encode_lower (md5 text)
 abbrev pub ja3_of : Client → Bytes
 ja3_of h = digest_of (ja3_text_of h)
 
--- Three fields: the version, the cipher suite, the types of extensions.
+-- Three fields: the version, the cipher suite, the extension types.
 abbrev pub ja3s_text_of : Server → Bytes
 ja3s_text_of h = join_with_byte 44 (
     decimal h.version

@@ -14,7 +14,7 @@ use Rattle.tls_fingerprints.specs.declared.hellos.Transport.{Transport}
 use Rattle.tls_fingerprints.specs.declared.hellos.Transport.TheVariants as over
 use Rattle.tls_fingerprints.specs.declared.ja4_numbers.Ja4Numbers.{Ja4Numbers}
 
--- What the hello came over.
+-- The transport.
 abbrev pub letter_of : Transport → Bytes
 letter_of over.Tcp = codes "t"
 letter_of over.Udp = codes "d"
@@ -40,25 +40,26 @@ abbrev pub name_letter : Option Bytes → Bytes
 name_letter (Some c) = codes "d"
 name_letter None = codes "i"
 
--- A count in two digits, at most 99.
+-- A count in two decimal digits, at most 99.
 abbrev pub two_digits : ℕ → Bytes
 two_digits n = (48 + min n 99 / 10) ∷ (48 + min n 99 % 10) ∷ []
 
--- Two characters by the first and the last byte of a name: the bytes where both are letters or digits of ASCII, else the first and the
--- last digit of the name in hexadecimal.
+-- Two characters for the first and the last byte of a name: the bytes if both are ASCII letters or
+-- digits, else the first and the last hexadecimal digit of the name.
 abbrev pub ends_text : Option ℕ → Option ℕ → Bytes
 ends_text (Some first) (Some last) =
     if is_ascii_alphanumeric first && is_ascii_alphanumeric last then first ∷ last ∷ []
     else hex_digit (first / 16) ∷ hex_digit (last % 16) ∷ []
 ends_text _ _ = codes "00"
 
--- The first protocol's name, where there is one.
+-- The name of the first protocol, if there is one.
 abbrev pub protocol_text : Option (List Bytes) → Bytes
-protocol_text (Some (name ∷ names)) = ends_text (slice_get name 0) (slice_get name (length name - 1))
+protocol_text (Some (name ∷ names)) =
+    ends_text (slice_get name 0) (slice_get name (length name - 1))
 protocol_text _ = codes "00"
 
--- The first part, of so many suites and extensions: what the hello came over, its version, whether it names a host, the two counts, and the
--- first protocol that it asks for (RFC 7301).
+-- The first part, with these counts of suites and extensions: the transport, the version, whether a
+-- host is named, the two counts, and the first protocol (RFC 7301).
 abbrev pub ja4_front_with : Transport → Client → ℕ → ℕ → Bytes
 ja4_front_with t h suites types =
     letter_of t
@@ -68,18 +69,20 @@ ja4_front_with t h suites types =
     ++ two_digits types
     ++ protocol_text (known (protocol_names h.extensions))
 
--- Of as many as it has.
+-- The first part, with the counts of the hello.
 abbrev pub ja4_front_of : Transport → Client → Bytes
 ja4_front_of t h =
-    ja4_front_with t h (length (without_grease h.suites)) (length (without_grease (types_in h.extensions)))
+    ja4_front_with t h (length (without_grease h.suites))
+    (length (without_grease (types_in h.extensions)))
 
--- What the second part is made of: the suites in rising order.
+-- The text of the second part: the suites in rising order.
 abbrev pub ja4_suites_of : Client → Bytes
 ja4_suites_of h = hex_list (rising (without_grease h.suites))
 
--- server_name and application_layer_protocol_negotiation are told by the first part.
+-- The first part covers server_name and application_layer_protocol_negotiation.
 abbrev pub is_told_before : ℕ → Bool
-is_told_before n = n == extension_number.server_name || n == extension_number.application_layer_protocol_negotiation
+is_told_before n = n == extension_number.server_name
+    || n == extension_number.application_layer_protocol_negotiation
 
 abbrev pub other_types : List ℕ → List ℕ
 other_types ns = filter (λ n. not (is_told_before n)) ns
@@ -88,43 +91,49 @@ abbrev pub with_algorithms : Bytes → List ℕ → Bytes
 with_algorithms text [] = text
 with_algorithms text (n ∷ ns) = text ++ 95 ∷ hex_list (n ∷ ns)
 
--- What the third part is made of: the types of the other extensions in rising order, and the signature algorithms in the hello's order.
+-- The text of the third part: the other extension types in rising order, and the signature
+-- algorithms in the hello's order.
 abbrev pub ja4_types_of : Client → Bytes
 ja4_types_of h = with_algorithms
     (hex_list (rising (other_types (without_grease (types_in h.extensions)))))
     (without_grease (algorithms_in h.extensions))
 
--- The first 6 bytes of the SHA-256 of a text, in hexadecimal; zeros of an empty text.
+-- The first 6 bytes of a text's SHA-256, in hexadecimal; zeros for an empty text.
 abbrev pub short_digest : Bytes → Bytes
-short_digest text = if length text == 0 then codes "000000000000" else encode_lower (take 6 (sha256 text))
+short_digest text = if length text == 0 then
+    codes "000000000000" else encode_lower (take 6 (sha256 text))
 
--- The three parts.
+-- The three parts as texts.
 abbrev pub ja4_text_of : Transport → Client → Bytes
 ja4_text_of t h = join_with_byte 95 (ja4_front_of t h ∷ ja4_suites_of h ∷ ja4_types_of h ∷ [])
 
 -- The first part, and the digests of the others.
 abbrev pub ja4_of : Transport → Client → Bytes
-ja4_of t h = join_with_byte 95 (ja4_front_of t h ∷ short_digest (ja4_suites_of h) ∷ short_digest (ja4_types_of h) ∷ [])
+ja4_of t h =
+    join_with_byte 95
+    (ja4_front_of t h ∷ short_digest (ja4_suites_of h) ∷ short_digest (ja4_types_of h) ∷ [])
 
--- The same of the first part and of numbers that are kept of a hello.
+-- JA4 from its first part and stored numbers of a hello.
 abbrev pub ja4_of_numbers : Bytes → Ja4Numbers → Bytes
 ja4_of_numbers front n = join_with_byte 95 (
     front
     ∷ short_digest (hex_list (rising n.suites.items))
-    ∷ short_digest (with_algorithms (hex_list (rising (other_types n.types.items))) n.algorithms.items)
+    ∷ short_digest
+    (with_algorithms (hex_list (rising (other_types n.types.items))) n.algorithms.items)
     ∷ [])
 
--- The numbers are those of the hello that count.
+-- The numbers are those of the hello, without GREASE.
 pub record AreOf (h : Client) (n : Ja4Numbers) : Type 0 where
   pub suites : n.suites.items ≡ without_grease h.suites
   pub types : n.types.items ≡ without_grease (types_in h.extensions)
   pub algorithms : n.algorithms.items ≡ without_grease (algorithms_in h.extensions)
 
--- So many numbers count, and these are the digits of the text that is made of them.
+-- There are n numbers, and part is the digest of the text.
 pub record IsPart (n : ℕ) (part : Bytes) (ns : List ℕ) (text : Bytes) : Type 0 where
   pub count : n ≡ length ns
   pub digits : part ≡ short_digest text
 
--- It has more suites or extensions than that.
+-- There are more suites or extensions than this.
 abbrev pub IsTooLong : ℕ → Client → Type 0
-IsTooLong most h = (most < length (without_grease h.suites)) ⊎ (most < length (without_grease (types_in h.extensions)))
+IsTooLong most h = (most < length (without_grease h.suites))
+    ⊎ (most < length (without_grease (types_in h.extensions)))

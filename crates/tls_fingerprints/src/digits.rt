@@ -1,4 +1,4 @@
-//! Fingerprints by their characters alone, without memory: the texts that they are digests of are digested as they are made.
+//! Fingerprints as characters, without allocation: each text is hashed while it is produced.
 ghost use Rattle.std.specs.Prelude.{◌≡◌, ◌≤◌, ◌<◌, ◌+◌, ◌-◌, ◌++◌, ◌∷◌, ◌==◌, ◌&&◌, not, [], List, ℕ, length, take, slice_get, IfSome, IfNone};
 ghost use Rattle.std.specs.List.{join_with_byte};
 ghost use Rattle.std.specs.Option.{option_map};
@@ -28,10 +28,11 @@ use tls_base::{TlsExtensionType, TlsVersion};
 use tls_ext::offered::{algorithms, content, formats, groups};
 use tls_ext::{application_protocols, best_version, extension_types};
 
-/// How many cipher suites, and how many extensions, JA4 is made of at most. A hello has no more: their block has at most 65,535 bytes.
+/// The most cipher suites, and the most extensions, that JA4 accepts. A hello has no more, since
+/// their block has at most 65,535 bytes.
 pub const MOST: usize = 32767;
 
-/// The digits of the MD5 of a text.
+/// The hexadecimal digits of a text's MD5.
 fn digits_of(text: Md5) -> [u8; 32]
     ensures { (m : List ℕ) → Holds text m → result ≡ encode_lower (md5 m) }
 {
@@ -41,9 +42,10 @@ fn digits_of(text: Md5) -> [u8; 32]
     digits
 }
 
-/// The digits of the first 6 bytes of the SHA-256 of a text; zeros of an empty one.
+/// The hexadecimal digits of the first 6 bytes of a text's SHA-256; zeros for an empty text.
 fn short_digits_of(text: Sha256, is_empty: bool) -> [u8; 12]
-    ensures { (m : List ℕ) → Holds256 text m → is_empty ≡ (length m == 0) → result ≡ short_digest_of m }
+    ensures { (m : List ℕ) → Holds256 text m → is_empty ≡ (length m == 0)
+        → result ≡ short_digest_of m }
 {
     if is_empty {
         return *b"000000000000";
@@ -54,22 +56,23 @@ fn short_digits_of(text: Sha256, is_empty: bool) -> [u8; 12]
     digits
 }
 
-/// Adds the numbers in rising order, as [`feed_hex_list`].
+/// Hashes the numbers in rising order, in the form of [`feed_hex_list`].
 fn feed_rising(text: &mut Sha256, numbers: &mut [u16])
-    ensures { (m : List ℕ) → Holds256 text.old m → Holds256 text.new (m ++ hex_list (rising numbers.old)) }
+    ensures { (m : List ℕ) → Holds256 text.old m
+        → Holds256 text.new (m ++ hex_list (rising numbers.old)) }
 {
     numbers.sort_unstable();
     feed_hex_list(text, numbers);
 }
 
-/// Whether there are neither types nor algorithms.
+/// Whether there are neither extension types nor algorithms.
 fn is_nothing(types: usize, any_algorithms: bool) -> bool
     ensures { result ≡ (types == 0 && not any_algorithms) }
 {
     types == 0 && !any_algorithms
 }
 
-/// Puts a piece of a text behind the `at` bytes that stand there, and answers how many stand there then.
+/// Writes a piece of text at offset `at`, and returns the offset after it.
 fn put(text: &mut [u8], at: usize, piece: &[u8]) -> usize
     requires { at + length piece.now ≤ length text.old }
     ensures end { result ≡ at + length piece.now }
@@ -81,7 +84,7 @@ fn put(text: &mut [u8], at: usize, piece: &[u8]) -> usize
     end
 }
 
-/// A count in two digits, at most 99.
+/// A count in two decimal digits, at most 99.
 fn two_digits(count: usize) -> [u8; 2]
     ensures { result ≡ two_digits_of count }
 {
@@ -89,7 +92,7 @@ fn two_digits(count: usize) -> [u8; 2]
     [b'0' + shown / 10, b'0' + shown % 10]
 }
 
-/// Two characters by the first and the last byte of a name.
+/// Two characters for the first and the last byte of a name.
 fn ends(name: &[u8]) -> [u8; 2]
     ensures { result ≡ ends_text (slice_get name.now 0) (slice_get name.now (length name.now - 1)) }
 {
@@ -103,9 +106,10 @@ fn ends(name: &[u8]) -> [u8; 2]
     }
 }
 
-/// Whether the client names a host.
+/// `d` if the client names a host, else `i`.
 fn name_letter(ext: Option<&[u8]>) -> [u8; 1]
-    ensures { result ≡ name_letter_of (content_in server_name (held (option_map (λ x. x.now) ext.entry))) }
+    ensures { result ≡ name_letter_of
+        (content_in server_name (held (option_map (λ x. x.now) ext.entry))) }
 {
     match content(ext, TlsExtensionType::ServerName) {
         Some(_) => *b"d",
@@ -113,9 +117,10 @@ fn name_letter(ext: Option<&[u8]>) -> [u8; 1]
     }
 }
 
-/// The two characters of the first protocol that the client asks for.
+/// The two characters of the client's first application protocol.
 fn protocol(ext: Option<&[u8]>) -> [u8; 2]
-    ensures { result ≡ protocol_text (known (protocol_names (held (option_map (λ x. x.now) ext.entry)))) }
+    ensures { result ≡ protocol_text
+        (known (protocol_names (held (option_map (λ x. x.now) ext.entry)))) }
 {
     let Ok(Some(mut names)) = application_protocols(ext) else {
         return *b"00";
@@ -140,7 +145,7 @@ fn joined(front: &[u8; 10], suites: &[u8; 12], types: &[u8; 12]) -> [u8; 36]
 }
 
 impl ClientHelloParts<'_> {
-    /// The digits of JA3, as [`ClientHelloParts::ja3`] has them. It takes no memory.
+    /// The 32 digits of JA3, as [`ClientHelloParts::ja3`] returns them, without allocation.
     pub fn ja3_digits(&self) -> [u8; 32]
         ensures { result ≡ ja3_of (view_client self.now) }
     {
@@ -157,9 +162,10 @@ impl ClientHelloParts<'_> {
         digits_of(text)
     }
 
-    /// The latest version that the client offers, where its extensions tell of one.
+    /// The latest version that the client offers, from its extensions if these have one.
     fn latest_version(&self) -> Option<TlsVersion>
-        ensures { option_map (λ v. v.0) result ≡ known (best_version_in (view_client self.now).version (view_client self.now).extensions) }
+        ensures { option_map (λ v. v.0) result ≡ known
+            (best_version_in (view_client self.now).version (view_client self.now).extensions) }
     {
         match best_version(self.version, self.ext) {
             Ok(version) => version,
@@ -167,7 +173,7 @@ impl ClientHelloParts<'_> {
         }
     }
 
-    /// The first part of JA4, of so many suites and types of extensions.
+    /// The first part of JA4, with these counts of suites and extension types.
     pub(crate) fn front(&self, transport: Transport, suites: usize, types: usize) -> [u8; 10]
         ensures { result ≡ ja4_front_with transport (view_client self.now) suites types }
     {
@@ -187,11 +193,15 @@ impl ClientHelloParts<'_> {
         text
     }
 
-    /// How many suites count, and the digits of the second part of JA4. `None` where there are more than `room` takes.
+    /// The count of suites without GREASE, and the second part of JA4. `None` if `room` is too
+    /// small for the suites.
     fn suites_part(&self, room: &mut [u16]) -> Option<(usize, [u8; 12])>
         ensures size { length room.new ≡ length room.old }
-        ensures some { IfSome result (λ p. IsPart p.0 p.1 (without_grease (view_client self.now).suites) (ja4_suites_of (view_client self.now))) }
-        ensures none { IfNone result (length room.old < length (without_grease (view_client self.now).suites)) }
+        ensures some { IfSome result
+            (λ p. IsPart p.0 p.1 (without_grease (view_client self.now).suites)
+            (ja4_suites_of (view_client self.now))) }
+        ensures none { IfNone result
+            (length room.old < length (without_grease (view_client self.now).suites)) }
     {
         let count = kept_in(Items::new(self.ciphers.bytes()), room)?;
         let mut text = Sha256::new();
@@ -200,10 +210,14 @@ impl ClientHelloParts<'_> {
         Some((count, short_digits_of(text, is_empty)))
     }
 
-    /// How many types of extensions count, and the digits of the third part of JA4. `None` where there are more than `room` takes.
+    /// The count of extension types without GREASE, and the third part of JA4. `None` if `room` is
+    /// too small for the types.
     fn types_part(&self, room: &mut [u16]) -> Option<(usize, [u8; 12])>
-        ensures some { IfSome result (λ p. IsPart p.0 p.1 (without_grease (types_in (view_client self.now).extensions)) (ja4_types_of (view_client self.now))) }
-        ensures none { IfNone result (length room.old < length (without_grease (types_in (view_client self.now).extensions))) }
+        ensures some { IfSome result
+            (λ p. IsPart p.0 p.1 (without_grease (types_in (view_client self.now).extensions))
+            (ja4_types_of (view_client self.now))) }
+        ensures none { IfNone result
+            (length room.old < length (without_grease (types_in (view_client self.now).extensions))) }
     {
         let types = other_types_in(extension_types(self.ext), room)?;
         let mut text = Sha256::new();
@@ -213,9 +227,10 @@ impl ClientHelloParts<'_> {
         Some((types.all, short_digits_of(text, is_empty)))
     }
 
-    /// The 36 characters of JA4, as [`ClientHelloParts::ja4`] has them. It takes no memory but 64 KiB of the stack.
+    /// The 36 characters of JA4, as [`ClientHelloParts::ja4`] returns them. It uses 64 KiB of the
+    /// stack and doesn't allocate.
     ///
-    /// `None` where there are more than [`MOST`] cipher suites or extensions.
+    /// `None` if there are more than [`MOST`] cipher suites or extensions.
     pub fn ja4_characters(&self, transport: Transport) -> Option<[u8; 36]>
         ensures some { IfSome result (λ text. text ≡ ja4_of transport (view_client self.now)) }
         ensures none { IfNone result (IsTooLong MOST (view_client self.now)) }
@@ -229,7 +244,7 @@ impl ClientHelloParts<'_> {
 }
 
 impl ServerHelloParts<'_> {
-    /// The digits of JA3S, as [`ServerHelloParts::ja3s`] has them. It takes no memory.
+    /// The 32 digits of JA3S, as [`ServerHelloParts::ja3s`] returns them, without allocation.
     pub fn ja3s_digits(&self) -> [u8; 32]
         ensures { result ≡ ja3s_of (view_server self.now) }
     {

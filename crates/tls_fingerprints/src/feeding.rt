@@ -1,4 +1,4 @@
-//! Texts that are digested as they are made, so that none is held.
+//! Hashes texts while they are produced, so that none is stored.
 ghost use Rattle.std.specs.Prelude.{◌≡◌, ◌++◌, ◌∷◌, List, ℕ, map};
 ghost use Rattle.std.specs.List.{join_with_byte};
 ghost use Rattle.md5.specs.Md5.{Holds};
@@ -16,7 +16,7 @@ use md5::{Digest as Md5Digest, Md5};
 use sha2::{Digest as Sha2Digest, Sha256};
 use tls_ext::ExtensionType;
 
-/// Adds a number in decimal.
+/// Hashes a number in decimal.
 pub(crate) fn feed_decimal<N: Integer>(text: &mut Md5, n: N)
     ensures { (m : List ℕ) → Holds text.old m → Holds text.new (m ++ N.text n) }
 {
@@ -25,9 +25,10 @@ pub(crate) fn feed_decimal<N: Integer>(text: &mut Md5, n: N)
     text.update(digits.as_bytes());
 }
 
-/// Adds a number in decimal, behind `-` where it isn't the first of its list.
+/// Hashes a number in decimal, after `-` unless it is the first of its list.
 fn feed_next<N: Integer>(text: &mut Md5, is_first: bool, n: N)
-    ensures { (m : List ℕ) → Holds text.old m → Holds text.new (m ++ behind_others 45 is_first (N.text n)) }
+    ensures { (m : List ℕ) → Holds text.old m
+        → Holds text.new (m ++ behind_others 45 is_first (N.text n)) }
 {
     if !is_first {
         text.update(b"-");
@@ -35,10 +36,11 @@ fn feed_next<N: Integer>(text: &mut Md5, is_first: bool, n: N)
     feed_decimal(text, n);
 }
 
-/// Adds the numbers that aren't of GREASE in decimal, with `-` between each two.
+/// Hashes the numbers without GREASE in decimal, separated by `-`.
 pub(crate) fn feed_kept(text: &mut Md5, numbers: Items<u16>)
     ensures { (m : List ℕ) → Holds text.old m
-        → Holds text.new (m ++ dashed (without_grease (items_in (number 2) numbers.entry.bytes.now))) }
+        → Holds text.new
+        (m ++ dashed (without_grease (items_in (number 2) numbers.entry.bytes.now))) }
 {
     let mut is_first = true;
     for n in numbers {
@@ -50,10 +52,11 @@ pub(crate) fn feed_kept(text: &mut Md5, numbers: Items<u16>)
     }
 }
 
-/// Adds the types that aren't of GREASE in decimal, with `-` between each two.
+/// Hashes the extension types without GREASE in decimal, separated by `-`.
 pub(crate) fn feed_types(text: &mut Md5, types: Items<ExtensionType>)
     ensures { (m : List ℕ) → Holds text.old m
-        → Holds text.new (m ++ dashed (without_grease (items_in extension_type types.entry.bytes.now))) }
+        → Holds text.new
+        (m ++ dashed (without_grease (items_in extension_type types.entry.bytes.now))) }
 {
     let mut is_first = true;
     for kind in types {
@@ -65,7 +68,7 @@ pub(crate) fn feed_types(text: &mut Md5, types: Items<ExtensionType>)
     }
 }
 
-/// Adds numbers in decimal, with `-` between each two.
+/// Hashes numbers in decimal, separated by `-`.
 pub(crate) fn feed_dashed(text: &mut Md5, numbers: &[u8])
     ensures { (m : List ℕ) → Holds text.old m → Holds text.new (m ++ dashed numbers.now) }
 {
@@ -78,7 +81,7 @@ pub(crate) fn feed_dashed(text: &mut Md5, numbers: &[u8])
     }
 }
 
-/// Adds numbers by their four hexadecimal digits, with `,` between each two.
+/// Hashes numbers as four hexadecimal digits each, separated by `,`.
 pub(crate) fn feed_hex_list(text: &mut Sha256, numbers: &[u16])
     ensures { (m : List ℕ) → Holds256 text.old m → Holds256 text.new (m ++ hex_list numbers.now) }
 {
@@ -93,19 +96,21 @@ pub(crate) fn feed_hex_list(text: &mut Sha256, numbers: &[u16])
     }
 }
 
-/// What stands in front of an algorithm.
+/// The character before an algorithm.
 fn lead_of(is_first: bool) -> u8
     ensures { result ≡ lead_byte is_first }
 {
     if is_first { b'_' } else { b',' }
 }
 
-/// Adds `_` and the algorithms that aren't of GREASE, by their four hexadecimal digits, with `,` between each two; nothing where there
-/// are none. Whether there are any.
+/// Hashes `_` and the algorithms without GREASE, as four hexadecimal digits each, separated by `,`;
+/// nothing if there are none. Returns whether there are any.
 pub(crate) fn feed_algorithms(text: &mut Sha256, algorithms: Items<u16>) -> bool
     ensures text { (m : List ℕ) → Holds256 text.old m
-        → Holds256 text.new (with_algorithms m (without_grease (items_in (number 2) algorithms.entry.bytes.now))) }
-    ensures any { result ≡ has_any (without_grease (items_in (number 2) algorithms.entry.bytes.now)) }
+        → Holds256 text.new
+        (with_algorithms m (without_grease (items_in (number 2) algorithms.entry.bytes.now))) }
+    ensures any { result ≡ has_any
+        (without_grease (items_in (number 2) algorithms.entry.bytes.now)) }
 {
     let mut is_first = true;
     for n in algorithms {

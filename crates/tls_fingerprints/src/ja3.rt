@@ -15,22 +15,23 @@ use md5::{Digest, Md5};
 use std::alloc::{AllocError, Global};
 use tls_ext::extension_types;
 
-/// So many bytes have room in a server's text at first: most texts are no longer.
+/// The initial capacity for JA3S's text; most are no longer.
 const SERVERS_TEXT_LEN: usize = 64;
 
-/// Adds `,` and the types of extensions that aren't of GREASE.
+/// Appends `,` and the extension types without GREASE.
 fn add_types(alloc: Global, text: &mut String, ext: Option<&[u8]>) -> Result<(), AllocError>
     ensures { OnOk result (string_bytes text.new
-        ≡ string_bytes text.old ++ 44 ∷ dashed (without_grease (types_in (held (option_map (λ x. x.now) ext.entry))))) }
+        ≡ string_bytes text.old ++ 44 ∷ dashed
+        (without_grease (types_in (held (option_map (λ x. x.now) ext.entry))))) }
 {
     let kept = kept_types(alloc, extension_types(ext))?;
     text.push(',')?;
     add_dashed(text, kept.as_slice())
 }
 
-/// The digest of a text of JA3 or JA3S: its MD5, in 32 hexadecimal digits.
+/// The digest of a JA3 or JA3S text: its MD5, in 32 hexadecimal digits.
 ///
-/// `AllocError` where it could not be held.
+/// `AllocError` if there is no memory for it.
 pub fn ja3_digest(alloc: Global, text: &str) -> Result<String, AllocError>
     ensures { IfOk result (λ digits. string_bytes digits ≡ digest_of text.now) }
 {
@@ -38,10 +39,10 @@ pub fn ja3_digest(alloc: Global, text: &str) -> Result<String, AllocError>
 }
 
 impl ClientHelloParts<'_> {
-    /// The text that JA3 is the digest of: version, cipher suites, types of extensions, groups and formats of points, in decimal, with `-`
-    /// within a list and `,` between the lists.
+    /// The text that JA3 hashes: version, cipher suites, extension types, groups and point formats,
+    /// in decimal, with `-` within a list and `,` between the lists.
     ///
-    /// `AllocError` where it could not be held.
+    /// `AllocError` if there is no memory for it.
     pub fn ja3_text(&self, alloc: Global) -> Result<String, AllocError>
         ensures { IfOk result (λ text. string_bytes text ≡ ja3_text_of (view_client self.now)) }
     {
@@ -50,16 +51,17 @@ impl ClientHelloParts<'_> {
 
     /// JA3: the MD5 of [`ClientHelloParts::ja3_text`], in 32 hexadecimal digits.
     ///
-    /// `AllocError` where it could not be held.
+    /// `AllocError` if there is no memory for it.
     pub fn ja3(&self, alloc: Global) -> Result<String, AllocError>
         ensures { IfOk result (λ digits. string_bytes digits ≡ ja3_of (view_client self.now)) }
     {
         ja3_digest(alloc, self.ja3_text(alloc)?.as_str())
     }
 
-    /// The text of JA3, as [`ClientHelloParts::ja3_text`] makes it, which is copied where a hello with the same numbers is known.
+    /// The text of [`ClientHelloParts::ja3_text`], copied from the cache if that has a hello with
+    /// the same numbers.
     ///
-    /// `AllocError` where it could not be held.
+    /// `AllocError` if there is no memory for it.
     pub fn ja3_text_with(
         &self,
         alloc: Global,
@@ -70,9 +72,10 @@ impl ClientHelloParts<'_> {
         known.hello_text(alloc, self)
     }
 
-    /// JA3, as [`ClientHelloParts::ja3`] makes it, which is copied where a hello with the same numbers is known.
+    /// JA3 as in [`ClientHelloParts::ja3`], copied from the cache if that has a hello with the same
+    /// numbers.
     ///
-    /// `AllocError` where it could not be held.
+    /// `AllocError` if there is no memory for it.
     pub fn ja3_with(&self, alloc: Global, known: &mut KnownDigests) -> Result<String, AllocError>
         ensures { IfOk result (λ digits. string_bytes digits ≡ ja3_of (view_client self.now)) }
     {
@@ -81,9 +84,10 @@ impl ClientHelloParts<'_> {
 }
 
 impl ServerHelloParts<'_> {
-    /// The text that JA3S is the digest of: version, cipher suite, and the types of extensions, as in JA3.
+    /// The text that JA3S hashes: version, cipher suite, and extension types, in the form of JA3's
+    /// text.
     ///
-    /// `AllocError` where it could not be held.
+    /// `AllocError` if there is no memory for it.
     pub fn ja3s_text(&self, alloc: Global) -> Result<String, AllocError>
         ensures { IfOk result (λ text. string_bytes text ≡ ja3s_text_of (view_server self.now)) }
     {
@@ -97,7 +101,7 @@ impl ServerHelloParts<'_> {
 
     /// JA3S: the MD5 of [`ServerHelloParts::ja3s_text`], in 32 hexadecimal digits.
     ///
-    /// `AllocError` where it could not be held.
+    /// `AllocError` if there is no memory for it.
     pub fn ja3s(&self, alloc: Global) -> Result<String, AllocError>
         ensures { IfOk result (λ digits. string_bytes digits ≡ ja3s_of (view_server self.now)) }
     {

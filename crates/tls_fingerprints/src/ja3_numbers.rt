@@ -1,4 +1,4 @@
-//! What JA3 is made of.
+//! The numbers that JA3 uses.
 ghost use Rattle.std.specs.Prelude.{◌≡◌, ◌++◌, ◌∷◌, map, true, IfOk, OnOk};
 ghost use Rattle.std.specs.List.{join_with_byte};
 ghost use Rattle.std.specs.String.{string_bytes};
@@ -13,10 +13,10 @@ use std::alloc::{AllocError, Global};
 use tls_ext::extension_types;
 use tls_ext::offered::{formats, groups};
 
-/// So many bytes have room in a text at first: most texts are no longer.
+/// The initial capacity of a text; most are no longer.
 const TEXT_LEN: usize = 512;
 
-/// The version of a hello, and the numbers that it lists, without those of GREASE.
+/// The version of a hello, and the numbers of its lists without GREASE.
 #[derive(Drop)]
 pub(crate) struct Ja3Numbers {
     version: u16,
@@ -26,18 +26,21 @@ pub(crate) struct Ja3Numbers {
     formats: Vec<u8>,
 }
 
-/// Adds `,` and a list.
+/// Appends `,` and a list.
 fn add_list<N: Integer>(text: &mut String, numbers: &[N]) -> Result<(), AllocError>
-    ensures { OnOk result (string_bytes text.new ≡ string_bytes text.old ++ 44 ∷ join_with_byte 45 (map N.text numbers.now)) }
+    ensures { OnOk result
+        (string_bytes text.new ≡ string_bytes text.old ++ 44 ∷ join_with_byte 45
+        (map N.text numbers.now)) }
 {
     text.push(',')?;
     add_dashed(text, numbers)
 }
 
 impl Ja3Numbers {
-    /// Those of that hello.
+    /// The numbers of a hello.
     pub(crate) fn of(alloc: Global, hello: &ClientHelloParts<'_>) -> Result<Ja3Numbers, AllocError>
-        ensures { IfOk result (λ numbers. text_of_numbers numbers ≡ ja3_text_of (view_client hello.now)) }
+        ensures { IfOk result
+            (λ numbers. text_of_numbers numbers ≡ ja3_text_of (view_client hello.now)) }
     {
         Ok(Ja3Numbers {
             version: hello.version.0,
@@ -48,7 +51,8 @@ impl Ja3Numbers {
         })
     }
 
-    /// Whether that hello has the same ones. It is read up to the first that differs, and nothing is held for it. The types come first, since some programs shuffle them.
+    /// Whether a hello has these numbers. The comparison stops at the first difference and doesn't
+    /// allocate. It begins with the extension types, since some programs shuffle them.
     pub(crate) fn are_of(&self, hello: &ClientHelloParts<'_>) -> bool
         ensures { result ≡ true → text_of_numbers self.now ≡ ja3_text_of (view_client hello.now) }
     {
@@ -62,7 +66,7 @@ impl Ja3Numbers {
             && formats(hello.ext) == self.formats.as_slice()
     }
 
-    /// For how many numbers there is room.
+    /// The total capacity of the lists, in numbers.
     pub(crate) fn capacity(&self) -> usize {
         self.suites
             .capacity()
@@ -71,7 +75,7 @@ impl Ja3Numbers {
             .saturating_add(self.formats.capacity())
     }
 
-    /// The text that JA3 is the digest of.
+    /// The text that JA3 hashes.
     pub(crate) fn text(&self, alloc: Global) -> Result<String, AllocError>
         ensures { IfOk result (λ text. string_bytes text ≡ text_of_numbers self.now) }
     {

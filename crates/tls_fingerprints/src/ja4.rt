@@ -20,14 +20,14 @@ use tls_base::{TlsExtensionType, TlsVersion};
 use tls_ext::offered::{algorithms, content};
 use tls_ext::{application_protocols, best_version, extension_types};
 
-/// So many bytes have room at first in what a part is made of: most have no more.
+/// The initial capacity for the text of a part; most are no longer.
 const TEXT_LEN: usize = 512;
 
-/// How long JA4 is.
+/// The length of JA4, in characters.
 const JA4_LEN: usize = 36;
 
 impl Transport {
-    /// The letter of the first part.
+    /// The first character of JA4.
     pub(crate) fn letter(self) -> &'static str
         ensures is { result.now ≡ letter_of self }
         ensures one { length result.now ≡ 1 }
@@ -62,7 +62,7 @@ pub(crate) fn version_text(version: Option<TlsVersion>) -> &'static str
     }
 }
 
-/// Adds a count in two digits, at most 99.
+/// Appends a count in two decimal digits, at most 99.
 fn add_two_digits(text: &mut String, count: usize) -> Result<(), AllocError>
     ensures { OnOk result (string_bytes text.new ≡ string_bytes text.old ++ two_digits count) }
 {
@@ -71,10 +71,11 @@ fn add_two_digits(text: &mut String, count: usize) -> Result<(), AllocError>
     text.push(char::from(b'0' + shown % 10))
 }
 
-/// Adds two characters by the first and the last byte of a name.
+/// Appends two characters for the first and the last byte of a name.
 fn add_ends(text: &mut String, name: &[u8]) -> Result<(), AllocError>
     ensures { OnOk result (string_bytes text.new
-        ≡ string_bytes text.old ++ ends_text (slice_get name.now 0) (slice_get name.now (length name.now - 1))) }
+        ≡ string_bytes text.old ++ ends_text (slice_get name.now 0)
+        (slice_get name.now (length name.now - 1))) }
 {
     let (Some(first), Some(last)) = (name.first(), name.last()) else {
         return text.push_str("00");
@@ -88,10 +89,11 @@ fn add_ends(text: &mut String, name: &[u8]) -> Result<(), AllocError>
     }
 }
 
-/// Adds the two characters of the first protocol that the client asks for.
+/// Appends the two characters of the client's first application protocol.
 fn add_protocol(text: &mut String, ext: Option<&[u8]>) -> Result<(), AllocError>
     ensures { OnOk result (string_bytes text.new
-        ≡ string_bytes text.old ++ protocol_text (known (protocol_names (held (option_map (λ x. x.now) ext.entry))))) }
+        ≡ string_bytes text.old ++ protocol_text
+        (known (protocol_names (held (option_map (λ x. x.now) ext.entry))))) }
 {
     let Ok(Some(mut names)) = application_protocols(ext) else {
         return text.push_str("00");
@@ -102,14 +104,14 @@ fn add_protocol(text: &mut String, ext: Option<&[u8]>) -> Result<(), AllocError>
     }
 }
 
-/// Leaves out the types that the first part tells.
+/// Removes the types that the first part of JA4 covers.
 fn leave_told(types: &mut Vec<u16>)
     ensures { types.new.items ≡ other_types types.old.items }
 {
     types.retain(|kind| *kind != 0 && *kind != 16);
 }
 
-/// The types that the first part doesn't tell.
+/// The types that the first part of JA4 doesn't cover.
 fn others(types: Vec<u16>) -> Vec<u16>
     ensures { result.items ≡ other_types types.items }
 {
@@ -118,7 +120,7 @@ fn others(types: Vec<u16>) -> Vec<u16>
     types
 }
 
-/// The first 6 bytes of the SHA-256 of a text, in hexadecimal; zeros of an empty text.
+/// The first 6 bytes of a text's SHA-256, in hexadecimal; zeros for an empty text.
 pub(crate) fn short_digest(alloc: Global, text: &[u8]) -> Result<String, AllocError>
     ensures { IfOk result (λ digits. string_bytes digits ≡ short_digest_of text.now) }
 {
@@ -139,7 +141,7 @@ fn risen(numbers: Vec<u16>) -> Vec<u16>
     numbers
 }
 
-/// Adds `_` and the algorithms; nothing where there are none.
+/// Appends `_` and the algorithms; nothing if there are none.
 fn push_algorithms(text: &mut Vec<u8>, algorithms: &[u16]) -> Result<(), AllocError>
     ensures { OnOk result (text.new.items ≡ with_algorithms text.old.items algorithms.now) }
 {
@@ -150,13 +152,14 @@ fn push_algorithms(text: &mut Vec<u8>, algorithms: &[u16]) -> Result<(), AllocEr
     push_hex_list(text, algorithms)
 }
 
-/// What a part is made of: the numbers, and the algorithms behind them.
+/// The text of a part: the numbers, and then the algorithms.
 pub(crate) fn part_text(
     alloc: Global,
     numbers: &[u16],
     algorithms: &[u16],
 ) -> Result<Vec<u8>, AllocError>
-    ensures { IfOk result (λ text. text.items ≡ with_algorithms (hex_list numbers.now) algorithms.now) }
+    ensures { IfOk result
+        (λ text. text.items ≡ with_algorithms (hex_list numbers.now) algorithms.now) }
 {
     let mut text = Vec::with_capacity(alloc, TEXT_LEN)?;
     push_hex_list(&mut text, numbers)?;
@@ -164,9 +167,11 @@ pub(crate) fn part_text(
     Ok(text)
 }
 
-/// Adds the second and the third part, each behind `_`.
+/// Appends the second and the third part, each after `_`.
 fn add_parts(text: &mut String, second: &str, third: &str) -> Result<(), AllocError>
-    ensures { OnOk result (string_bytes text.new ≡ join_with_byte 95 (string_bytes text.old ∷ second.now ∷ third.now ∷ [])) }
+    ensures { OnOk result
+        (string_bytes text.new ≡ join_with_byte 95
+        (string_bytes text.old ∷ second.now ∷ third.now ∷ [])) }
 {
     text.push('_')?;
     text.push_str(second)?;
@@ -175,7 +180,7 @@ fn add_parts(text: &mut String, second: &str, third: &str) -> Result<(), AllocEr
 }
 
 impl ClientHelloParts<'_> {
-    /// The first part, of so many suites and types of extensions.
+    /// The first part, with these counts of suites and extension types.
     fn ja4_front(
         &self,
         alloc: Global,
@@ -183,7 +188,9 @@ impl ClientHelloParts<'_> {
         suites: usize,
         types: usize,
     ) -> Result<String, AllocError>
-        ensures { IfOk result (λ text. string_bytes text ≡ ja4_front_with transport (view_client self.now) suites types) }
+        ensures { IfOk result
+            (λ text. string_bytes text ≡ ja4_front_with transport (view_client self.now)
+            suites types) }
     {
         let version = match best_version(self.version, self.ext) {
             Ok(version) => version,
@@ -202,28 +209,30 @@ impl ClientHelloParts<'_> {
         Ok(text)
     }
 
-    /// The suites that count.
+    /// The cipher suites without GREASE.
     fn kept_suites(&self, alloc: Global) -> Result<Vec<u16>, AllocError>
         ensures { IfOk result (λ v. v.items ≡ without_grease (view_client self.now).suites) }
     {
         kept(alloc, Items::new(self.ciphers.bytes()))
     }
 
-    /// The types of extensions that count.
+    /// The extension types without GREASE.
     fn kept_types(&self, alloc: Global) -> Result<Vec<u16>, AllocError>
-        ensures { IfOk result (λ v. v.items ≡ without_grease (types_in (view_client self.now).extensions)) }
+        ensures { IfOk result
+            (λ v. v.items ≡ without_grease (types_in (view_client self.now).extensions)) }
     {
         kept_types(alloc, extension_types(self.ext))
     }
 
-    /// The algorithms that count.
+    /// The signature algorithms without GREASE.
     fn kept_algorithms(&self, alloc: Global) -> Result<Vec<u16>, AllocError>
-        ensures { IfOk result (λ v. v.items ≡ without_grease (algorithms_in (view_client self.now).extensions)) }
+        ensures { IfOk result
+            (λ v. v.items ≡ without_grease (algorithms_in (view_client self.now).extensions)) }
     {
         kept(alloc, algorithms(self.ext))
     }
 
-    /// What the second part is made of, as a text that is shown.
+    /// The text that the second part hashes.
     fn ja4_suites(&self, alloc: Global) -> Result<String, AllocError>
         ensures { IfOk result (λ text. string_bytes text ≡ ja4_suites_of (view_client self.now)) }
     {
@@ -233,7 +242,7 @@ impl ClientHelloParts<'_> {
         Ok(text)
     }
 
-    /// What the third part is made of, as a text that is shown.
+    /// The text that the third part hashes.
     fn ja4_types(&self, alloc: Global) -> Result<String, AllocError>
         ensures { IfOk result (λ text. string_bytes text ≡ ja4_types_of (view_client self.now)) }
     {
@@ -248,11 +257,13 @@ impl ClientHelloParts<'_> {
         Ok(text)
     }
 
-    /// JA4 with its second and third part as they stand, and not their digests, which some tools name JA4_r.
+    /// JA4 with the texts of its second and third part instead of their digests; some tools call
+    /// this JA4_r.
     ///
-    /// `AllocError` where it could not be held.
+    /// `AllocError` if there is no memory for it.
     pub fn ja4_text(&self, alloc: Global, transport: Transport) -> Result<String, AllocError>
-        ensures { IfOk result (λ text. string_bytes text ≡ ja4_text_of transport (view_client self.now)) }
+        ensures { IfOk result
+            (λ text. string_bytes text ≡ ja4_text_of transport (view_client self.now)) }
     {
         let (suites, types) = (self.kept_suites(alloc)?, self.kept_types(alloc)?);
         let mut text = self.ja4_front(alloc, transport, suites.len(), types.len())?;
@@ -262,26 +273,30 @@ impl ClientHelloParts<'_> {
         Ok(text)
     }
 
-    /// JA4, as `t13d1516h2_8daaf6152771_e5627efa2ab1`: what the hello came over, its version, whether it names a host, how many cipher suites
-    /// and extensions it has, and its first protocol; a digest of the cipher suites; and a digest of the types of its extensions and of the
-    /// signature algorithms.
+    /// JA4, such as `t13d1516h2_8daaf6152771_e5627efa2ab1`: the transport, the version, whether the
+    /// hello names a host, how many cipher suites and extensions it has, and its first protocol; a
+    /// digest of the cipher suites; and a digest of the extension types and the signature
+    /// algorithms.
     ///
-    /// `AllocError` where it could not be held.
+    /// `AllocError` if there is no memory for it.
     pub fn ja4(&self, alloc: Global, transport: Transport) -> Result<String, AllocError>
-        ensures { IfOk result (λ text. string_bytes text ≡ ja4_of transport (view_client self.now)) }
+        ensures { IfOk result
+            (λ text. string_bytes text ≡ ja4_of transport (view_client self.now)) }
     {
         let (text, _is_new) = self.ja4_by_parts(alloc, transport, &mut KnownDigests::new(alloc))?;
         Ok(text)
     }
 
-    /// The same, and whether a part's digest was made for it: those that are known aren't made again.
+    /// JA4, and whether a digest of its parts was computed: those in the cache aren't computed
+    /// again.
     fn ja4_by_parts(
         &self,
         alloc: Global,
         transport: Transport,
         known: &mut KnownDigests,
     ) -> Result<(String, bool), AllocError>
-        ensures { IfOk result (λ made. string_bytes made.0 ≡ ja4_of transport (view_client self.now)) }
+        ensures { IfOk result
+            (λ made. string_bytes made.0 ≡ ja4_of transport (view_client self.now)) }
     {
         let (suites, types) = (self.kept_suites(alloc)?, self.kept_types(alloc)?);
         let mut text = self.ja4_front(alloc, transport, suites.len(), types.len())?;
@@ -294,22 +309,25 @@ impl ClientHelloParts<'_> {
         Ok((text, new_suites || new_types))
     }
 
-    /// JA4, as [`ClientHelloParts::ja4`] makes it, which is copied where a hello with the same lists is known. Digests of its parts that are known aren't made again, either.
+    /// JA4 as in [`ClientHelloParts::ja4`], copied from the cache if that has a hello with the same
+    /// lists. Digests of parts that are in the cache aren't computed again, either.
     ///
-    /// `AllocError` where it could not be held.
+    /// `AllocError` if there is no memory for it.
     pub fn ja4_with(
         &self,
         alloc: Global,
         transport: Transport,
         known: &mut KnownDigests,
     ) -> Result<String, AllocError>
-        ensures { IfOk result (λ text. string_bytes text ≡ ja4_of transport (view_client self.now)) }
+        ensures { IfOk result
+            (λ text. string_bytes text ≡ ja4_of transport (view_client self.now)) }
     {
         if let Some(text) = known.known_ja4(self, transport) {
             return String::from_str(alloc, text);
         }
         let (text, is_new) = self.ja4_by_parts(alloc, transport, known)?;
-        // Where a program shuffles its extensions, only the first of its hellos has new parts: the others are not to fill the table.
+        // If a program shuffles its extensions, only its first hello has new parts; the others
+        // shouldn't fill the cache.
         if is_new {
             known.keep_ja4(alloc, self, transport, text.as_str())?;
         }

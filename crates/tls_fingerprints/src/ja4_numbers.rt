@@ -1,4 +1,4 @@
-//! What the second and the third part of JA4 are made of.
+//! The numbers that the second and the third part of JA4 use.
 ghost use Rattle.std.specs.Prelude.{◌≡◌, true, IfOk};
 ghost use Rattle.tls_fingerprints.specs.Hellos.{view_client};
 ghost use Rattle.tls_fingerprints.specs.Ja4.{AreOf};
@@ -10,7 +10,7 @@ use std::alloc::{AllocError, Global};
 use tls_ext::extension_types;
 use tls_ext::offered::algorithms;
 
-/// The numbers that a hello lists, without those of GREASE, in its order.
+/// The numbers of a hello's lists without GREASE, in its order.
 #[derive(Drop)]
 pub(crate) struct Ja4Numbers {
     pub(crate) suites: Vec<u16>,
@@ -19,7 +19,7 @@ pub(crate) struct Ja4Numbers {
 }
 
 impl Ja4Numbers {
-    /// Those of that hello.
+    /// The numbers of a hello.
     pub(crate) fn of(alloc: Global, hello: &ClientHelloParts<'_>) -> Result<Ja4Numbers, AllocError>
         ensures { IfOk result (AreOf (view_client hello.now)) }
     {
@@ -30,7 +30,8 @@ impl Ja4Numbers {
         })
     }
 
-    /// Whether that hello has the same ones. It is read up to the first that differs, and nothing is held for it. The types come first, since some programs shuffle them.
+    /// Whether a hello has these numbers. The comparison stops at the first difference and doesn't
+    /// allocate. It begins with the extension types, since some programs shuffle them.
     pub(crate) fn are_of(&self, hello: &ClientHelloParts<'_>) -> bool
         ensures { result ≡ true → AreOf (view_client hello.now) self.now }
     {
@@ -39,7 +40,7 @@ impl Ja4Numbers {
             && are_kept(algorithms(hello.ext), self.algorithms.as_slice())
     }
 
-    /// For how many numbers there is room.
+    /// The total capacity of the lists, in numbers.
     pub(crate) fn capacity(&self) -> usize {
         self.suites
             .capacity()

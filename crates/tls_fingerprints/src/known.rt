@@ -1,4 +1,4 @@
-//! Digests of fingerprints that were made before.
+//! A cache for the digests of fingerprints.
 ghost use Rattle.std.specs.Prelude.{◌≡◌, ◌++◌, true, IfOk, IfSome, OnOk};
 ghost use Rattle.std.specs.String.{string_bytes};
 ghost use Rattle.tls_fingerprints.specs.Hellos.{view_client};
@@ -13,25 +13,27 @@ use crate::ja4::{part_text, short_digest};
 use crate::ja4_numbers::Ja4Numbers;
 use std::alloc::{AllocError, Global};
 
-/// So many of each kind are kept at most: a network's programs have no more, for the most part.
+/// The size of the cache for each kind of entry. Most networks have no more programs.
 const MOST: usize = 64;
 
-/// Nothing is kept that has room for more numbers, so that hellos can't take much memory by theirs.
+/// Entries with room for more numbers aren't cached, so that peers can't fill memory with their
+/// hellos.
 const MOST_NUMBERS: usize = 256;
 
-/// The same of a text of JA3 or JA3S, by its bytes.
+/// Longer texts of JA3 or JA3S aren't cached, in bytes.
 const LONGEST: usize = 1024;
 
-/// What a part of JA4 is made of, and the digits of its digest.
+/// The numbers of a part of JA4, and its digest.
 #[derive(Drop)]
 struct DigestedPart {
     numbers: Vec<u16>,
     algorithms: Vec<u16>,
     digits: String,
-    ghost is: { string_bytes digits ≡ short_digest_of (with_algorithms (hex_list numbers.items) algorithms.items) },
+    ghost is: { string_bytes digits ≡ short_digest_of
+        (with_algorithms (hex_list numbers.items) algorithms.items) },
 }
 
-/// A text of JA3 or JA3S, and the digits of its digest.
+/// A text of JA3 or JA3S, and its digest.
 #[derive(Drop)]
 struct DigestedText {
     text: String,
@@ -39,7 +41,7 @@ struct DigestedText {
     ghost is: { string_bytes digits ≡ digest_of (string_bytes text) },
 }
 
-/// What JA3 is made of, its text, and the digits of its digest.
+/// The numbers of a JA3, its text, and its digest.
 #[derive(Drop)]
 struct DigestedHello {
     numbers: Ja3Numbers,
@@ -50,9 +52,10 @@ struct DigestedHello {
 }
 
 impl DigestedHello {
-    /// What is to be known of that hello.
+    /// Computes the entry of a hello.
     fn of(alloc: Global, hello: &ClientHelloParts<'_>) -> Result<DigestedHello, AllocError>
-        ensures { IfOk result (λ one. text_of_numbers one.numbers ≡ ja3_text_of (view_client hello.now)) }
+        ensures { IfOk result
+            (λ one. text_of_numbers one.numbers ≡ ja3_text_of (view_client hello.now)) }
     {
         let numbers = Ja3Numbers::of(alloc, hello)?;
         let text = numbers.text(alloc)?;
@@ -65,7 +68,7 @@ impl DigestedHello {
     }
 }
 
-/// What JA4 is made of, and JA4.
+/// The numbers of a JA4, and the JA4.
 #[derive(Drop)]
 struct KnownJa4 {
     front: [u8; 10],
@@ -75,9 +78,10 @@ struct KnownJa4 {
 }
 
 impl KnownJa4 {
-    /// Whether it is that of a hello.
+    /// Whether this is the JA4 of a hello.
     fn is_of(&self, hello: &ClientHelloParts<'_>, transport: Transport) -> bool
-        ensures { result ≡ true → string_bytes self.now.text ≡ ja4_of transport (view_client hello.now) }
+        ensures { result ≡ true
+            → string_bytes self.now.text ≡ ja4_of transport (view_client hello.now) }
     {
         if !self.numbers.are_of(hello) {
             return false;
@@ -87,8 +91,9 @@ impl KnownJa4 {
     }
 }
 
-/// The last JA3 with its text, JA4, and digests of JA3S and of parts of JA4, by what they are made of. Hellos of one program have the same ones, whatever else they say, so that a digest is
-/// seldom made for a line alone.
+/// A cache of recent JA3 with their texts, JA4, and digests of JA3S and of the parts of JA4, each
+/// looked up by what it hashes. Hellos of one program agree in these, so most digests needn't be
+/// computed again for each connection.
 #[derive(Drop)]
 pub struct KnownDigests {
     parts: Vec<DigestedPart>,
@@ -98,7 +103,7 @@ pub struct KnownDigests {
 }
 
 impl KnownDigests {
-    /// None yet.
+    /// An empty cache.
     pub fn new(alloc: Global) -> KnownDigests {
         KnownDigests {
             parts: Vec::new(alloc),
@@ -108,9 +113,11 @@ impl KnownDigests {
         }
     }
 
-    /// The digits of a part's digest, if they are known.
+    /// The digest of a part, if it is cached.
     fn part_digits(&self, numbers: &[u16], algorithms: &[u16]) -> Option<&str>
-        ensures { IfSome result (λ digits. digits.now ≡ short_digest_of (with_algorithms (hex_list numbers.now) algorithms.now)) }
+        ensures { IfSome result
+            (λ digits. digits.now ≡ short_digest_of
+            (with_algorithms (hex_list numbers.now) algorithms.now)) }
     {
         for one in &self.parts {
             if one.numbers.as_slice() == numbers && one.algorithms.as_slice() == algorithms {
@@ -120,7 +127,7 @@ impl KnownDigests {
         None
     }
 
-    /// Keeps one more, if it is short enough; where there are as many as are kept, it stands alone.
+    /// Caches an entry that is short enough; a full cache is cleared first.
     fn keep_part(&mut self, one: DigestedPart) -> Result<(), AllocError> {
         let (numbers, algorithms) = (one.numbers.capacity(), one.algorithms.capacity());
         if numbers.saturating_add(algorithms) > MOST_NUMBERS {
@@ -133,7 +140,8 @@ impl KnownDigests {
         Ok(())
     }
 
-    /// Adds the digits of a part's digest, by the numbers that the part is made of, and the algorithms behind them. It answers whether they were made anew.
+    /// Appends the digest of a part with these numbers and algorithms. Returns whether it had to be
+    /// computed.
     pub(crate) fn add_digits(
         &mut self,
         alloc: Global,
@@ -142,7 +150,8 @@ impl KnownDigests {
         algorithms: Vec<u16>,
     ) -> Result<bool, AllocError>
         ensures { OnOk result (string_bytes ja4.new
-            ≡ string_bytes ja4.old ++ short_digest_of (with_algorithms (hex_list numbers.items) algorithms.items)) }
+            ≡ string_bytes ja4.old ++ short_digest_of
+            (with_algorithms (hex_list numbers.items) algorithms.items)) }
     {
         if let Some(digits) = self.part_digits(numbers.as_slice(), algorithms.as_slice()) {
             ja4.push_str(digits)?;
@@ -159,7 +168,7 @@ impl KnownDigests {
         Ok(true)
     }
 
-    /// The digits of a text's digest, if they are known.
+    /// The digest of a text, if it is cached.
     fn text_digits(&self, text: &str) -> Option<&str>
         ensures { IfSome result (λ digits. digits.now ≡ digest_of text.now) }
     {
@@ -171,7 +180,7 @@ impl KnownDigests {
         None
     }
 
-    /// Keeps one more, as [`KnownDigests::keep_part`] does.
+    /// Caches an entry as [`KnownDigests::keep_part`] does.
     fn keep_text(&mut self, one: DigestedText) -> Result<(), AllocError> {
         if one.text.len() > LONGEST {
             return Ok(());
@@ -183,9 +192,9 @@ impl KnownDigests {
         Ok(())
     }
 
-    /// [`ja3_digest`] of a text, which isn't made again where it is known.
+    /// The digest of a text as in [`ja3_digest`], computed unless it is cached.
     ///
-    /// `AllocError` where it could not be held.
+    /// `AllocError` if there is no memory for it.
     pub fn ja3_digest(&mut self, alloc: Global, text: &str) -> Result<String, AllocError>
         ensures { IfOk result (λ digits. string_bytes digits ≡ digest_of text.now) }
     {
@@ -199,9 +208,11 @@ impl KnownDigests {
         Ok(digits)
     }
 
-    /// What is known of a hello with the same numbers. The last one comes first, since a line may tell both its text and its digest.
+    /// The entry of a hello with the same numbers. The last one is tried first, since a line may
+    /// need both its text and its digest.
     fn known_hello(&self, hello: &ClientHelloParts<'_>) -> Option<&DigestedHello>
-        ensures { IfSome result (λ one. text_of_numbers one.now.numbers ≡ ja3_text_of (view_client hello.now)) }
+        ensures { IfSome result
+            (λ one. text_of_numbers one.now.numbers ≡ ja3_text_of (view_client hello.now)) }
     {
         for one in self.hellos.iter().rev() {
             if one.numbers.are_of(hello) {
@@ -211,7 +222,7 @@ impl KnownDigests {
         None
     }
 
-    /// Keeps one more, as [`KnownDigests::keep_part`] does.
+    /// Caches an entry as [`KnownDigests::keep_part`] does.
     fn keep_hello(&mut self, one: DigestedHello) -> Result<(), AllocError> {
         if one.numbers.capacity() > MOST_NUMBERS || one.text.len() > LONGEST {
             return Ok(());
@@ -223,7 +234,7 @@ impl KnownDigests {
         Ok(())
     }
 
-    /// The text of a hello's JA3.
+    /// The text of a hello's JA3, from the cache or computed.
     pub(crate) fn hello_text(
         &mut self,
         alloc: Global,
@@ -240,7 +251,7 @@ impl KnownDigests {
         Ok(text)
     }
 
-    /// The digits of a hello's JA3.
+    /// The digits of a hello's JA3, from the cache or computed.
     pub(crate) fn hello_digits(
         &mut self,
         alloc: Global,
@@ -257,7 +268,7 @@ impl KnownDigests {
         Ok(digits)
     }
 
-    /// JA4 of a hello that came over that, if it is known.
+    /// The JA4 of a hello with this transport, if it is cached.
     pub(crate) fn known_ja4(
         &self,
         hello: &ClientHelloParts<'_>,
@@ -273,7 +284,7 @@ impl KnownDigests {
         None
     }
 
-    /// Keeps the JA4 of a hello, as [`KnownDigests::keep_part`] does.
+    /// Caches the JA4 of a hello as [`KnownDigests::keep_part`] does.
     pub(crate) fn keep_ja4(
         &mut self,
         alloc: Global,

@@ -1,10 +1,14 @@
-//! Fingerprints of hellos: JA3 of a ClientHello and JA3S of a ServerHello, and JA4 of a ClientHello.
+//! Computes fingerprints of hellos: JA3 and JA4 of a ClientHello, and JA3S of a ServerHello.
 //!
-//! Programs that say hello by the same library with the same settings have the same fingerprint, whatever host they ask for. Each is made
-//! of what the hello says in the clear, without the numbers that are kept free for peers to ignore (GREASE; RFC 8701), and is what other
-//! tools print: JA3 and JA3S as Wireshark does, JA4 as FoxIO's definition says.
+//! Programs that use the same library with the same settings have the same fingerprint, whatever
+//! host they connect to. A fingerprint uses the fields of a hello that are in the clear, without
+//! the reserved GREASE values (RFC 8701). It equals what other tools print: JA3 and JA3S as in
+//! Wireshark, JA4 as FoxIO defines it.
 //!
-//! A hello is given by its parts ([`ClientHelloParts`], [`ServerHelloParts`]), which any view of a hello has, and bytes that were kept of one.
+//! A hello is passed as [`ClientHelloParts`] or [`ServerHelloParts`], which any view or copy of a
+//! hello can fill. `specs/Ja3.antt` and `specs/Ja4.antt` define the fingerprints, and the calls are
+//! proved to return them; [`laws`] states that JA4's digests don't depend on the order of suites
+//! and extensions.
 #![tactic(auto, using(layouts::proofs::OneAnswerLemmas::read_allowed))]
 
 mod digits;

@@ -1,4 +1,4 @@
-//! Lists of numbers, as fingerprints have them.
+//! Lists of numbers as fingerprints use them.
 ghost use Rattle.std.specs.Prelude.{◌≡◌, ◌++◌, ◌∷◌, [], ◌<◌, ◌+◌, map, true, IfOk, OnOk};
 ghost use Rattle.std.specs.List.{join_with_byte};
 ghost use Rattle.std.specs.String.{string_bytes};
@@ -12,17 +12,18 @@ use layouts::Items;
 use std::alloc::{AllocError, Global};
 use tls_ext::ExtensionType;
 
-/// Whether a number is kept free so that peers ignore what they don't know (RFC 8701, section 2): its two bytes are equal, and end in the
-/// hexadecimal digit a.
+/// Whether a number is a GREASE value, which peers must ignore (RFC 8701, section 2): its two bytes
+/// are equal, and end in the hexadecimal digit a.
 pub(crate) fn is_grease(n: u16) -> bool
     ensures { result ≡ is_grease_number n }
 {
     n / 256 == n % 256 && n % 16 == 10
 }
 
-/// The numbers that aren't of GREASE, in their order.
+/// The numbers without GREASE, in order.
 pub(crate) fn kept(alloc: Global, numbers: Items<u16>) -> Result<Vec<u16>, AllocError>
-    ensures { IfOk result (λ v. v.items ≡ without_grease (items_in (number 2) numbers.entry.bytes.now)) }
+    ensures { IfOk result
+        (λ v. v.items ≡ without_grease (items_in (number 2) numbers.entry.bytes.now)) }
 {
     let mut kept = Vec::with_capacity(alloc, numbers.len())?;
     for n in numbers {
@@ -34,12 +35,13 @@ pub(crate) fn kept(alloc: Global, numbers: Items<u16>) -> Result<Vec<u16>, Alloc
     Ok(kept)
 }
 
-/// Most hellos have no more extensions.
+/// The initial capacity; most hellos have no more extensions.
 const MOST_TYPES: usize = 32;
 
-/// The types that aren't of GREASE, in their order.
+/// The types without GREASE, in order.
 pub(crate) fn kept_types(alloc: Global, types: Items<ExtensionType>) -> Result<Vec<u16>, AllocError>
-    ensures { IfOk result (λ v. v.items ≡ without_grease (items_in extension_type types.entry.bytes.now)) }
+    ensures { IfOk result
+        (λ v. v.items ≡ without_grease (items_in extension_type types.entry.bytes.now)) }
 {
     let mut kept = Vec::with_capacity(alloc, MOST_TYPES)?;
     for kind in types {
@@ -51,9 +53,10 @@ pub(crate) fn kept_types(alloc: Global, types: Items<ExtensionType>) -> Result<V
     Ok(kept)
 }
 
-/// Whether the numbers that aren't of GREASE are these. The walk ends at the first that differs.
+/// Whether the numbers without GREASE are these. The comparison stops at the first difference.
 pub(crate) fn are_kept(numbers: Items<u16>, known: &[u16]) -> bool
-    ensures { result ≡ true → without_grease (items_in (number 2) numbers.entry.bytes.now) ≡ known.now }
+    ensures { result ≡ true
+        → without_grease (items_in (number 2) numbers.entry.bytes.now) ≡ known.now }
 {
     let mut left = known;
     for n in numbers {
@@ -71,9 +74,10 @@ pub(crate) fn are_kept(numbers: Items<u16>, known: &[u16]) -> bool
     left.is_empty()
 }
 
-/// The same of types of extensions.
+/// Whether the types without GREASE are these. The comparison stops at the first difference.
 pub(crate) fn are_kept_types(types: Items<ExtensionType>, known: &[u16]) -> bool
-    ensures { result ≡ true → without_grease (items_in extension_type types.entry.bytes.now) ≡ known.now }
+    ensures { result ≡ true
+        → without_grease (items_in extension_type types.entry.bytes.now) ≡ known.now }
 {
     let mut types_left = known;
     for kind in types {
@@ -92,14 +96,14 @@ pub(crate) fn are_kept_types(types: Items<ExtensionType>, known: &[u16]) -> bool
     types_left.is_empty()
 }
 
-/// The numbers in rising order.
+/// Sorts the numbers.
 pub(crate) fn rise(numbers: &mut Vec<u16>)
     ensures { numbers.new.items ≡ rising numbers.old.items }
 {
     numbers.sort_unstable();
 }
 
-/// Adds a number in decimal.
+/// Appends a number in decimal.
 pub(crate) fn add_decimal<N: Integer>(text: &mut String, n: N) -> Result<(), AllocError>
     ensures { OnOk result (string_bytes text.new ≡ string_bytes text.old ++ N.text n) }
 {
@@ -107,10 +111,12 @@ pub(crate) fn add_decimal<N: Integer>(text: &mut String, n: N) -> Result<(), All
     text.push_str(buffer.format(n))
 }
 
-/// Adds numbers in decimal, with `-` between each two.
+/// Appends numbers in decimal, separated by `-`.
 #[tactic(auto, using(crate::proofs::JoinLemmas::each_next))]
 pub(crate) fn add_dashed<N: Integer>(text: &mut String, numbers: &[N]) -> Result<(), AllocError>
-    ensures { OnOk result (string_bytes text.new ≡ string_bytes text.old ++ join_with_byte 45 (map N.text numbers.now)) }
+    ensures { OnOk result
+        (string_bytes text.new ≡ string_bytes text.old ++ join_with_byte 45
+        (map N.text numbers.now)) }
 {
     let Some((first, others)) = numbers.split_first() else {
         return Ok(());
@@ -148,7 +154,7 @@ pub(crate) fn four_digits(n: u16) -> [u8; 4]
     ]
 }
 
-/// The same behind a byte.
+/// A character, and the four hexadecimal digits of a number.
 pub(crate) fn led_digits(lead: u8, n: u16) -> [u8; 5]
     ensures { result ≡ lead ∷ four_digits_of n }
 {
@@ -161,7 +167,8 @@ pub(crate) fn led_digits(lead: u8, n: u16) -> [u8; 5]
     ]
 }
 
-/// Adds numbers by their four hexadecimal digits, with `,` between each two, to a text that is digested. Such a text is made of bytes, which are copied five at a time.
+/// Appends numbers as four hexadecimal digits each, separated by `,`, to a text that will be
+/// hashed. The text is bytes, so that five can be copied at a time.
 #[tactic(auto, using(crate::proofs::JoinLemmas::each_next))]
 pub(crate) fn push_hex_list(text: &mut Vec<u8>, numbers: &[u16]) -> Result<(), AllocError>
     ensures { OnOk result (text.new.items ≡ text.old.items ++ hex_list numbers.now) }
@@ -176,7 +183,7 @@ pub(crate) fn push_hex_list(text: &mut Vec<u8>, numbers: &[u16]) -> Result<(), A
     Ok(())
 }
 
-/// Adds a number by its four hexadecimal digits.
+/// Appends the four hexadecimal digits of a number.
 fn add_four_digits(text: &mut String, n: u16) -> Result<(), AllocError>
     ensures { OnOk result (string_bytes text.new ≡ string_bytes text.old ++ four_digits_of n) }
 {
@@ -186,7 +193,7 @@ fn add_four_digits(text: &mut String, n: u16) -> Result<(), AllocError>
     text.push(hex_digit((n % 16) as u8))
 }
 
-/// Adds numbers by their four hexadecimal digits, with `,` between each two.
+/// Appends numbers as four hexadecimal digits each, separated by `,`.
 #[tactic(auto, using(crate::proofs::JoinLemmas::each_next))]
 pub(crate) fn add_hex_list(text: &mut String, numbers: &[u16]) -> Result<(), AllocError>
     ensures { OnOk result (string_bytes text.new ≡ string_bytes text.old ++ hex_list numbers.now) }

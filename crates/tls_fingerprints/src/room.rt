@@ -1,4 +1,4 @@
-//! Numbers held in room of the caller's.
+//! Lists of numbers in a buffer of the caller's.
 ghost use Rattle.std.specs.Prelude.{◌≡◌, ◌<◌, length, IfSome, IfNone};
 ghost use Rattle.layouts.specs.Items.{items_in};
 ghost use Rattle.layouts.specs.Layout.{number};
@@ -11,12 +11,14 @@ use layouts::Items;
 use tls_ext::ExtensionType;
 
 #[tactic(auto, using(crate::proofs::RoomLemmas::room_ends, crate::proofs::RoomLemmas::room_full))]
-/// Puts the numbers that aren't of GREASE to the front of `room`, in their order, and answers how many; `None` where there are more than it
-/// takes.
+/// Copies the numbers without GREASE to the beginning of `room`, in order, and returns their count;
+/// `None` if there are more than fit.
 pub(crate) fn kept_in(numbers: Items<u16>, room: &mut [u16]) -> Option<usize>
     ensures size { length room.new ≡ length room.old }
-    ensures some { IfSome result (λ n. IsFilled room.new n (without_grease (items_in (number 2) numbers.entry.bytes.now))) }
-    ensures none { IfNone result (length room.old < length (without_grease (items_in (number 2) numbers.entry.bytes.now))) }
+    ensures some { IfSome result
+        (λ n. IsFilled room.new n (without_grease (items_in (number 2) numbers.entry.bytes.now))) }
+    ensures none { IfNone result
+        (length room.old < length (without_grease (items_in (number 2) numbers.entry.bytes.now))) }
 {
     let mut count = 0;
     for n in numbers {
@@ -32,30 +34,34 @@ pub(crate) fn kept_in(numbers: Items<u16>, room: &mut [u16]) -> Option<usize>
     Some(count)
 }
 
-/// Whether the first part of JA4 tells of that type.
+/// Whether the first part of JA4 covers this type.
 fn is_told_before(kind: u16) -> bool
     ensures { result ≡ is_told_before_in_front kind }
 {
     kind == 0 || kind == 16
 }
 
-/// How many types of extensions there are.
+/// Counts of extension types.
 #[derive(Clone, Copy)]
 pub(crate) struct Types {
-    /// Those that aren't of GREASE.
+    /// The types without GREASE.
     pub(crate) all: usize,
-    /// Those of them that the first part of JA4 doesn't tell.
+    /// Those that the first part of JA4 doesn't cover.
     pub(crate) others: usize,
 }
 
 #[tactic(auto, using(crate::proofs::RoomLemmas::room_ends, crate::proofs::RoomLemmas::counted_full, crate::proofs::RoomLemmas::counted_all))]
-/// Puts the types that aren't of GREASE, and that the first part of JA4 doesn't tell, to the front of `room`, in their order, and answers how
-/// many; `None` where there are more than it takes, those that it tells counted too.
+/// Copies the types without GREASE that the first part of JA4 doesn't cover to the beginning of
+/// `room`, in order, and returns the counts; `None` if there are more than fit, including those
+/// that it covers.
 pub(crate) fn other_types_in(types: Items<ExtensionType>, room: &mut [u16]) -> Option<Types>
     ensures size { length room.new ≡ length room.old }
-    ensures some { IfSome result (λ t. (t.all ≡ length (without_grease (items_in extension_type types.entry.bytes.now)))
-        × IsFilled room.new t.others (other_types (without_grease (items_in extension_type types.entry.bytes.now)))) }
-    ensures none { IfNone result (length room.old < length (without_grease (items_in extension_type types.entry.bytes.now))) }
+    ensures some { IfSome result
+        (λ t. (t.all ≡ length (without_grease (items_in extension_type types.entry.bytes.now)))
+        × IsFilled room.new t.others
+        (other_types (without_grease (items_in extension_type types.entry.bytes.now)))) }
+    ensures none { IfNone result
+        (length room.old < length (without_grease (items_in extension_type types.entry.bytes.now))) }
 {
     let mut all = 0;
     let mut others = 0;

@@ -72,7 +72,7 @@ use denote.Enum.Bare.{Bare, sameb}
 use denote.Enum.Declared.{Declared}
 use lib.Dec.{eqb}
 
--- Of a list by rows: whether it has a symbol is whether a row of the state has it.
+-- A list built from rows has a symbol exactly if a row of the state has it.
 decided_is : (D : Declared) (bare : Bare D.parts) (a b : D.D) (t : Bool) (e : sameb D a b ≡ t)
     → is_yes (decided D bare a b t e) ≡ t
 decided_is D bare a b true e = refl
@@ -88,14 +88,18 @@ same_is : (r : Row) (l : Symbol)
     → is_yes (same_symbol (symbol r.kind r.direction) l)
     ≡ is_symbol (kind_number l.kind) (direction_number l.direction) r
 same_is r l =
-    both_parts (symbol r.kind r.direction) l (same_kind r.kind l.kind) (same_direction r.direction l.direction)
+    both_parts (symbol r.kind r.direction) l (same_kind r.kind l.kind)
+    (same_direction r.direction l.direction)
     ∙ ap (λ t. t && is_yes (same_direction r.direction l.direction))
-    (decided_is kinds tt r.kind l.kind (eqb (kind_number r.kind) (kind_number l.kind)) (same_kinds r.kind l.kind))
+    (decided_is kinds tt r.kind l.kind (eqb (kind_number r.kind) (kind_number l.kind))
+    (same_kinds r.kind l.kind))
     ∙ ap (λ t. eqb (kind_number r.kind) (kind_number l.kind) && t)
-    (decided_is directions tt r.direction l.direction (eqb (direction_number r.direction) (direction_number l.direction))
+    (decided_is directions tt r.direction l.direction
+    (eqb (direction_number r.direction) (direction_number l.direction))
     (same_directions r.direction l.direction))
 
-some_first : (t : Bool) (s : State) (n : Option State) → (t || is_some n) ≡ is_some (if t then Some s else n)
+some_first : (t : Bool) (s : State) (n : Option State)
+    → (t || is_some n) ≡ is_some (if t then Some s else n)
 some_first true s n = refl
 some_first false s n = refl
 
@@ -106,16 +110,19 @@ in_first : (t : Bool) (r : Row) (rows : List Row) (xs : List Symbol) (l : Symbol
 in_first true r rows xs l h =
     ap (λ t. t || is_in same_symbol xs l) (same_is r l)
     ∙ ap (λ t. is_symbol (kind_number l.kind) (direction_number l.direction) r || t) h
-    ∙ some_first (is_symbol (kind_number l.kind) (direction_number l.direction) r) r.next (next_of rows l)
+    ∙ some_first (is_symbol (kind_number l.kind) (direction_number l.direction) r) r.next
+    (next_of rows l)
 in_first false r rows xs l h = h
 
 in_awaited : (rows : List Row) (q : State) (l : Symbol)
     → is_in same_symbol (awaited_in rows q) l ≡ has_symbol (rows_at rows (state_number q)) l
 in_awaited [] q l = refl
 in_awaited (r ∷ rows) q l =
-    ap (λ t. is_in same_symbol (if t then symbol r.kind r.direction ∷ awaited_in rows q else awaited_in rows q) l)
+    ap (λ t. is_in same_symbol
+    (if t then symbol r.kind r.direction ∷ awaited_in rows q else awaited_in rows q) l)
     (same_states r.state q)
-    ∙ in_first (eqb (state_number r.state) (state_number q)) r (rows_at rows (state_number q)) (awaited_in rows q) l
+    ∙ in_first (eqb (state_number r.state) (state_number q)) r (rows_at rows (state_number q))
+    (awaited_in rows q) l
     (in_awaited rows q l)
 
 awaits_is : (q : State) (l : Symbol) → is_in same_symbol (awaited_in ROWS q) l ≡ awaits q l
@@ -143,7 +150,8 @@ module _ (w : Word) (l : Symbol) where
   awaited_to t =
       let a : (is_waiting (outcome_at (end_of w)) ≡ true)
       × ((not (is_noise l) && is_alive (outcome_at (step (end_of w) l))) ≡ true) = both_and _ _ t in
-      let b : (not (is_noise l) ≡ true) × (is_alive (outcome_at (step (end_of w) l)) ≡ true) = both_and _ _ a.1 in (
+      let b : (not (is_noise l) ≡ true) × (is_alive (outcome_at (step (end_of w) l)) ≡ true) =
+      both_and _ _ a.1 in (
         (waiting_where w).0 (waiting_is (outcome_at (end_of w)) a.0),
         not_true (is_noise l) b.0,
         alive_to (w ++ l ∷ []) (ap (λ q. is_alive (outcome_at q)) next_end ∙ b.1),
@@ -156,7 +164,8 @@ module _ (w : Word) (l : Symbol) where
         | inr k ↦ alive_from (w ++ l ∷ []) k
       ] in
       and_both _ _ (ap is_waiting ((waiting_where w).1 h.0))
-      (and_both _ _ (false_not (is_noise l) h.1) (ap (λ q. is_alive (outcome_at q)) (sym next_end) ∙ alive))
+      (and_both _ _ (false_not (is_noise l) h.1)
+      (ap (λ q. is_alive (outcome_at q)) (sym next_end) ∙ alive))
 
 pub awaited_of_flow : (xs : List Symbol) (f : Flow) (es : List Event) → xs ≡ awaited_in ROWS f.state
     → f ≡ run follow silence es → (l : Symbol) → Contains xs l ↔ IsAwaited l (symbols_of es)

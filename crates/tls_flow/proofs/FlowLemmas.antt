@@ -1,4 +1,4 @@
--- Flows of events: where they stand is the run of their symbols, and what stopped them stands among them.
+-- The state of a flow is the run of its events' symbols; what stopped it is one of the events.
 use Rattle.std.proofs.Common.{
   ◌≡◌,
   ◌↔◌,
@@ -51,8 +51,9 @@ followed : (t : Bool) (f : Flow) (e : Event) → is_waiting (outcome_at f.state)
 followed true f e h = refl
 followed false f e h = sym (end_stays f.state e.symbol h)
 
--- The state is that of the symbols.
-pub state_of : (f : Flow) (es : List Event) → (run follow f es).state ≡ run step f.state (symbols_of es)
+-- The state depends on the symbols alone.
+pub state_of : (f : Flow) (es : List Event)
+    → (run follow f es).state ≡ run step f.state (symbols_of es)
 state_of f [] = refl
 state_of f (e ∷ es) = state_of (follow f e) es
     ∙ ap (λ q. run step q (symbols_of es)) (followed (is_waiting (outcome_at f.state)) f e refl)
@@ -62,14 +63,16 @@ pub told_of_flow : (es : List Event) (from end : Flow) → end ≡ run follow fr
 told_of_flow es from end ends starts o =
     let at : end.state ≡ end_of (symbols_of es) =
     ap (λ f. f.state) (ends ∙ ap (λ f. run follow f es) starts) ∙ state_of silence es in
-    subst (λ q. (outcome_at q ≡ o) ↔ IsOutcome o (symbols_of es)) (sym at) (told_whole (symbols_of es) o)
+    subst (λ q. (outcome_at q ≡ o) ↔ IsOutcome o (symbols_of es)) (sym at)
+    (told_whole (symbols_of es) o)
 
--- Behind an end the stop stays.
+-- After the end the stop doesn't change.
 kept_by : (t : Bool) (f : Flow) (e : Event) → t ≡ false → (follow_by t f e).stop ≡ f.stop
 kept_by true f e h = cc
 kept_by false f e h = refl
 
-stop_stays : (f : Flow) (es : List Event) → is_waiting (outcome_at f.state) ≡ false → (run follow f es).stop ≡ f.stop
+stop_stays : (f : Flow) (es : List Event) → is_waiting (outcome_at f.state) ≡ false
+    → (run follow f es).stop ≡ f.stop
 stop_stays f [] h = refl
 stop_stays f (e ∷ es) h =
     let still : is_waiting (outcome_at (follow f e).state) ≡ false
@@ -81,7 +84,8 @@ stop_is : (o : Outcome) (f : Flow) (e : Event) → is_failed o ≡ true
     → stop_at o f e ≡ Some (record { event = e; place = f.events })
 stop_is o f e h = rw h refl
 
-no_stop : (o : Outcome) (f : Flow) (e : Event) → is_failed o ≡ false → f.stop ≡ None → stop_at o f e ≡ None
+no_stop : (o : Outcome) (f : Flow) (e : Event) → is_failed o ≡ false → f.stop ≡ None
+    → stop_at o f e ≡ None
 no_stop o f e h n = rw h n
 
 not_failed : (o : Outcome) → is_waiting o ≡ true → is_failed o ≡ false
@@ -100,7 +104,7 @@ move_is : (f : Flow) (e : Event) → is_waiting (outcome_at f.state) ≡ true
     → follow f e ≡ moved (step f.state e.symbol) f e
 move_is f e h = ap (λ t. follow_by t f e) h
 
--- What stopped a flow that waited: nothing, or an event behind a front with which it still waited.
+-- What stopped a waiting flow: nothing, or an event up to which it still waited.
 abbrev Stopped : Flow → List Event → Type 0
 Stopped f es =
     (u v : List Event) × (e : Event) × (es ≡ u ++ e ∷ v)
@@ -110,7 +114,8 @@ Stopped f es =
     × (is_failed (outcome_at (run follow f es).state) ≡ true)
 
 abbrev NotStopped : Flow → List Event → Type 0
-NotStopped f es = ((run follow f es).stop ≡ None) × (is_failed (outcome_at (run follow f es).state) ≡ false)
+NotStopped f es =
+    ((run follow f es).stop ≡ None) × (is_failed (outcome_at (run follow f es).state) ≡ false)
 
 failed_at_once : (f : Flow) (e : Event) (es : List Event) → is_waiting (outcome_at f.state) ≡ true
     → is_failed (outcome_at (step f.state e.symbol)) ≡ true → Stopped f (e ∷ es)
@@ -128,12 +133,14 @@ failed_at_once f e es h t =
       stop_stays (follow f e) es w ∙ s,
       h,
       t,
-      ap (λ x. is_failed (outcome_at x)) (state_of (follow f e) es ∙ run_stays (follow f e).state (symbols_of es) w
+      ap (λ x. is_failed (outcome_at x))
+          (state_of (follow f e) es ∙ run_stays (follow f e).state (symbols_of es) w
           ∙ q) ∙ t,
     )
 
--- The flow goes on behind an event that doesn't fail.
-goes_on : (f : Flow) (e : Event) (es : List Event) → is_waiting (outcome_at f.state) ≡ true → f.stop ≡ None
+-- The flow goes on after an event that doesn't fail.
+goes_on : (f : Flow) (e : Event) (es : List Event) → is_waiting (outcome_at f.state) ≡ true
+    → f.stop ≡ None
     → is_failed (outcome_at (step f.state e.symbol)) ≡ false
     → (is_waiting (outcome_at (follow f e).state) ≡ true → (follow f e).stop ≡ None
     → NotStopped (follow f e) es ⊎ Stopped (follow f e) es)
@@ -141,7 +148,8 @@ goes_on : (f : Flow) (e : Event) (es : List Event) → is_waiting (outcome_at f.
 goes_on f e es h n t rest =
     let m : follow f e ≡ moved (step f.state e.symbol) f e = move_is f e h in
     let q : (follow f e).state ≡ step f.state e.symbol = ap (λ x. x.state) m in
-    let none : (follow f e).stop ≡ None = ap (λ x. x.stop) m ∙ no_stop (outcome_at (step f.state e.symbol)) f e t n in
+    let none : (follow f e).stop ≡ None =
+    ap (λ x. x.stop) m ∙ no_stop (outcome_at (step f.state e.symbol)) f e t n in
     elim (true_or_false (is_waiting (outcome_at (follow f e).state))) [
       | inl w ↦ elim (rest w none) [
         | inl k ↦ inl k
@@ -149,7 +157,8 @@ goes_on f e es h n t rest =
       ]
       | inr w ↦ inl (
         stop_stays (follow f e) es w ∙ none,
-        ap (λ x. is_failed (outcome_at x)) (state_of (follow f e) es ∙ run_stays (follow f e).state (symbols_of es) w
+        ap (λ x. is_failed (outcome_at x))
+            (state_of (follow f e) es ∙ run_stays (follow f e).state (symbols_of es) w
             ∙ q) ∙ t,
       )
     ]
@@ -180,8 +189,10 @@ events_of : (f : Flow) (es : List Event) → f.events ≤ 2 ^ 64 - 1
     → (run follow f es).events ≡ min (f.events + length es) (2 ^ 64 - 1)
 events_of f [] h = count_none f.events (2 ^ 64 - 1) h
 events_of f (e ∷ es) h =
-    let c : (follow f e).events ≡ counted f.events = counted_by (is_waiting (outcome_at f.state)) f e in
-    events_of (follow f e) es (subst (λ n. n ≤ 2 ^ 64 - 1) (sym c) (counted_within f.events (2 ^ 64 - 1)))
+    let c : (follow f e).events ≡ counted f.events =
+    counted_by (is_waiting (outcome_at f.state)) f e in
+    events_of (follow f e) es
+    (subst (λ n. n ≤ 2 ^ 64 - 1) (sym c) (counted_within f.events (2 ^ 64 - 1)))
     ∙ ap (λ n. min (n + length es) (2 ^ 64 - 1)) c
     ∙ count_more f.events (length es) (2 ^ 64 - 1)
 
@@ -189,7 +200,7 @@ symbols_append : (u v : List Event) → symbols_of (u ++ v) ≡ symbols_of u ++ 
 symbols_append [] v = refl
 symbols_append (e ∷ u) v = ap (λ w. e.symbol ∷ w) (symbols_append u v)
 
--- Of a whole conversation.
+-- For a whole conversation.
 module _ (es : List Event) where
   ends_at : (run follow silence es).state ≡ end_of (symbols_of es)
   ends_at = state_of silence es
@@ -198,7 +209,8 @@ module _ (es : List Event) where
       → HasHandshake (symbols_of es) ⊎ IsUnderWay (symbols_of es)
   not_stopped t = elim (true_or_false (is_done (outcome_at (end_of (symbols_of es))))) [
     | inl d ↦ inl (done_to (symbols_of es) d)
-    | inr d ↦ inr ((waiting_where (symbols_of es)).0 (waits_if (outcome_at (end_of (symbols_of es))) t d))
+    | inr d ↦ inr
+        ((waiting_where (symbols_of es)).0 (waits_if (outcome_at (end_of (symbols_of es))) t d))
   ]
     where
       waits_if : (o : Outcome) → is_failed o ≡ false → is_done o ≡ false → o ≡ outcome.Waiting
@@ -216,24 +228,28 @@ module _ (es : List Event) where
       → ¬ IsUnderWay (symbols_of (u ++ e ∷ []))
   failed_under_way u e t h =
       let at : end_of (symbols_of (u ++ e ∷ [])) ≡ step (run follow silence u).state e.symbol
-      = ap end_of (symbols_append u (e ∷ [])) ∙ run_on step state.Start (symbols_of u) (e.symbol ∷ [])
+      = ap end_of (symbols_append u (e ∷ []))
+      ∙ run_on step state.Start (symbols_of u) (e.symbol ∷ [])
       ∙ ap (λ q. step q e.symbol) (sym (state_of silence u)) in
       let waits : outcome_at (step (run follow silence u).state e.symbol) ≡ outcome.Waiting =
       ap outcome_at (sym at) ∙ (waiting_where (symbols_of (u ++ e ∷ []))).1 h in
       let k : is_failed outcome.Waiting ≡ true = subst (λ o. is_failed o ≡ true) waits t in
       cc
 
-  failed_not_done : is_failed (outcome_at (run follow silence es).state) ≡ true → ¬ HasHandshake (symbols_of es)
+  failed_not_done : is_failed (outcome_at (run follow silence es).state) ≡ true
+      → ¬ HasHandshake (symbols_of es)
   failed_not_done t h =
       let d : is_done (outcome_at (end_of (symbols_of es))) ≡ true = done_from (symbols_of es) h in
       let n : is_done (outcome_at (end_of (symbols_of es))) ≡ false =
-      (failed_not (outcome_at (end_of (symbols_of es))) (ap (λ q. is_failed (outcome_at q)) (sym ends_at) ∙ t)).1 in
+      (failed_not (outcome_at (end_of (symbols_of es)))
+      (ap (λ q. is_failed (outcome_at q)) (sym ends_at) ∙ t)).1 in
       let k : true ≡ false = sym d ∙ n in
       cc
 
   stopped_whole : IsStop (run follow silence es).stop es
   stopped_whole = elim (stop_among silence es refl refl) [
-    | inl k ↦ subst (λ s. IsStop s es) (sym k.0) (not_stopped (ap (λ q. is_failed (outcome_at q)) (sym ends_at) ∙ k.1))
+    | inl k ↦ subst (λ s. IsStop s es) (sym k.0)
+        (not_stopped (ap (λ q. is_failed (outcome_at q)) (sym ends_at) ∙ k.1))
     | inr k ↦ subst (λ s. IsStop s es) (sym k.4) (
       k.0,
       k.1,
@@ -246,7 +262,8 @@ module _ (es : List Event) where
     )
   ]
 
-pub stopped_of_flow : (es : List Event) (from end : Flow) → end ≡ run follow from es → from ≡ silence
+pub stopped_of_flow : (es : List Event) (from end : Flow) → end ≡ run follow from es
+    → from ≡ silence
     → IsStop end.stop es
 stopped_of_flow es from end ends starts =
     subst (λ f. IsStop f.stop es) (sym (ends ∙ ap (λ f. run follow f es) starts)) (stopped_whole es)

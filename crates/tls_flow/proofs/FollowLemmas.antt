@@ -1,4 +1,4 @@
--- What each state still waits for, by a word that leads to it.
+-- What each state still waits for, given a word that leads to it.
 use Rattle.std.proofs.Common.{
   ◌≡◌,
   inl,
@@ -49,7 +49,8 @@ use Rattle.tls_flow.proofs.StepLemmas.{
   end_stays,
 }
 
--- A word that leads to a state, and to one that waits for nothing a word that no handshake begins with.
+-- A word that leads to each state. For one that waits for nothing, no handshake begins with the
+-- word.
 abbrev after_hello : Word → Word
 after_hello w = symbol kind.ClientHello ToServer ∷ w
 
@@ -113,7 +114,7 @@ road state.BrokenOff = symbol kind.Other ToServer ∷ []
 road state.Unknown = symbol kind.Other ToServer ∷ []
 road state.NoHandshake = symbol kind.Other ToServer ∷ []
 
--- The handshakes that an outcome tells, if it tells of any.
+-- The pattern of each outcome's handshakes, if it has any.
 abbrev pub pattern_of : Outcome → Pattern Symbol
 pattern_of outcome.Full = full
 pattern_of outcome.Resumed = resumed
@@ -126,7 +127,8 @@ waits p q = behind_all same_symbol (chain p all) (road q)
 abbrev same_pattern : (p q : Pattern Symbol) → Dec (p ≡ q)
 same_pattern = Pattern-discrete same_symbol
 
--- A row leads to what is waited for behind its symbol, as a test, which all rows pass for each form.
+-- A test that all rows pass for each form: the row leads to what its state waits for after the
+-- row's symbol.
 abbrev row_test : Pattern Symbol → Row → Bool
 row_test p r = is_yes (same_pattern (waits p r.next) (behind same_symbol (waits p r.state) (symbol r.kind r.direction)))
 
@@ -142,7 +144,7 @@ tls13_rows false false = refl
 rows_pass : (o : Outcome) → RowsPass o
 rows_pass = elim [ outcome.Tls13 retried early ↦ tls13_rows retried early | outcome.Full ↦ refl | _ ↦ refl ]
 
--- Two tests that say the same.
+-- Equality of two tests.
 abbrev same_bool : Bool → Bool → Bool
 same_bool true b = b
 same_bool false b = not b
@@ -152,16 +154,16 @@ both_same true b h = sym h
 both_same false true h = cc
 both_same false false h = refl
 
--- The same handshake is done.
+-- Whether two outcomes are of the same handshake.
 abbrev pub is_it : Outcome → Outcome → Bool
 is_it outcome.Full outcome.Full = true
 is_it outcome.Resumed outcome.Resumed = true
 is_it (outcome.Tls13 a b) (outcome.Tls13 c d) = same_bool a c && same_bool b d
 is_it _ _ = false
 
--- What a form waits for at a state, as a test of each. Where the state waits, each word begins with a symbol of its rows;
--- at an end it is every word or none. The empty word is there exactly where that handshake is done, and some word only
--- where one is done or can still come.
+-- What a form waits for at a state, as a test of each. At a waiting state, each word begins with a
+-- symbol of its rows; at a final state it is every word or none. The empty word matches exactly if
+-- that handshake is done, and some word only if one is done or can still come.
 abbrev is_flat : Pattern Symbol → Bool
 is_flat none = true
 is_flat all = true
@@ -186,7 +188,7 @@ tls13_states false false = refl
 states_pass : (o : Outcome) → AllStatesPass (state_test o)
 states_pass = elim [ outcome.Tls13 retried early ↦ tls13_states retried early | outcome.Full ↦ refl | _ ↦ refl ]
 
--- Behind a failure nothing can come.
+-- After a failure nothing can come.
 tls13_fails : (retried early : Bool)
     → behind_all same_symbol (chain (tls13 retried early) all) (symbol kind.Other ToServer ∷ []) ≡ none
 tls13_fails true true = refl
@@ -218,7 +220,7 @@ module _ (o : Outcome) (q : State) where
   alive_at = (both_and (same_bool (has_empty (waits (pattern_of o) q)) (is_it o (outcome_at q)))
       (not (has_word (waits (pattern_of o) q)) || is_alive (outcome_at q)) parts.1).1
 
--- A step by a row, by the rule, and from an end.
+-- A step by a row, by the rule, and from a final state.
 module _ (o : Outcome) (q : State) (l : Symbol) where
   abbrev Follows : State → Type 0
   Follows s =

@@ -1,4 +1,5 @@
--- States, kinds and directions by their numbers: numbers are compared at once, where tags are counted up first.
+-- States, kinds and directions as numbers: numbers compare at once, where comparing tags counts up
+-- to them first.
 use Rattle.std.proofs.Common.{
   ◌≡◌,
   ℕ,
@@ -110,14 +111,18 @@ pub direction_tag : (d : Direction) → tag_of directions d ≡ direction_number
 direction_tag = elim [ ToServer ↦ refl | _ ↦ refl ]
 
 pub same_states : (a b : State) → sameb states a b ≡ eqb (state_number a) (state_number b)
-same_states a b = ap (λ n. eqb n (tag_of states b)) (state_tag a) ∙ ap (eqb (state_number a)) (state_tag b)
+same_states a b = ap (λ n. eqb n (tag_of states b)) (state_tag a)
+    ∙ ap (eqb (state_number a)) (state_tag b)
 
 pub same_kinds : (a b : Kind) → sameb kinds a b ≡ eqb (kind_number a) (kind_number b)
-same_kinds a b = ap (λ n. eqb n (tag_of kinds b)) (kind_tag a) ∙ ap (eqb (kind_number a)) (kind_tag b)
+same_kinds a b = ap (λ n. eqb n (tag_of kinds b)) (kind_tag a)
+    ∙ ap (eqb (kind_number a)) (kind_tag b)
 
-pub same_directions : (a b : Direction) → sameb directions a b ≡ eqb (direction_number a) (direction_number b)
+pub same_directions : (a b : Direction)
+    → sameb directions a b ≡ eqb (direction_number a) (direction_number b)
 same_directions a b =
-    ap (λ n. eqb n (tag_of directions b)) (direction_tag a) ∙ ap (eqb (direction_number a)) (direction_tag b)
+    ap (λ n. eqb n (tag_of directions b)) (direction_tag a)
+    ∙ ap (eqb (direction_number a)) (direction_tag b)
 
 pub same_number : (a b : State) → eqb (state_number a) (state_number b) ≡ true → a ≡ b
 same_number a b t = same_true states tt a b (same_states a b ∙ t)
@@ -128,12 +133,17 @@ same_state a b = decided states tt a b (eqb (state_number a) (state_number b)) (
 
 abbrev all_states : List State
 all_states =
-    state.Start ∷ state.Hello ∷ state.Verify ∷ state.VerifiedHello ∷ state.ChangedHello ∷ state.EarlyHello ∷ state.Retry ∷
-    state.EarlyRetry ∷ state.SecondHello ∷ state.EarlySecondHello ∷ state.ServerHello ∷ state.Certificate ∷
+    state.Start ∷ state.Hello ∷ state.Verify ∷ state.VerifiedHello ∷ state.ChangedHello
+    ∷ state.EarlyHello ∷ state.Retry ∷
+    state.EarlyRetry ∷ state.SecondHello ∷ state.EarlySecondHello ∷ state.ServerHello
+    ∷ state.Certificate ∷
     state.CertificateStatus ∷ state.CertifiedKeys ∷ state.Keys ∷ state.Request ∷ state.RequestDone ∷
-    state.ClientCertificate ∷ state.ClientKeys ∷ state.Done ∷ state.ClientDone ∷ state.ClientChange ∷ state.Ticket ∷
-    state.ResumedTicket ∷ state.ServerChange ∷ state.Full ∷ state.Resumed ∷ state.Tls13 ∷ state.EarlyTls13 ∷
-    state.RetriedTls13 ∷ state.EarlyRetriedTls13 ∷ state.BrokenOff ∷ state.Unknown ∷ state.NoHandshake ∷ []
+    state.ClientCertificate ∷ state.ClientKeys ∷ state.Done ∷ state.ClientDone ∷ state.ClientChange
+    ∷ state.Ticket ∷
+    state.ResumedTicket ∷ state.ServerChange ∷ state.Full ∷ state.Resumed ∷ state.Tls13
+    ∷ state.EarlyTls13 ∷
+    state.RetriedTls13 ∷ state.EarlyRetriedTls13 ∷ state.BrokenOff ∷ state.Unknown
+    ∷ state.NoHandshake ∷ []
 
 state_in : (q : State) → is_in same_state all_states q ≡ true
 state_in = elim [ state.Start ↦ refl | _ ↦ refl ]
@@ -144,7 +154,7 @@ AllStatesPass f = list_all f all_states ≡ true
 pub state_passes : (f : State → Bool) → AllStatesPass f → (q : State) → f q ≡ true
 state_passes f t q = passes_in same_state f all_states q t (state_in q)
 
--- The rows of a state, and where the first of them that has a symbol leads.
+-- The rows of a state, and where the first row with a symbol leads.
 abbrev pub is_symbol : ℕ → ℕ → Row → Bool
 is_symbol k d r = eqb (kind_number r.kind) k && eqb (direction_number r.direction) d
 
@@ -164,31 +174,37 @@ next_of rows l = next_by rows (kind_number l.kind) (direction_number l.direction
 
 same_row : (r : Row) (q : State) (k : Kind) (d : Direction)
     → (sameb states r.state q && (sameb kinds r.kind k && sameb directions r.direction d))
-    ≡ (eqb (state_number r.state) (state_number q) && is_symbol (kind_number k) (direction_number d) r)
+    ≡ (eqb (state_number r.state) (state_number q)
+    && is_symbol (kind_number k) (direction_number d) r)
 same_row r q k d =
     ap (λ t. t && (sameb kinds r.kind k && sameb directions r.direction d)) (same_states r.state q)
     ∙ ap (λ t. eqb (state_number r.state) (state_number q) && (t && sameb directions r.direction d))
     (same_kinds r.kind k)
-    ∙ ap (λ t. eqb (state_number r.state) (state_number q) && (eqb (kind_number r.kind) (kind_number k) && t))
+    ∙ ap (λ t. eqb (state_number r.state) (state_number q)
+    && (eqb (kind_number r.kind) (kind_number k) && t))
     (same_directions r.direction d)
 
-row_first : (t : Bool) (r : Row) (rows : List Row) (k d : ℕ) (n : Option State) → n ≡ next_by rows k d
+row_first : (t : Bool) (r : Row) (rows : List Row) (k d : ℕ) (n : Option State)
+    → n ≡ next_by rows k d
     → (if t && is_symbol k d r then Some r.next else n) ≡ next_by (if t then r ∷ rows else rows) k d
 row_first true r rows k d n h = ap (λ o. if is_symbol k d r then Some r.next else o) h
 row_first false r rows k d n h = h
 
 next_among : (rows : List Row) (q : State) (k : Kind) (d : Direction)
-    → next_after rows q k d ≡ next_by (rows_at rows (state_number q)) (kind_number k) (direction_number d)
+    → next_after rows q k d ≡ next_by (rows_at rows (state_number q)) (kind_number k)
+    (direction_number d)
 next_among [] q k d = refl
 next_among (r ∷ rows) q k d =
     ap (λ t. if t then Some r.next else next_after rows q k d) (same_row r q k d)
-    ∙ row_first (eqb (state_number r.state) (state_number q)) r (rows_at rows (state_number q)) (kind_number k)
+    ∙ row_first (eqb (state_number r.state) (state_number q)) r (rows_at rows (state_number q))
+    (kind_number k)
     (direction_number d) (next_after rows q k d) (next_among rows q k d)
 
-pub next_is : (q : State) (l : Symbol) → next_after ROWS q l.kind l.direction ≡ next_of (rows_of q) l
+pub next_is : (q : State) (l : Symbol)
+    → next_after ROWS q l.kind l.direction ≡ next_of (rows_of q) l
 next_is q l = next_among ROWS q l.kind l.direction
 
--- The step by the rows of the state.
+-- A step by the rows of its state.
 abbrev pub step_by : List Row → State → Symbol → State
 step_by rows q l = row_or (next_of rows l) (rule q l.kind l.direction)
 

@@ -1,4 +1,4 @@
--- A step goes by a row, or by the rule where no row has the symbol; and what all rows have in common.
+-- A step follows a row, or the rule if no row has the symbol. What all rows have in common.
 use Rattle.std.proofs.Common.{
   ◌≡◌,
   ◌⊎◌,
@@ -49,33 +49,40 @@ pub true_or_false : (t : Bool) → (t ≡ true) ⊎ (t ≡ false)
 true_or_false true = inl refl
 true_or_false false = inr refl
 
--- What all rows pass, one that is found does.
+-- A row that is found passes what all rows pass.
 abbrev pub row : State → Kind → Direction → State → Row
 row q k d s = record { state = q; kind = k; direction = d; next = s }
 
 module _ (f : Row → Bool) (q : State) (k : Kind) (d : Direction) where
-  same_row : (r : Row) → (sameb states r.state q && (sameb kinds r.kind k && sameb directions r.direction d)) ≡ true
+  same_row : (r : Row)
+      → (sameb states r.state q && (sameb kinds r.kind k && sameb directions r.direction d)) ≡ true
       → f r ≡ true → f (row q k d r.next) ≡ true
   same_row r t h =
       let a : (sameb states r.state q ≡ true)
       × ((sameb kinds r.kind k && sameb directions r.direction d) ≡ true) = both_and _ _ t in
-      let b : (sameb kinds r.kind k ≡ true) × (sameb directions r.direction d ≡ true) = both_and _ _ a.1 in
+      let b : (sameb kinds r.kind k ≡ true) × (sameb directions r.direction d ≡ true) =
+      both_and _ _ a.1 in
       subst (λ x. f (row q k x r.next) ≡ true) (same_true directions tt r.direction d b.1)
       (subst (λ x. f (row q x r.direction r.next) ≡ true) (same_true kinds tt r.kind k b.0)
-      (subst (λ x. f (row x r.kind r.direction r.next) ≡ true) (same_true states tt r.state q a.0) h))
+      (subst (λ x. f (row x r.kind r.direction r.next) ≡ true)
+      (same_true states tt r.state q a.0) h))
 
-  found_by : (t : Bool) (r : Row) (rest : Option State) (s : State) → (t ≡ true → f (row q k d r.next) ≡ true)
+  found_by : (t : Bool) (r : Row) (rest : Option State) (s : State)
+      → (t ≡ true → f (row q k d r.next) ≡ true)
       → (rest ≡ Some s → f (row q k d s) ≡ true) → (if t then Some r.next else rest) ≡ Some s
       → f (row q k d s) ≡ true
-  found_by true r rest s g h e = let i : r.next ≡ s = cc in subst (λ x. f (row q k d x) ≡ true) i (g refl)
+  found_by true r rest s g h e = let i : r.next ≡ s = cc in
+      subst (λ x. f (row q k d x) ≡ true) i (g refl)
   found_by false r rest s g h e = h e
 
-  found_passes : (rows : List Row) (s : State) → list_all f rows ≡ true → next_after rows q k d ≡ Some s
+  found_passes : (rows : List Row) (s : State) → list_all f rows ≡ true
+      → next_after rows q k d ≡ Some s
       → f (row q k d s) ≡ true
   found_passes [] s t e = cc
   found_passes (r ∷ rows) s t e =
       let a : (f r ≡ true) × (list_all f rows ≡ true) = both_and (f r) (list_all f rows) t in
-      found_by (sameb states r.state q && (sameb kinds r.kind k && sameb directions r.direction d)) r
+      found_by (sameb states r.state q && (sameb kinds r.kind k && sameb directions r.direction d))
+      r
       (next_after rows q k d) s (λ u. same_row r u a.0) (found_passes rows s a.1) e
 
 abbrev pub is_some : Option State → Bool
@@ -101,12 +108,13 @@ goes_by q l (Some s) e = inl (
   ap is_some (sym (next_is q l) ∙ e),
   λ f t. found_passes f q l.kind l.direction ROWS s t e,
 )
-goes_by q l None e = inr (ap (λ o. row_or o (rule q l.kind l.direction)) e, ap is_some (sym (next_is q l) ∙ e))
+goes_by q l None e =
+    inr (ap (λ o. row_or o (rule q l.kind l.direction)) e, ap is_some (sym (next_is q l) ∙ e))
 
 pub goes : (q : State) (l : Symbol) → GoesByRow q l ⊎ GoesByRule q l
 goes q l = goes_by q l (next_after ROWS q l.kind l.direction) refl
 
--- Sorts of outcomes.
+-- Classes of outcomes.
 abbrev pub is_done : Outcome → Bool
 is_done outcome.Full = true
 is_done outcome.Resumed = true
@@ -119,7 +127,7 @@ is_alive o = is_waiting o || is_done o
 pub waiting_is : (o : Outcome) → is_waiting o ≡ true → o ≡ outcome.Waiting
 waiting_is = elim [ outcome.Waiting ↦ λ h. refl | _ ↦ λ h. cc ]
 
--- The kinds of messages that stop a handshake, and what they make of it: a fatal alert, and a message that isn't known.
+-- The kinds that stop a handshake, and their outcomes: a fatal alert, and an unknown message.
 abbrev pub stopping : Bool → Kind
 stopping true = kind.Fatal
 stopping false = kind.Unknown
@@ -133,7 +141,8 @@ is_stopping kind.Fatal = true
 is_stopping kind.Unknown = true
 is_stopping _ = false
 
--- A row stands at a state that waits, has neither noise nor what stops a handshake, and leads to no failure.
+-- Each row starts at a waiting state, has neither noise nor a kind that stops a handshake, and
+-- leads to no failure.
 abbrev row_test : Row → Bool
 row_test r = (is_waiting (outcome_at r.state) && is_alive (outcome_at r.next)) &&
     (not (is_noise_of r.kind r.direction) && not (is_stopping r.kind))
@@ -157,13 +166,16 @@ module _ (q : State) (l : Symbol) (r : GoesByRow q l) where
   row_lives = (both_and (is_waiting (outcome_at q)) (is_alive (outcome_at r.0)) parts.0).1
 
   pub row_speaks : is_noise l ≡ false
-  row_speaks = not_true (is_noise l) (both_and (not (is_noise l)) (not (is_stopping l.kind)) parts.1).0
+  row_speaks =
+      not_true (is_noise l) (both_and (not (is_noise l)) (not (is_stopping l.kind)) parts.1).0
 
   row_goes_on : is_stopping l.kind ≡ false
-  row_goes_on = not_true (is_stopping l.kind) (both_and (not (is_noise l)) (not (is_stopping l.kind)) parts.1).1
+  row_goes_on =
+      not_true (is_stopping l.kind) (both_and (not (is_noise l)) (not (is_stopping l.kind)) parts.1).1
 
--- An end stays, whatever follows.
-rule_stays : (o : Outcome) (q : State) (k : Kind) (d : Direction) → is_waiting o ≡ false → rule_by o q k d ≡ q
+-- A final state stays, whatever follows.
+rule_stays : (o : Outcome) (q : State) (k : Kind) (d : Direction) → is_waiting o ≡ false
+    → rule_by o q k d ≡ q
 rule_stays = elim [ outcome.Waiting ↦ λ q k d h. cc | _ ↦ λ q k d h. refl ]
 
 pub end_stays : (q : State) (l : Symbol) → is_waiting (outcome_at q) ≡ false → step q l ≡ q
@@ -176,15 +188,17 @@ pub run_stays : (q : State) (w : Word) → is_waiting (outcome_at q) ≡ false �
 run_stays q [] h = refl
 run_stays q (l ∷ w) h = ap (λ r. run step r w) (end_stays q l h) ∙ run_stays q w h
 
--- The rule at a state that waits.
+-- The rule at a waiting state.
 pub rule_waiting : (q : State) (l : Symbol) → is_waiting (outcome_at q) ≡ true
     → rule q l.kind l.direction ≡ unended_rule q l.kind (is_noise l)
 rule_waiting q l h = ap (λ o. rule_by o q l.kind l.direction) (waiting_is (outcome_at q) h)
 
 -- What stops a handshake.
 alive_not_stopped : (t : Bool) (o : Outcome) → is_alive o ≡ true → o ≡ stopped t → ⊥
-alive_not_stopped true o h e = let k : is_alive outcome.BrokenOff ≡ true = subst (λ p. is_alive p ≡ true) e h in cc
-alive_not_stopped false o h e = let k : is_alive outcome.Unknown ≡ true = subst (λ p. is_alive p ≡ true) e h in cc
+alive_not_stopped true o h e = let k : is_alive outcome.BrokenOff ≡ true =
+    subst (λ p. is_alive p ≡ true) e h in cc
+alive_not_stopped false o h e = let k : is_alive outcome.Unknown ≡ true =
+    subst (λ p. is_alive p ≡ true) e h in cc
 
 alive_if_waiting : (o : Outcome) → is_waiting o ≡ true → is_alive o ≡ true
 alive_if_waiting o h = ap (λ t. t || is_done o) h
@@ -201,7 +215,8 @@ unknown_stops : (t : Bool) → outcome.Unknown ≡ stopped t → kind.Unknown �
 unknown_stops true e = cc
 unknown_stops false e = refl
 
-unended_stops : (t : Bool) (q : State) (k : Kind) → outcome_at (unended_rule q k false) ≡ stopped t → k ≡ stopping t
+unended_stops : (t : Bool) (q : State) (k : Kind) → outcome_at (unended_rule q k false) ≡ stopped t
+    → k ≡ stopping t
 unended_stops t q = elim [
   | kind.Fatal ↦ fatal_stops t
   | kind.Unknown ↦ unknown_stops t
@@ -210,15 +225,18 @@ unended_stops t q = elim [
 
 rule_stops : (t n : Bool) (q : State) (k : Kind) → is_waiting (outcome_at q) ≡ true
     → outcome_at (unended_rule q k n) ≡ stopped t → k ≡ stopping t
-rule_stops t true q k h e = absurd (alive_not_stopped t (outcome_at q) (alive_if_waiting (outcome_at q) h) e)
+rule_stops t true q k h e =
+    absurd (alive_not_stopped t (outcome_at q) (alive_if_waiting (outcome_at q) h) e)
 rule_stops t false q k h e = unended_stops t q k e
 
 pub stopped_by : (t : Bool) (q : State) (l : Symbol) → is_waiting (outcome_at q) ≡ true
     → outcome_at (step q l) ≡ stopped t → l ≡ symbol (stopping t) l.direction
 stopped_by t q l h e = elim (goes q l) [
-  | inl r ↦ absurd (alive_not_stopped t (outcome_at r.0) (row_lives q l r) (ap outcome_at (sym r.1) ∙ e))
+  | inl r ↦ absurd
+      (alive_not_stopped t (outcome_at r.0) (row_lives q l r) (ap outcome_at (sym r.1) ∙ e))
   | inr r ↦ symbol_is l (symbol (stopping t) l.direction)
-      (rule_stops t (is_noise l) q l.kind h (ap outcome_at (sym (r.0 ∙ rule_waiting q l h)) ∙ e)) refl
+      (rule_stops t (is_noise l) q l.kind h (ap outcome_at (sym (r.0 ∙ rule_waiting q l h)) ∙ e))
+      refl
 ]
 
 abbrev pub stopped_if_waiting : Bool → Outcome → Outcome
@@ -246,17 +264,20 @@ stopping_stops t q d = elim (goes q (symbol (stopping t) d)) [
   | inr r ↦ ap outcome_at r.0 ∙ rule_by_stopping t q d (outcome_at q) refl
 ]
 
--- What a state waits for: the symbols of its rows, by which a handshake comes or can still come.
+-- What a state waits for: the symbols of its rows, with which a handshake is complete or can still
+-- come.
 unended_fails : (q : State) (k : Kind) → is_alive (outcome_at (unended_rule q k false)) ≡ false
 unended_fails q = elim [ kind.Fatal ↦ refl | kind.Unknown ↦ refl | _ ↦ refl ]
 
-rule_fails : (q : State) (n : Bool) (k : Kind) → (not n && is_alive (outcome_at (unended_rule q k n))) ≡ false
+rule_fails : (q : State) (n : Bool) (k : Kind)
+    → (not n && is_alive (outcome_at (unended_rule q k n))) ≡ false
 rule_fails q true k = refl
 rule_fails q false k = unended_fails q k
 
 rule_awaits : (o : Outcome) (q : State) (k : Kind) (d : Direction)
     → (is_waiting o && (not (is_noise_of k d) && is_alive (outcome_at (rule_by o q k d)))) ≡ false
-rule_awaits = elim [ outcome.Waiting ↦ λ q k d. rule_fails q (is_noise_of k d) k | _ ↦ λ q k d. refl ]
+rule_awaits =
+    elim [ outcome.Waiting ↦ λ q k d. rule_fails q (is_noise_of k d) k | _ ↦ λ q k d. refl ]
 
 abbrev pub awaits : State → Symbol → Bool
 awaits q l = is_waiting (outcome_at q) && (not (is_noise l) && is_alive (outcome_at (step q l)))
@@ -268,8 +289,11 @@ all_three false b c e f g = cc
 
 pub symbol_awaited : (q : State) (l : Symbol) → has_symbol (rows_of q) l ≡ awaits q l
 symbol_awaited q l = elim (goes q l) [
-  | inl r ↦ r.2 ∙ sym (all_three (is_waiting (outcome_at q)) (is_noise l) (is_alive (outcome_at (step q l)))
-      (row_waits q l r) (row_speaks q l r) (ap (λ s. is_alive (outcome_at s)) r.1 ∙ row_lives q l r))
-  | inr r ↦ r.1 ∙ sym (ap (λ s. is_waiting (outcome_at q) && (not (is_noise l) && is_alive (outcome_at s))) r.0
+  | inl r ↦ r.2
+      ∙ sym (all_three (is_waiting (outcome_at q)) (is_noise l) (is_alive (outcome_at (step q l)))
+      (row_waits q l r) (row_speaks q l r)
+      (ap (λ s. is_alive (outcome_at s)) r.1 ∙ row_lives q l r))
+  | inr r ↦ r.1
+      ∙ sym (ap (λ s. is_waiting (outcome_at q) && (not (is_noise l) && is_alive (outcome_at s))) r.0
       ∙ rule_awaits (outcome_at q) q l.kind l.direction)
 ]

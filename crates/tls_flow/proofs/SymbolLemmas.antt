@@ -1,4 +1,4 @@
--- Symbols are the same or not, which computes; and all of them.
+-- Equality of symbols is decidable by computation; the list of all symbols.
 use Rattle.std.proofs.Common.{◌≡◌, List, [], ◌∷◌, ◌++◌, map, Bool, true, refl, ap, subst}
 use Rattle.std.specs.List.{list_all}
 use Rattle.tls_words.proofs.SymbolLemmas.{decided, is_in, passes_in}

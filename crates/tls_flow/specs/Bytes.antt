@@ -1,4 +1,4 @@
--- Handshake messages as symbols by their bytes.
+-- The kind of a handshake message, from its bytes.
 use Rattle.std.specs.Prelude.{ℕ, Option, Some, None, Ok, Err, if◌then◌else◌, ◌==◌}
 use Rattle.std.specs.Option.{option_map}
 use Rattle.layouts.specs.Bytes.{Bytes}
@@ -13,7 +13,7 @@ use Rattle.tls_flow.specs.declared.handshake.HandshakeMessage as rust
 use Rattle.tls_flow.specs.declared.symbol.Kind.{Kind}
 use Rattle.tls_flow.specs.declared.symbol.Kind.TheVariants as kind
 
--- A whole handshake message (RFC 8446, 4): its type, its body, and the ServerHello that it is, where that is read.
+-- A whole handshake message (RFC 8446, 4): its type, its body, and its ServerHello if that parses.
 pub record HandshakeMessage : Type 0 where
   pub msg_type : ℕ
   pub body : Bytes
@@ -26,7 +26,7 @@ view_heard m = record {
   server_hello = option_map (λ h. handshakes.view_handshake h.message) m.server_hello;
 }
 
--- A ServerHello of TLS that is refused may be that of a draft of TLS 1.3. What stands behind it isn't looked at.
+-- A ServerHello that TLS refuses may be one of a draft of TLS 1.3. Bytes after it don't matter.
 abbrev pub draft_hello : Answer handshakes.Handshake → Option handshakes.Handshake
 draft_hello (Ok x) = Some x.0
 draft_hello (Err e) = None
@@ -38,7 +38,7 @@ hello_or_draft (Err e) body = draft_hello (reading handshakes.server_hello_of_dr
 abbrev pub server_hello_in : Bytes → Option handshakes.Handshake
 server_hello_in body = hello_or_draft (reading handshakes.server_hello_body body) body
 
--- The message of TLS with that type and body.
+-- The TLS message with this type and body.
 abbrev pub stream_message : ℕ → Bytes → HandshakeMessage
 stream_message n body = record {
   msg_type = n;
@@ -50,14 +50,14 @@ abbrev pub kind_of_hello : Option handshakes.Handshake → Kind
 kind_of_hello (Some h) = kind_of_handshake h
 kind_of_hello None = kind.Unknown
 
--- Its kind: a ServerHello is told apart by its content, and one that is refused isn't known.
+-- Its kind in TLS. A ServerHello's content decides; a refused ServerHello is Unknown.
 abbrev pub kind_in_stream : HandshakeMessage → Kind
 kind_in_stream m = if m.msg_type == 2 then kind_of_hello m.server_hello else kind_of_type m.msg_type
 
 abbrev pub kind_of_body : ℕ → Bytes → Kind
 kind_of_body n body = kind_in_stream (stream_message n body)
 
--- In DTLS a ServerHello is read whatever its version.
+-- DTLS parses a ServerHello whatever its version.
 abbrev pub hello_of_any : Answer servers.ServerHello → Option handshakes.Handshake
 hello_of_any (Ok x) = Some (handshakes.ServerHello x.0)
 hello_of_any (Err e) = None
@@ -65,7 +65,7 @@ hello_of_any (Err e) = None
 abbrev pub datagram_hello_in : Bytes → Option handshakes.Handshake
 datagram_hello_in body = hello_of_any (reading servers.server_hello_any body)
 
--- The message of DTLS with that type and body.
+-- The DTLS message with this type and body.
 abbrev pub datagram_message : ℕ → Bytes → HandshakeMessage
 datagram_message n body = record {
   msg_type = n;
@@ -73,7 +73,7 @@ datagram_message n body = record {
   server_hello = if n == 2 then datagram_hello_in body else None;
 }
 
--- Its kind: a ServerHello that is refused counts by its type.
+-- Its kind in DTLS. A refused ServerHello counts by its type.
 abbrev pub kind_of_datagram_hello : Option handshakes.Handshake → Kind
 kind_of_datagram_hello (Some h) = kind_of_handshake h
 kind_of_datagram_hello None = kind.ServerHello
@@ -89,7 +89,7 @@ abbrev pub kind_of_datagrams : Option HandshakeMessage → Kind
 kind_of_datagrams (Some m) = kind_in_datagrams m
 kind_of_datagrams None = kind.Unknown
 
--- The message of TLS that stands in bytes: its type, 3 bytes of length, and its body.
+-- The TLS message in these bytes: a type, a length of 3 bytes, and the body.
 abbrev pub message_of_raw : Answer Framed → Option HandshakeMessage
 message_of_raw (Ok x) = Some (stream_message x.0.kind x.0.content)
 message_of_raw (Err e) = None
@@ -97,7 +97,7 @@ message_of_raw (Err e) = None
 abbrev pub message_of : Bytes → Option HandshakeMessage
 message_of b = message_of_raw (reading raw_handshake b)
 
--- The kind of one by its bytes: where it isn't whole it isn't known.
+-- The kind of a message by its bytes; Unknown if it isn't whole.
 abbrev pub kind_of_message : Option HandshakeMessage → Kind
 kind_of_message (Some m) = kind_in_stream m
 kind_of_message None = kind.Unknown

@@ -1,4 +1,4 @@
--- Events as a flow is told them: of a kind alone, and of an alert.
+-- Events with a kind alone, and events of alerts.
 use Rattle.std.specs.Prelude.{Some, None}
 use Rattle.tls_base.specs.Alert.{Alert}
 use Rattle.tls_flow.specs.Symbols.{symbol}
@@ -7,9 +7,10 @@ use Rattle.tls_flow.specs.declared.event.Event.{Event}
 use Rattle.tls_flow.specs.declared.symbol.Kind.{Kind}
 use Rattle.tls_flow.specs.declared.symbol.Direction.{Direction}
 
--- No alert.
+-- An event that is no alert.
 abbrev pub plain : Kind → Direction → Event
 plain k s = record { symbol = symbol k s; alert = None }
 
 abbrev pub of_alert : Alert → Direction → Event
-of_alert a s = record { symbol = symbol (kind_of_alert a) s; alert = Some (record { 0 = a.description }) }
+of_alert a s =
+    record { symbol = symbol (kind_of_alert a) s; alert = Some (record { 0 = a.description }) }

@@ -1,4 +1,4 @@
--- Messages as symbols, apart from where they lie in memory.
+-- The symbols of messages, wherever these lie in memory.
 use Rattle.std.specs.Prelude.{
   ℕ,
   List,
@@ -34,13 +34,14 @@ use Rattle.tls_flow.specs.declared.symbol.Kind.TheVariants as kind
 use Rattle.tls_flow.specs.declared.symbol.Direction.{Direction}
 use Rattle.tls_flow.specs.declared.symbol.Direction.TheVariants.{ToServer, FromServer}
 
--- The version that the server picks (RFC 8446, 4.2.1) is TLS 1.3, 0x0304, a draft of it, 0x7f and the draft's number, or DTLS 1.3, 0xfefc
--- (RFC 9147, 5.4).
+-- The version that the server picks (RFC 8446, 4.2.1) is TLS 1.3 (0x0304), a draft of it (0x7f and
+-- the draft's number), or DTLS 1.3 (0xfefc; RFC 9147, 5.4).
 abbrev pub is_tls13_version : Bytes → Bool
-is_tls13_version (major ∷ minor ∷ []) = (major == 3 && minor == 4) || major == 127 || (major == 0xfe && minor == 0xfc)
+is_tls13_version (major ∷ minor ∷ []) = (major == 3 && minor == 4) || major == 127
+    || (major == 0xfe && minor == 0xfc)
 is_tls13_version _ = false
 
--- The extension supported_versions, which names such a version.
+-- The extension is supported_versions and names such a version.
 abbrev pub picks_tls13 : Framed → Bool
 picks_tls13 e = e.kind == supported_versions && is_tls13_version e.content
 
@@ -48,7 +49,8 @@ abbrev pub any_picks : List Framed → Bool
 any_picks [] = false
 any_picks (e ∷ es) = if picks_tls13 e then true else any_picks es
 
--- One of the extensions of the block b does (RFC 8446, 4.2). What stands behind bytes that are no extension isn't looked at.
+-- An extension of the block b picks TLS 1.3 (RFC 8446, 4.2). The list ends at bytes that are no
+-- extension.
 abbrev pub picks_in : Bytes → Bool
 picks_in b = any_picks (items_in raw_extension b)
 
@@ -56,15 +58,17 @@ abbrev pub picks : Option Bytes → Bool
 picks (Some block) = picks_in block
 picks None = false
 
--- A HelloRetryRequest is told by its random (RFC 8446, 4.1.3), a ServerHello of TLS 1.3 by the version that it picks.
+-- A fixed random marks a HelloRetryRequest (RFC 8446, 4.1.3); the version that it picks marks a
+-- ServerHello of TLS 1.3.
 abbrev pub kind_of_server_hello : servers.ServerHello → Kind
 kind_of_server_hello h =
     if servers.is_retry_request h then kind.HelloRetryRequest
     else if picks h.extensions then kind.ServerHello13 else kind.ServerHello
 
--- The kind of a HandshakeType (RFC 5246, 7.4; RFC 6347, 4.3.2; RFC 5077, 3.3; RFC 6066, 8), of TLS 1.3 (RFC 8446, 4) and its
--- drafts, of which none comes in the clear before a handshake's end but the HelloRetryRequest of drafts, 6 (draft-ietf-tls-tls13-19, 4.1.4). Of a
--- ServerHello this is the kind of one below TLS 1.3.
+-- The kind of a HandshakeType (RFC 5246, 7.4; RFC 6347, 4.3.2; RFC 5077, 3.3; RFC 6066, 8; RFC
+-- 8446, 4, and its drafts). Of those that only TLS 1.3 has, just the HelloRetryRequest of drafts,
+-- 6, comes in the clear before the handshake's end (draft-ietf-tls-tls13-19, 4.1.4). A ServerHello
+-- counts as one below TLS 1.3.
 abbrev pub kind_of_type : ℕ → Kind
 kind_of_type n =
     if n == 0 then kind.HelloRequest
@@ -84,14 +88,15 @@ kind_of_type n =
     else if handshakes.is_read n then kind.Other
     else kind.Unknown
 
--- That of its type, but for a ServerHello, of which draft 18 of TLS 1.3 has one of its own (draft-ietf-tls-tls13-18, 4.1.3).
+-- The kind of a message's type, except for a ServerHello. Draft 18 of TLS 1.3 has a separate form
+-- of it (draft-ietf-tls-tls13-18, 4.1.3).
 abbrev pub kind_of_handshake : handshakes.Handshake → Kind
 kind_of_handshake (handshakes.ServerHello hello) = kind_of_server_hello hello
 kind_of_handshake (handshakes.ServerHelloV13Draft18 hello) = kind.ServerHello13
 kind_of_handshake m = kind_of_type (msg_type_of m)
 
--- Level 1 is a warning, unless it is close_notify, 0, behind which its sender says nothing (RFC 5246, 7.2.1), or the
--- no_certificate of SSL 3.0, 41 (RFC 6101, 5.6.6).
+-- Level 1 is a warning, except for close_notify (0), after which its sender sends nothing more (RFC
+-- 5246, 7.2.1), and the no_certificate (41) of SSL 3.0 (RFC 6101, 5.6.6).
 abbrev pub kind_of_alert : Alert → Kind
 kind_of_alert a =
     if not (a.level == 1) then kind.Fatal
@@ -109,7 +114,7 @@ abbrev pub direction : Bool → Direction
 direction true = ToServer
 direction false = FromServer
 
--- The symbol of a message that was read from bytes, and whether it goes to the server.
+-- The symbol of a message parsed from bytes; the Bool is whether it goes to the server.
 abbrev pub symbol_of_viewed : messages.Message → Bool → Symbol
 symbol_of_viewed m to_server = symbol (kind_of m) (direction to_server)
 

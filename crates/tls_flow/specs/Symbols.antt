@@ -1,4 +1,4 @@
--- What the rules of a conversation see of a message: its kind, and which side it goes to.
+-- What the grammar sees of a message: its kind, and the side it goes to.
 use Rattle.std.specs.Prelude.{List, map}
 use Rattle.tls_flow.specs.declared.symbol.Kind.{Kind}
 use Rattle.tls_flow.specs.declared.symbol.Direction.{Direction}

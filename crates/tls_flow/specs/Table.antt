@@ -1,4 +1,4 @@
--- What the table of transitions answers, and the rules for what stands in no row.
+-- What the table of transitions answers, and the rules for symbols without a row.
 use Rattle.std.specs.Prelude.{
   ◌≡◌,
   ℕ,
@@ -32,31 +32,33 @@ use Rattle.tls_flow.specs.contracts.symbol.Kind.{the_type as kinds}
 use Rattle.tls_flow.specs.contracts.symbol.Direction.{the_type as directions}
 use denote.Enum.Bare.{sameb}
 
--- Where the first row of this kind and direction leads.
+-- Where the first row with this kind and direction leads.
 abbrev pub next_in : List Row → Kind → Direction → Option State
 next_in [] k d = None
 next_in (r ∷ rows) k d =
     if sameb kinds r.kind k && sameb directions r.direction d then Some r.next else next_in rows k d
 
--- Where the first row of this state, kind and direction leads.
+-- Where the first row with this state, kind and direction leads.
 abbrev pub next_after : List Row → State → Kind → Direction → Option State
 next_after [] q k d = None
 next_after (r ∷ rows) q k d = if sameb states r.state q &&
-    (sameb kinds r.kind k && sameb directions r.direction d) then Some r.next else next_after rows q k d
+    (sameb kinds r.kind k && sameb directions r.direction d) then
+    Some r.next else next_after rows q k d
 
 -- The symbols of a state's rows: what it waits for.
 abbrev pub awaited_in : List Row → State → List Symbol
 awaited_in [] q = []
 awaited_in (r ∷ rows) q =
-    if sameb states r.state q then symbol r.kind r.direction ∷ awaited_in rows q else awaited_in rows q
+    if sameb states r.state q then
+    symbol r.kind r.direction ∷ awaited_in rows q else awaited_in rows q
 
--- No state, kind and direction stand in two rows.
+-- No two rows have the same state, kind and direction.
 abbrev pub IsOneRowEach : List Row → Type 0
 IsOneRowEach rows =
     (i j : ℕ) (r s : Row) → slice_get rows i ≡ Some r → slice_get rows j ≡ Some s
     → r.state ≡ s.state → r.kind ≡ s.kind → r.direction ≡ s.direction → i ≡ j
 
--- How a conversation stands at a state.
+-- The outcome of a state.
 abbrev pub outcome_at : State → Outcome
 outcome_at state.Full = outcome.Full
 outcome_at state.Resumed = outcome.Resumed
@@ -73,15 +75,15 @@ abbrev pub is_waiting : Outcome → Bool
 is_waiting outcome.Waiting = true
 is_waiting _ = false
 
--- It ended without success.
+-- An end without success.
 abbrev pub is_failed : Outcome → Bool
 is_failed outcome.BrokenOff = true
 is_failed outcome.Unknown = true
 is_failed outcome.NoHandshake = true
 is_failed _ = false
 
--- What a message does where the table has no row for it: an end stays, noise keeps the state, a fatal alert breaks off, and
--- what isn't known is told as such.
+-- Without a row: a final state and noise change nothing, a fatal alert breaks off the handshake, an
+-- unknown message gives Unknown, and any other NoHandshake.
 abbrev pub unended_rule : State → Kind → Bool → State
 unended_rule q k true = q
 unended_rule q kind.Fatal false = state.BrokenOff
@@ -99,6 +101,6 @@ abbrev pub row_or : Option State → State → State
 row_or (Some q) r = q
 row_or None r = r
 
--- The state after a message.
+-- The state after a symbol.
 abbrev pub step : State → Symbol → State
 step q l = row_or (next_after ROWS q l.kind l.direction) (rule q l.kind l.direction)

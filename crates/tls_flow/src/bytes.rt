@@ -1,4 +1,4 @@
-//! Handshake messages as symbols by their bytes, without memory.
+//! The kind of a handshake message, from its bytes and without allocation.
 ghost use Rattle.std.specs.Prelude.{◌≡◌};
 ghost use Rattle.tls_flow.specs.Bytes.{kind_of_bytes, kind_of_body, kind_of_datagram_body};
 ghost use Rattle.tls_flow.specs.Messages.{kind_of_type};
@@ -9,7 +9,8 @@ use tls_base::TlsHandshakeType;
 use tls_hs::TlsMessageHandshake;
 
 impl Kind {
-    /// The kind of a handshake message by its type alone: of a ServerHello that of one below TLS 1.3.
+    /// The kind of a handshake message by its type alone. A ServerHello counts as one below TLS
+    /// 1.3.
     pub fn of_type(msg_type: TlsHandshakeType) -> Kind
         ensures { result ≡ kind_of_type msg_type.0 }
     {
@@ -33,21 +34,24 @@ impl Kind {
         }
     }
 
-    /// The kind of a handshake message of TLS with that type and body. A ServerHello is read, also one of a draft of TLS 1.3.
+    /// The kind of a TLS handshake message with this type and body. A ServerHello is parsed,
+    /// including those of the drafts of TLS 1.3.
     pub fn of_body(msg_type: TlsHandshakeType, body: &[u8]) -> Kind
         ensures { result ≡ kind_of_body msg_type.0 body.now }
     {
         HandshakeMessage::of_stream(msg_type, body).kind()
     }
 
-    /// The kind of a handshake message of DTLS with that type and body. A ServerHello is read, whatever its version.
+    /// The kind of a DTLS handshake message with this type and body. A ServerHello is parsed
+    /// whatever its version.
     pub fn of_datagram_body(msg_type: TlsHandshakeType, body: &[u8]) -> Kind
         ensures { result ≡ kind_of_datagram_body msg_type.0 body.now }
     {
         HandshakeMessage::of_datagrams(msg_type, body).datagram_kind()
     }
 
-    /// The kind of a whole handshake message of TLS, its header of 4 bytes first; [`Kind::Unknown`] where it isn't whole.
+    /// The kind of a TLS handshake message that starts with its header of 4 bytes;
+    /// [`Kind::Unknown`] if it isn't whole.
     pub fn of_bytes(message: &[u8]) -> Kind
         ensures { result ≡ kind_of_bytes message.now }
     {

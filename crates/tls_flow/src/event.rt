@@ -1,4 +1,4 @@
-//! What a flow is told of a message.
+//! What a flow takes as input: a symbol, and the code of an alert.
 ghost use Rattle.std.specs.Prelude.{◌≡◌, Some, None};
 ghost use Rattle.tls_base.specs.Alert.{view_alert};
 ghost use Rattle.tls_flow.specs.Symbols.{symbol};
@@ -12,14 +12,14 @@ use tls_hs::TlsMessage;
 /// A message of a conversation, as far as a flow looks at it.
 #[derive(Clone, Copy, Debug, PartialEq)]
 pub struct Event {
-    /// Its kind, and which side it goes to.
+    /// Its kind, and the side it goes to.
     pub symbol: Symbol,
-    /// What the alert says, where it is one.
+    /// The description of an alert; `None` for other messages.
     pub alert: Option<TlsAlertDescription>,
 }
 
 impl Event {
-    /// A message of that kind which is no alert, or an alert of which no more is known.
+    /// An event of this kind without an alert description.
     #[inline]
     pub fn new(kind: Kind, direction: Direction) -> Event
         ensures symbol { result.symbol ≡ symbol kind direction }
@@ -31,7 +31,7 @@ impl Event {
         }
     }
 
-    /// An alert in the clear.
+    /// The event of an alert in the clear.
     #[inline]
     pub fn of_alert(alert: &TlsMessageAlert, direction: Direction) -> Event
         ensures symbol { result.symbol ≡ symbol (kind_of_alert (view_alert alert.now)) direction }
@@ -46,8 +46,9 @@ impl Event {
         }
     }
 
-    /// A whole handshake message of TLS by its bytes, its header of 4 bytes first. It is told by its type, and a ServerHello
-    /// by its content too. [`Kind::Unknown`] where the type is none that is read, or a ServerHello is refused.
+    /// The event of a whole TLS handshake message, from its bytes with the header of 4 bytes. The
+    /// type gives its kind; for a ServerHello the content does too. The kind is [`Kind::Unknown`]
+    /// if the type isn't one that is parsed, or if a ServerHello is refused.
     #[inline]
     pub fn of_handshake(message: &[u8], direction: Direction) -> Event
         ensures symbol { result.symbol ≡ symbol (kind_of_bytes message.now) direction }
@@ -56,8 +57,9 @@ impl Event {
         Event::new(Kind::of_bytes(message), direction)
     }
 
-    /// A message that was read, in front of its sender's ChangeCipherSpec; `to_server` says that it goes to the server. What
-    /// its sender says behind it is [`Kind::Encrypted`], whatever its bytes look like.
+    /// The event of a parsed message that its sender sent before its ChangeCipherSpec; `to_server`
+    /// is whether it goes to the server. After the ChangeCipherSpec use [`Kind::Encrypted`],
+    /// whatever the bytes look like.
     #[inline]
     pub fn of(message: &TlsMessage<'_>, to_server: bool) -> Event
         ensures { result.symbol ≡ symbol_of message.now to_server }

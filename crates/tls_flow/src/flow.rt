@@ -1,4 +1,4 @@
-//! A conversation that is followed.
+//! The state of one conversation.
 ghost use Rattle.std.specs.Prelude.{◌≡◌, ◌↔◌, List, Contains};
 ghost use Rattle.tls_flow.specs.Conversations.{IsOutcome, IsStop, IsAwaited};
 ghost use Rattle.tls_flow.specs.Symbols.{symbols_of};
@@ -17,16 +17,16 @@ use crate::step::{is_failed, is_waiting};
 use crate::symbol::Symbol;
 use crate::table::{awaited, next_state};
 
-/// The event that ended a handshake without success, as [`Outcome`] says.
+/// The event that ended a handshake without success, for the outcomes of [`Flow::stop`].
 #[derive(Clone, Copy, Debug, PartialEq)]
 pub struct Stop {
-    /// The alert that broke it off, the message that isn't known, or the first that didn't fit.
+    /// The fatal alert, the unknown message, or the first message that didn't fit.
     pub event: Event,
-    /// How many events came before it; 2^64 - 1 where they are more.
+    /// How many events came before it, saturating at 2^64 - 1.
     pub place: u64,
 }
 
-/// A conversation that is followed, from its first event on.
+/// A conversation, followed from its first event.
 #[derive(Clone, Debug, PartialEq, Drop)]
 pub struct Flow {
     state: State,
@@ -35,7 +35,7 @@ pub struct Flow {
 }
 
 impl Flow {
-    /// A conversation without an event.
+    /// A conversation without events.
     pub fn new() -> Flow
         ensures { result ≡ silence }
     {
@@ -46,7 +46,8 @@ impl Flow {
         }
     }
 
-    /// A conversation at that state, none of whose events were counted: a caller that keeps states alone goes on from one.
+    /// A conversation in this state with its count of events at 0, for a caller that stores only
+    /// the state.
     pub fn at(state: State) -> Flow
         ensures { result ≡ record silence { state = state } }
     {
@@ -64,29 +65,30 @@ impl Flow {
         self.state
     }
 
-    /// How the conversation stands.
+    /// The outcome after the events so far.
     pub fn outcome(&self) -> Outcome
         ensures { result ≡ outcome_at self.now.state }
     {
         self.state.outcome()
     }
 
-    /// What stopped it, where the outcome is [`Outcome::BrokenOff`], [`Outcome::Unknown`] or [`Outcome::NoHandshake`].
+    /// The event that ended the handshake, if the outcome is [`Outcome::BrokenOff`],
+    /// [`Outcome::Unknown`] or [`Outcome::NoHandshake`].
     pub fn stop(&self) -> Option<Stop>
         ensures { result ≡ self.now.stop }
     {
         self.stop
     }
 
-    /// How many events came, those after the end too; 2^64 - 1 where they are more.
+    /// How many events came, including those after the end; saturates at 2^64 - 1.
     pub fn events(&self) -> u64
         ensures { result ≡ self.now.events }
     {
         self.events
     }
 
-    /// The symbols that it waits for: those with which a handshake comes or can still come. Besides these, noise may come.
-    /// None where the outcome isn't [`Outcome::Waiting`].
+    /// The symbols that can come next in a handshake, or complete one; noise may come besides.
+    /// Empty unless the outcome is [`Outcome::Waiting`].
     pub fn awaited(&self) -> &'static [Symbol]
         ensures rows { result.now ≡ awaited_in ROWS self.now.state }
         ensures told { (events : List Event) → self.now ≡ run_of follow silence events → (l : Symbol)
@@ -95,7 +97,7 @@ impl Flow {
         awaited(self.state)
     }
 
-    /// Follows one event. Behind an end it is counted, and nothing else changes.
+    /// Adds one event. After the end of the handshake it only counts the event.
     #[inline]
     pub fn update(&mut self, event: Event)
         ensures { self.new ≡ follow self.old event }
@@ -112,20 +114,24 @@ impl Flow {
         self.events = self.events.saturating_add(1);
     }
 
-    /// Follows each event in turn. Of a new conversation the outcome is told by the grammar, `specs/Grammar.antt`, and
-    /// without states. Noise, which is warnings, heartbeats and the server's HelloRequests, may stand anywhere.
+    /// Adds each event in turn. For a new conversation, the grammar in `specs/Grammar.antt` defines
+    /// the outcome, without states. Noise (warnings, heartbeats, and the server's HelloRequests) is
+    /// allowed anywhere.
     ///
-    /// - [`Outcome::Full`] where the events begin with a full handshake, [`Outcome::Resumed`] with a resumption, and
-    ///   [`Outcome::Tls13`] with one of TLS 1.3. What follows doesn't matter.
-    /// - [`Outcome::Waiting`] where they begin with none of these and can become one by further events.
-    /// - [`Outcome::BrokenOff`] where a fatal alert came while they could, and [`Outcome::Unknown`] where a message did that
-    ///   isn't known.
-    /// - [`Outcome::NoHandshake`] where they neither begin with one, nor can become one, nor were stopped by such a message.
+    /// - [`Outcome::Full`] if the events begin with a full handshake, [`Outcome::Resumed`] with a
+    ///   resumption, and [`Outcome::Tls13`] with one of TLS 1.3. What follows doesn't matter.
+    /// - [`Outcome::Waiting`] if they begin with none of these and further events can still
+    ///   complete one.
+    /// - [`Outcome::BrokenOff`] if a fatal alert came in that phase, and [`Outcome::Unknown`] if an
+    ///   unknown message did.
+    /// - [`Outcome::NoHandshake`] if they neither begin with a handshake, nor can become one, nor
+    ///   were stopped by such a message.
     ///
     /// [`Flow::stop`] is the event that made it one of the last three, and how many came before it.
     pub fn run(&mut self, events: &[Event])
         ensures by_steps { self.new ≡ run_of follow self.old events.now }
-        ensures told { self.old ≡ silence → (o : Outcome) → (outcome_at self.new.state ≡ o) ↔ IsOutcome o (symbols_of events.now) }
+        ensures told { self.old ≡ silence → (o : Outcome) → (outcome_at self.new.state ≡ o)
+            ↔ IsOutcome o (symbols_of events.now) }
         ensures stopped { self.old ≡ silence → IsStop self.new.stop events.now }
     {
         for i in 0..events.len() {
@@ -134,7 +140,7 @@ impl Flow {
     }
 }
 
-/// The outcome of a whole conversation. Exactly one holds of each.
+/// The outcome of a whole conversation. Exactly one outcome holds for each.
 pub fn outcome_of(events: &[Event]) -> Outcome
     ensures told { IsOutcome result (symbols_of events.now) }
     ensures alone { (o : Outcome) → IsOutcome o (symbols_of events.now) → o ≡ result }

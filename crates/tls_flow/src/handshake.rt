@@ -1,4 +1,4 @@
-//! Handshake messages as they are heard: each ServerHello is read once, for all who hear it.
+//! Handshake messages whose ServerHello is parsed once and shared by every consumer.
 ghost use Rattle.std.specs.Prelude.{◌≡◌};
 ghost use Rattle.std.specs.Option.{option_map};
 ghost use Rattle.tls_hs.specs.Handshake.{view_handshake};
@@ -15,29 +15,30 @@ use tls_hs::{
     parse_tls_handshake_msg_server_hello_of_draft,
 };
 
-/// A ServerHello, and the bytes that the body of its message leaves behind it.
+/// A parsed ServerHello, and the bytes that follow it in the message's body.
 #[derive(Debug, PartialEq, Drop)]
 pub struct ReadServerHello<'a> {
-    /// The ServerHello, by the form of its version.
+    /// The ServerHello, in the form of its version.
     pub message: TlsMessageHandshake<'a>,
-    /// What stands behind it in the body.
+    /// The rest of the body.
     pub rest: &'a [u8],
 }
 
-/// A whole handshake message. Its ServerHello was read, if it is one; the body of another isn't looked at.
+/// A whole handshake message. A ServerHello is parsed; the body of any other message is not.
 #[derive(Debug, PartialEq, Drop)]
 pub struct HandshakeMessage<'a> {
-    /// What its body is.
+    /// The HandshakeType.
     pub msg_type: TlsHandshakeType,
-    /// The body, without its header.
+    /// The body, without the header.
     pub body: &'a [u8],
-    /// The ServerHello; `None` where the message is another, or a ServerHello that is refused.
+    /// The ServerHello; `None` if the message is another one, or if its ServerHello is refused.
     pub server_hello: Option<ReadServerHello<'a>>,
 }
 
-/// The ServerHello of a draft of TLS 1.3.
+/// The ServerHello of a draft of TLS 1.3, if this body has one.
 fn draft_hello_of(body: &[u8]) -> Option<ReadServerHello<'_>>
-    ensures { option_map (λ h. view_handshake h.message) result ≡ draft_hello (reading handshakes.server_hello_of_draft_body body.now) }
+    ensures { option_map (λ h. view_handshake h.message) result ≡ draft_hello
+        (reading handshakes.server_hello_of_draft_body body.now) }
 {
     match parse_tls_handshake_msg_server_hello_of_draft(body) {
         Ok((rest, message)) => Some(ReadServerHello { message, rest }),
@@ -45,7 +46,7 @@ fn draft_hello_of(body: &[u8]) -> Option<ReadServerHello<'_>>
     }
 }
 
-/// The ServerHello of TLS, or of a draft of TLS 1.3.
+/// The ServerHello of TLS or of a draft of TLS 1.3, if this body has one.
 fn server_hello_of(body: &[u8]) -> Option<ReadServerHello<'_>>
     ensures { option_map (λ h. view_handshake h.message) result ≡ server_hello_in body.now }
 {
@@ -55,7 +56,7 @@ fn server_hello_of(body: &[u8]) -> Option<ReadServerHello<'_>>
     }
 }
 
-/// The ServerHello of DTLS, whatever its version.
+/// The ServerHello of DTLS, whatever its version, if this body has one.
 fn datagram_hello_of(body: &[u8]) -> Option<ReadServerHello<'_>>
     ensures { option_map (λ h. view_handshake h.message) result ≡ datagram_hello_in body.now }
 {
@@ -69,7 +70,8 @@ fn datagram_hello_of(body: &[u8]) -> Option<ReadServerHello<'_>>
 }
 
 impl<'a> HandshakeMessage<'a> {
-    /// A message of TLS with that type and body. A ServerHello is read, also one of a draft of TLS 1.3.
+    /// A TLS handshake message with this type and body. A ServerHello is parsed, including those of
+    /// the drafts of TLS 1.3.
     pub fn of_stream(msg_type: TlsHandshakeType, body: &'a [u8]) -> HandshakeMessage<'a>
         ensures { view_heard result ≡ stream_message msg_type.0 body.now }
     {
@@ -85,7 +87,8 @@ impl<'a> HandshakeMessage<'a> {
         }
     }
 
-    /// A message of DTLS with that type and body. A ServerHello is read, whatever its version.
+    /// A DTLS handshake message with this type and body. A ServerHello is parsed whatever its
+    /// version.
     pub fn of_datagrams(msg_type: TlsHandshakeType, body: &'a [u8]) -> HandshakeMessage<'a>
         ensures { view_heard result ≡ datagram_message msg_type.0 body.now }
     {
@@ -101,7 +104,8 @@ impl<'a> HandshakeMessage<'a> {
         }
     }
 
-    /// A message of TLS by its bytes, its header of 4 bytes first (RFC 8446, section 4); `None` where it isn't whole.
+    /// The TLS handshake message in bytes that start with its header of 4 bytes (RFC 8446, section
+    /// 4); `None` if it isn't whole.
     pub fn read(message: &'a [u8]) -> Option<HandshakeMessage<'a>>
         ensures { option_map view_heard result ≡ message_of message.now }
     {
@@ -111,7 +115,8 @@ impl<'a> HandshakeMessage<'a> {
         }
     }
 
-    /// Its kind as a message of TLS: [`Kind::Unknown`] where its type is none that is read, or it is a ServerHello that is refused.
+    /// Its kind as a message of TLS: [`Kind::Unknown`] if the type isn't one that is parsed, or if
+    /// a ServerHello is refused.
     pub fn kind(&self) -> Kind
         ensures { result ≡ kind_in_stream (view_heard self.now) }
     {
@@ -124,7 +129,7 @@ impl<'a> HandshakeMessage<'a> {
         }
     }
 
-    /// Its kind as a message of DTLS. A ServerHello that is refused counts by its type.
+    /// Its kind as a message of DTLS. A refused ServerHello counts by its type.
     pub fn datagram_kind(&self) -> Kind
         ensures { result ≡ kind_in_datagrams (view_heard self.now) }
     {
@@ -139,7 +144,7 @@ impl<'a> HandshakeMessage<'a> {
 }
 
 impl Kind {
-    /// The kind of a message of TLS, if there is one; else [`Kind::Unknown`].
+    /// The kind of a TLS message; [`Kind::Unknown`] for `None`.
     pub fn of_message(message: Option<&HandshakeMessage<'_>>) -> Kind
         ensures { result ≡ kind_of_message (option_map (λ m. view_heard m.now) message.entry) }
     {
@@ -149,7 +154,7 @@ impl Kind {
         }
     }
 
-    /// The same of DTLS.
+    /// The kind of a DTLS message; [`Kind::Unknown`] for `None`.
     pub fn of_datagrams(message: Option<&HandshakeMessage<'_>>) -> Kind
         ensures { result ≡ kind_of_datagrams (option_map (λ m. view_heard m.now) message.entry) }
     {

@@ -1,19 +1,24 @@
-//! Following a handshake as peers of TLS 1.0 to 1.3 and DTLS 1.0 to 1.2 speak it.
+//! Follows TLS 1.0 to 1.3 and DTLS 1.0 to 1.2 handshakes and decides how each one ends.
 //!
-//! A message and its direction are seen as a [`Symbol`]. [`Flow`] keeps where a conversation stands, and its `run` is
-//! described by a grammar of handshakes, which knows no states. Nothing here takes memory.
+//! A message with its direction is a [`Symbol`]. [`Flow`] is a state machine over symbols; nothing
+//! here allocates. The contract of [`Flow::run`] states the outcome by a grammar of handshakes
+//! (`specs/Grammar.antt` and `specs/Conversations.antt`), which has no states. The table of
+//! transitions is proved to agree with it.
 //!
-//! What a side says becomes an [`Event`]:
+//! What a side sends becomes an [`Event`]:
 //!
-//! | said | event |
+//! | sent | event |
 //! |---|---|
-//! | a handshake message of TLS, whole and in the clear | `Event::of_handshake(bytes, direction)`, or by the `kind` of a [`HandshakeMessage`] that others hear too |
-//! | the same of DTLS up to 1.2, of any order of its fragments, once | `Event::new(Kind::of_type(msg_type), direction)` |
+//! | a whole TLS handshake message in the clear | `Event::of_handshake(bytes, direction)` |
+//! | a [`HandshakeMessage`] that is already parsed | `Event::new(message.kind(), direction)` |
+//! | a whole DTLS handshake message, up to 1.2 | `Event::new(Kind::of_type(msg_type), direction)` |
 //! | an alert in the clear | `Event::of_alert(&alert, direction)` |
-//! | its ChangeCipherSpec, a heartbeat | `Kind::ChangeCipherSpec`, `Kind::Heartbeat` |
-//! | what is encrypted: behind its ChangeCipherSpec, or application data | `Kind::Encrypted` |
+//! | a ChangeCipherSpec, a heartbeat | `Kind::ChangeCipherSpec`, `Kind::Heartbeat` |
+//! | an encrypted record: after a ChangeCipherSpec, or application data | `Kind::Encrypted` |
 //! | a record or message that is refused | `Kind::Unknown` |
-//! | a message that was read | `Event::of(&message, to_server)` |
+//! | a parsed message | `Event::of(&message, to_server)` |
+//!
+//! A DTLS message is one event, whatever the order of its fragments.
 #![tactic(auto)]
 
 mod bytes;

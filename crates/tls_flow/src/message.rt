@@ -1,4 +1,4 @@
-//! Messages as symbols.
+//! The symbol of a parsed message.
 ghost use Rattle.std.specs.Prelude.{◌≡◌};
 ghost use Rattle.tls_base.specs.Alert.{view_alert};
 ghost use Rattle.tls_ext.specs.InPlace.{view_raw_extension};
@@ -13,7 +13,8 @@ use tls_base::{TlsAlertDescription, TlsAlertSeverity, TlsExtensionType, TlsMessa
 use tls_ext::RawExtension;
 use tls_hs::{TlsMessage, TlsMessageHandshake, TlsServerHelloContents};
 
-/// Whether the content of a ServerHello's supported_versions is TLS 1.3, a draft of it, or DTLS 1.3.
+/// Whether the content of a ServerHello's supported_versions is TLS 1.3, a draft of it, or DTLS
+/// 1.3.
 fn is_tls13(content: &[u8]) -> bool
     ensures { result ≡ is_tls13_version content.now }
 {
@@ -25,15 +26,15 @@ fn is_tls13(content: &[u8]) -> bool
     }
 }
 
-/// Whether an extension is supported_versions and names such a version.
+/// Whether an extension is a supported_versions that names such a version.
 fn is_pick(extension: &RawExtension<'_>) -> bool
     ensures { result ≡ picks (view_raw_extension extension.now) }
 {
     extension.extension_type == TlsExtensionType::SupportedVersions && is_tls13(extension.content)
 }
 
-/// Whether a ServerHello's block of extensions picks TLS 1.3, a draft of it, or DTLS 1.3, by supported_versions. What stands behind
-/// bytes that are no extension isn't looked at.
+/// Whether a ServerHello's block of extensions picks TLS 1.3, a draft of it, or DTLS 1.3, in
+/// supported_versions. It stops at bytes that are no extension.
 pub fn picks_tls13(block: &[u8]) -> bool
     ensures { result ≡ picks_in block.now }
 {
@@ -46,7 +47,8 @@ pub fn picks_tls13(block: &[u8]) -> bool
     false
 }
 
-/// The kind of a ServerHello: a HelloRetryRequest by its random, one of TLS 1.3 by its extension supported_versions.
+/// The kind of a ServerHello: a HelloRetryRequest by its random, one of TLS 1.3 by its
+/// supported_versions.
 #[inline(never)]
 fn kind_of_hello(hello: &TlsServerHelloContents<'_>) -> Kind
     ensures { result ≡ kind_of_server_hello (view_server_hello hello.now) }
@@ -61,7 +63,7 @@ fn kind_of_hello(hello: &TlsServerHelloContents<'_>) -> Kind
 }
 
 impl Kind {
-    /// The kind of a handshake message: that of its type, but a ServerHello is looked at apart.
+    /// The kind of a handshake message: by its type, and for a ServerHello by its content.
     #[inline]
     pub fn of_handshake(message: &TlsMessageHandshake<'_>) -> Kind
         ensures { result ≡ kind_of_handshake (view_handshake message.now) }
@@ -87,7 +89,7 @@ impl Kind {
         }
     }
 
-    /// The kind of a message that was read, which nobody encrypted.
+    /// The kind of a parsed message that is in the clear.
     #[inline]
     pub fn of(message: &TlsMessage<'_>) -> Kind
         ensures { result ≡ kind_of (view_message message.now) }
@@ -103,7 +105,7 @@ impl Kind {
 }
 
 impl Direction {
-    /// The direction of a message that goes to the server, or doesn't.
+    /// [`Direction::ToServer`] if `to_server`, else [`Direction::FromServer`].
     #[inline]
     pub fn of(to_server: bool) -> Direction
         ensures { result ≡ direction to_server }
@@ -116,8 +118,9 @@ impl Direction {
     }
 }
 
-/// The symbol of a message in front of its sender's ChangeCipherSpec; `to_server` says that it goes to the server. What its
-/// sender says behind it is [`Kind::Encrypted`], whatever its bytes look like.
+/// The symbol of a message that its sender sent before its ChangeCipherSpec; `to_server` is whether
+/// it goes to the server. After the ChangeCipherSpec use [`Kind::Encrypted`], whatever the bytes
+/// look like.
 pub fn symbol_of(message: &TlsMessage<'_>, to_server: bool) -> Symbol
     ensures { result ≡ symbol_is message.now to_server }
 {

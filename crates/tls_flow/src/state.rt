@@ -1,33 +1,34 @@
-//! Where a handshake stands.
+//! The states of a handshake, and their outcomes.
 
-/// How a conversation stands.
+/// How a conversation ended, or that it hasn't.
 #[derive(Clone, Copy, Debug, PartialEq)]
 pub enum Outcome {
-    /// A handshake is under way, or nothing was said.
+    /// A handshake is under way, or nothing was sent yet.
     Waiting,
-    /// A full handshake was done.
+    /// A full handshake completed.
     Full,
     /// A session was resumed.
     Resumed,
-    /// TLS 1.3 is spoken, up to its ServerHello.
+    /// TLS 1.3 was negotiated; the handshake is followed up to its ServerHello.
     Tls13 {
-        /// The server asked for a second ClientHello by a HelloRetryRequest.
+        /// The server sent a HelloRetryRequest, which asks for a second ClientHello.
         retried: bool,
-        /// The client sent encrypted records before the ServerHello. Whether the server took them can't be seen.
+        /// The client sent encrypted records before the ServerHello. Whether the server accepted
+        /// them isn't visible.
         early_data: bool,
     },
     /// A fatal alert broke off a handshake that was under way.
     BrokenOff,
-    /// While a handshake was under way, a message came that isn't known.
+    /// An unknown message came while a handshake was under way.
     Unknown,
-    /// What was said is no handshake, and can't become one.
+    /// The messages are no handshake and can't become one.
     NoHandshake,
 }
 
-/// Where a handshake stands. The table says which messages it waits for.
+/// The state of a handshake. The table of transitions gives the messages that each state waits for.
 #[derive(Clone, Copy, Debug, PartialEq)]
 pub enum State {
-    /// Nothing was said.
+    /// Nothing was sent yet.
     Start,
     /// After the first ClientHello.
     Hello,
@@ -41,58 +42,58 @@ pub enum State {
     EarlyHello,
     /// After a HelloRetryRequest.
     Retry,
-    /// The same, and early data.
+    /// After a HelloRetryRequest, with early data.
     EarlyRetry,
-    /// After the ClientHello behind a HelloRetryRequest.
+    /// After the ClientHello that follows a HelloRetryRequest.
     SecondHello,
-    /// The same, where there was early data.
+    /// After the ClientHello that follows a HelloRetryRequest, with early data.
     EarlySecondHello,
     /// After a ServerHello below TLS 1.3.
     ServerHello,
     /// After the server's Certificate.
     Certificate,
-    /// After its status.
+    /// After the server's CertificateStatus.
     CertificateStatus,
-    /// After a ServerKeyExchange behind a Certificate.
+    /// After a ServerKeyExchange that follows a Certificate.
     CertifiedKeys,
-    /// After a ServerKeyExchange without one.
+    /// After a ServerKeyExchange without a Certificate.
     Keys,
     /// After a CertificateRequest.
     Request,
-    /// After the ServerHelloDone behind it.
+    /// After the ServerHelloDone that follows a CertificateRequest.
     RequestDone,
     /// After the client's Certificate.
     ClientCertificate,
-    /// After the ClientKeyExchange behind it.
+    /// After the ClientKeyExchange that follows the client's Certificate.
     ClientKeys,
     /// After a ServerHelloDone without a CertificateRequest.
     Done,
-    /// After all that the client says in front of its ChangeCipherSpec.
+    /// After the client's last message before its ChangeCipherSpec.
     ClientDone,
     /// After the client's ChangeCipherSpec in a full handshake.
     ClientChange,
-    /// After the ticket behind it.
+    /// After the NewSessionTicket of a full handshake.
     Ticket,
-    /// After the ticket of a resumption.
+    /// After the NewSessionTicket of a resumption.
     ResumedTicket,
     /// After the server's ChangeCipherSpec in a resumption.
     ServerChange,
-    /// A full handshake was done.
+    /// A full handshake completed.
     Full,
     /// A session was resumed.
     Resumed,
-    /// TLS 1.3 is spoken.
+    /// TLS 1.3 was negotiated.
     Tls13,
-    /// The same, with early data.
+    /// TLS 1.3 was negotiated, with early data.
     EarlyTls13,
-    /// The same, behind a HelloRetryRequest.
+    /// TLS 1.3 was negotiated after a HelloRetryRequest.
     RetriedTls13,
-    /// The same, with both.
+    /// TLS 1.3 was negotiated after a HelloRetryRequest, with early data.
     EarlyRetriedTls13,
     /// A fatal alert broke off the handshake.
     BrokenOff,
-    /// A message came that isn't known.
+    /// An unknown message came.
     Unknown,
-    /// It is no handshake.
+    /// The messages are no handshake.
     NoHandshake,
 }

@@ -1,11 +1,11 @@
-//! How a conversation stands at a state.
+//! The outcome of each state.
 ghost use Rattle.std.specs.Prelude.{◌≡◌};
 ghost use Rattle.tls_flow.specs.Table.{is_failed as is_failed_at, is_waiting as is_waiting_at, outcome_at};
 
 use crate::state::{Outcome, State};
 
 impl State {
-    /// How a conversation stands at this state.
+    /// The outcome of a conversation in this state.
     #[inline]
     pub fn outcome(self) -> Outcome
         ensures { result ≡ outcome_at self }
@@ -37,7 +37,7 @@ impl State {
     }
 }
 
-/// Whether a handshake is under way at a state, or nothing was said.
+/// Whether a handshake is under way in this state, or nothing was sent yet.
 #[inline]
 pub(crate) fn is_waiting(state: State) -> bool
     ensures { result ≡ is_waiting_at (outcome_at state) }
@@ -56,7 +56,7 @@ pub(crate) fn is_waiting(state: State) -> bool
     )
 }
 
-/// Whether a handshake ended without success at a state.
+/// Whether this state is an end without success.
 #[inline]
 pub(crate) fn is_failed(state: State) -> bool
     ensures { result ≡ is_failed_at (outcome_at state) }

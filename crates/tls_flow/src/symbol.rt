@@ -1,6 +1,6 @@
-//! What the rules of a conversation see of a message: its kind and its direction.
+//! The symbols of the grammar: a message's kind and its direction.
 
-/// A kind of message. The kinds that no rule tells apart are one.
+/// The kind of a message. Messages that no rule distinguishes share a kind.
 #[derive(Clone, Copy, Debug, PartialEq)]
 pub enum Kind {
     /// The server asks for a ClientHello (RFC 5246, section 7.4.1.1).
@@ -11,12 +11,14 @@ pub enum Kind {
     HelloVerifyRequest,
     /// The ServerHello of a version below TLS 1.3.
     ServerHello,
-    /// The server asks for another ClientHello (RFC 8446, section 4.1.4): a ServerHello of a random of its own, or in drafts a message of its own type.
+    /// The server asks for another ClientHello (RFC 8446, section 4.1.4). It is a ServerHello with
+    /// a fixed random; drafts of TLS 1.3 have a message type for it.
     HelloRetryRequest,
-    /// The ServerHello of TLS 1.3 (RFC 8446, section 4.1.3): its extension supported_versions names it, a draft of it, or DTLS 1.3 (RFC 9147, section
-    /// 5.4); or that of drafts 14 to 21.
+    /// The ServerHello of TLS 1.3 (RFC 8446, section 4.1.3): its extension supported_versions names
+    /// TLS 1.3, a draft of it, or DTLS 1.3 (RFC 9147, section 5.4). Those of drafts 14 to 21 count
+    /// too.
     ServerHello13,
-    /// A ticket (RFC 5077, section 3.3).
+    /// A session ticket (RFC 5077, section 3.3).
     NewSessionTicket,
     /// The sender's certificates.
     Certificate,
@@ -34,24 +36,26 @@ pub enum Kind {
     CertificateStatus,
     /// The sender's ChangeCipherSpec.
     ChangeCipherSpec,
-    /// A record behind the sender's ChangeCipherSpec, or application data.
+    /// A record after the sender's ChangeCipherSpec, or application data.
     Encrypted,
-    /// An alert of severity 1, but the two that follow.
+    /// An alert of level 1, except for the two kinds that follow.
     Warning,
-    /// The warning no_certificate, by which a client of SSL 3.0 says that it has no certificate (RFC 6101, section 5.6.6).
+    /// The warning no_certificate, which a client of SSL 3.0 sends when it has no certificate (RFC
+    /// 6101, section 5.6.6).
     NoCertificate,
-    /// Any other alert, and close_notify, behind which its sender says nothing (RFC 5246, section 7.2.1).
+    /// Any other alert, and close_notify, after which its sender sends nothing more (RFC 5246,
+    /// section 7.2.1).
     Fatal,
     /// A heartbeat (RFC 6520).
     Heartbeat,
-    /// A message of a type that isn't read, as SupplementalData (RFC 4680) and CertificateURL (RFC 6066, section 5), or a
-    /// record or ServerHello that is refused.
+    /// A message of a type that isn't parsed, such as SupplementalData (RFC 4680) and
+    /// CertificateURL (RFC 6066, section 5), or a record or ServerHello that is refused.
     Unknown,
-    /// Any other message: no handshake up to its end has it in the clear.
+    /// Any other message. No handshake has one in the clear before its end.
     Other,
 }
 
-/// Which side a message goes to.
+/// The side that a message goes to.
 #[derive(Clone, Copy, Debug, PartialEq)]
 pub enum Direction {
     /// To the client.
@@ -63,8 +67,8 @@ pub enum Direction {
 /// A message of a conversation.
 #[derive(Clone, Copy, Debug, PartialEq)]
 pub struct Symbol {
-    /// What it is.
+    /// The message's kind.
     pub kind: Kind,
-    /// Which side it goes to.
+    /// The side it goes to.
     pub direction: Direction,
 }

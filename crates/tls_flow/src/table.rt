@@ -14,8 +14,8 @@ pub(crate) struct Row {
     pub(crate) next: State,
 }
 
-/// All transitions that don't follow from the rules, told once: it hands them to the macro that it is passed, behind the
-/// words that follow the macro's name.
+/// Every transition that doesn't follow from the rules, written once. The macro passes them to the
+/// macro `$then`, after `$words`.
 macro_rules! transitions {
     ($then:ident $($words:tt)*) => {
         $then! {
@@ -140,7 +140,7 @@ macro_rules! transitions {
     };
 }
 
-/// One row.
+/// The [`Row`] of one transition.
 macro_rules! row {
     ($state:ident $kind:ident $direction:ident $next:ident) => {
         Row {
@@ -152,49 +152,53 @@ macro_rules! row {
     };
 }
 
-/// The rows in one array.
+/// All rows, as an array.
 macro_rules! rows {
     ([] $($state:ident { $($kind:ident $direction:ident => $next:ident;)* })*) => {
         [$($(row!($state $kind $direction $next),)*)*]
     };
 }
 
-/// 1 for each row.
+/// 1 for each row; `count!` adds them up.
 macro_rules! one {
     ($kind:ident) => {
         1
     };
 }
 
-/// How many rows there are.
+/// The number of rows.
 macro_rules! count {
     ([] $($state:ident { $($kind:ident $direction:ident => $next:ident;)* })*) => {
         0 $($(+ one!($kind))*)*
     };
 }
 
-/// Where a symbol leads at a state, by the state's rows: the one that has it, and else a rule. Each symbol that stands in a row has
-/// a line here.
+/// The next state of a symbol: from the row that has it, else from the rules. Each symbol of the
+/// table has an arm here.
 macro_rules! entry {
     ($at:ident ClientHello ToServer; ClientHello ToServer => $next:ident; $($rows:tt)*) => {
         State::$next
     };
-    ($at:ident HelloVerifyRequest FromServer; HelloVerifyRequest FromServer => $next:ident; $($rows:tt)*) => {
+    ($at:ident HelloVerifyRequest FromServer; HelloVerifyRequest FromServer => $next:ident;
+        $($rows:tt)*) => {
         State::$next
     };
     ($at:ident ServerHello FromServer; ServerHello FromServer => $next:ident; $($rows:tt)*) => {
         State::$next
     };
-    ($at:ident HelloRetryRequest FromServer; HelloRetryRequest FromServer => $next:ident; $($rows:tt)*) => {
+    ($at:ident HelloRetryRequest FromServer; HelloRetryRequest FromServer => $next:ident;
+        $($rows:tt)*) => {
         State::$next
     };
     ($at:ident ServerHello13 FromServer; ServerHello13 FromServer => $next:ident; $($rows:tt)*) => {
         State::$next
     };
-    ($at:ident ChangeCipherSpec ToServer; ChangeCipherSpec ToServer => $next:ident; $($rows:tt)*) => {
+    ($at:ident ChangeCipherSpec ToServer; ChangeCipherSpec ToServer => $next:ident; $($rows:tt)*) =>
+        {
         State::$next
     };
-    ($at:ident ChangeCipherSpec FromServer; ChangeCipherSpec FromServer => $next:ident; $($rows:tt)*) => {
+    ($at:ident ChangeCipherSpec FromServer; ChangeCipherSpec FromServer => $next:ident;
+        $($rows:tt)*) => {
         State::$next
     };
     ($at:ident Encrypted ToServer; Encrypted ToServer => $next:ident; $($rows:tt)*) => {
@@ -203,19 +207,23 @@ macro_rules! entry {
     ($at:ident Certificate FromServer; Certificate FromServer => $next:ident; $($rows:tt)*) => {
         State::$next
     };
-    ($at:ident ServerKeyExchange FromServer; ServerKeyExchange FromServer => $next:ident; $($rows:tt)*) => {
+    ($at:ident ServerKeyExchange FromServer; ServerKeyExchange FromServer => $next:ident;
+        $($rows:tt)*) => {
         State::$next
     };
     ($at:ident ServerDone FromServer; ServerDone FromServer => $next:ident; $($rows:tt)*) => {
         State::$next
     };
-    ($at:ident NewSessionTicket FromServer; NewSessionTicket FromServer => $next:ident; $($rows:tt)*) => {
+    ($at:ident NewSessionTicket FromServer; NewSessionTicket FromServer => $next:ident;
+        $($rows:tt)*) => {
         State::$next
     };
-    ($at:ident CertificateStatus FromServer; CertificateStatus FromServer => $next:ident; $($rows:tt)*) => {
+    ($at:ident CertificateStatus FromServer; CertificateStatus FromServer => $next:ident;
+        $($rows:tt)*) => {
         State::$next
     };
-    ($at:ident CertificateRequest FromServer; CertificateRequest FromServer => $next:ident; $($rows:tt)*) => {
+    ($at:ident CertificateRequest FromServer; CertificateRequest FromServer => $next:ident;
+        $($rows:tt)*) => {
         State::$next
     };
     ($at:ident Certificate ToServer; Certificate ToServer => $next:ident; $($rows:tt)*) => {
@@ -224,16 +232,19 @@ macro_rules! entry {
     ($at:ident NoCertificate ToServer; NoCertificate ToServer => $next:ident; $($rows:tt)*) => {
         State::$next
     };
-    ($at:ident ClientKeyExchange ToServer; ClientKeyExchange ToServer => $next:ident; $($rows:tt)*) => {
+    ($at:ident ClientKeyExchange ToServer; ClientKeyExchange ToServer => $next:ident; $($rows:tt)*)
+        => {
         State::$next
     };
-    ($at:ident CertificateVerify ToServer; CertificateVerify ToServer => $next:ident; $($rows:tt)*) => {
+    ($at:ident CertificateVerify ToServer; CertificateVerify ToServer => $next:ident; $($rows:tt)*)
+        => {
         State::$next
     };
     ($at:ident Encrypted FromServer; Encrypted FromServer => $next:ident; $($rows:tt)*) => {
         State::$next
     };
-    ($at:ident $kind:ident $to:ident; $other:ident $other_to:ident => $next:ident; $($rows:tt)*) => {
+    ($at:ident $kind:ident $to:ident; $other:ident $other_to:ident => $next:ident; $($rows:tt)*) =>
+        {
         entry!($at $kind $to; $($rows)*)
     };
     ($at:ident Warning $to:ident;) => {
@@ -256,14 +267,14 @@ macro_rules! entry {
     };
 }
 
-/// Where the symbols of a kind lead at a state, from the server and to it.
+/// The next states for one kind: from the server, and to the server.
 macro_rules! of_kind {
     ($at:ident $kind:ident; $($rows:tt)*) => {
         [entry!($at $kind FromServer; $($rows)*), entry!($at $kind ToServer; $($rows)*)]
     };
 }
 
-/// Where all symbols lead at a state, the kinds in the order of their declaration.
+/// The next states for every symbol at one state, with the kinds in the order of their declaration.
 macro_rules! of_state {
     ($at:ident; $($rows:tt)*) => {
         [
@@ -293,7 +304,8 @@ macro_rules! of_state {
     };
 }
 
-/// The same at each state, in the order of their declaration. An end stays.
+/// The next states for every symbol at every state, with the states in the order of their
+/// declaration. A final state leads to itself.
 macro_rules! steps {
     ([] $($state:ident { $($kind:ident $direction:ident => $next:ident;)* })*) => {
         [
@@ -311,11 +323,12 @@ macro_rules! steps {
     };
 }
 
-/// For each state an arm with the symbols of its rows.
+/// A `match` with an arm for each state, which gives the symbols of its rows.
 macro_rules! symbols {
     ([$at:ident] $($state:ident { $($kind:ident $direction:ident => $next:ident;)* })*) => {
         match $at {
-            $(State::$state => &[$(Symbol { kind: Kind::$kind, direction: Direction::$direction }),*],)*
+            $(State::$state =>
+                &[$(Symbol { kind: Kind::$kind, direction: Direction::$direction }),*],)*
             State::Full | State::Resumed | State::Tls13 | State::EarlyTls13 | State::RetriedTls13
             | State::EarlyRetriedTls13 | State::BrokenOff | State::Unknown | State::NoHandshake => &[],
         }
@@ -324,18 +337,18 @@ macro_rules! symbols {
 
 const COUNT: usize = transitions!(count);
 
-/// How many kinds, and how many states there are.
+/// The number of kinds, and of states.
 const KINDS: usize = 22;
 
 const STATES: usize = 34;
 
-/// The table.
+/// The rows of the table.
 static ROWS: [Row; COUNT] = transitions!(rows);
 
-/// The state after each symbol at each state: a look-up here costs less than a search of rows.
+/// The next state by state, kind and direction. Indexing it is cheaper than searching the rows.
 static STEPS: [[[State; 2]; KINDS]; STATES] = transitions!(steps);
 
-/// No state, kind and direction stand in two rows.
+/// No two rows have the same state, kind and direction.
 fn rows_are_distinct()
     ensures { IsOneRowEach ROWS }
 {}
@@ -348,7 +361,7 @@ pub(crate) fn next_state(state: State, symbol: Symbol) -> State
     STEPS[state as usize][symbol.kind as usize][symbol.direction as usize]
 }
 
-/// The symbols that the state waits for.
+/// The symbols of the state's rows: what it waits for.
 pub(crate) fn awaited(state: State) -> &'static [Symbol]
     ensures { result.now ≡ awaited_in ROWS state }
 {

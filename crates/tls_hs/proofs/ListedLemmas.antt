@@ -1,4 +1,4 @@
--- The numbers that bytes hold, read at once.
+-- The numbers in bytes, read at once.
 use Rattle.std.proofs.Common.{
   ◌≡◌,
   ℕ,
@@ -39,13 +39,15 @@ use Rattle.layouts.proofs.ItemsLemmas.{items_first, items_none, none_in}
 use Rattle.layouts.proofs.NumbersLemmas.{numbers_in}
 use Rattle.layouts.proofs.OneAnswerLemmas.{number_read, ltb_yes}
 
-number_lacks : (w : ℕ) (b : Bytes) → length b < w → reading (number w) b ≡ Err (Lacks (w - length b))
+number_lacks : (w : ℕ) (b : Bytes) → length b < w
+    → reading (number w) b ≡ Err (Lacks (w - length b))
 unfolding number_at split_at
 number_lacks w b short = ap (λ t. ◌and_then◌ {Y = ℕ × Bytes}
-    (cond {A = Answer Bytes} t (Err (Lacks (w - length b))) (Ok (take w b, drop w b))) (λ x. Ok (number_of x.0, x.1)))
+    (cond {A = Answer Bytes} t (Err (Lacks (w - length b))) (Ok (take w b, drop w b)))
+    (λ x. Ok (number_of x.0, x.1)))
     (ltb_yes (length b) w short)
 
--- bytes behind the last number that is whole hold none
+-- bytes after the last complete number hold none
 whole_numbers : (w n : ℕ) (c r : Bytes) → 0 < w → length c ≡ w * n → length r < w
     → items_in (number w) (c ++ r) ≡ items_in (number w) c
 whole_numbers w zero [] r some e short =
@@ -60,7 +62,8 @@ whole_numbers w (suc n) c r some e short =
     (sym (take-append-le w c r whole)) (sym (drop-append-le w c r whole)) refl in
     items_first (number w) (c ++ r) _ _ there
     (omega (arith, length-append c r, length-append (drop w c) r, length-drop w c))
-    ∙ ap (λ xs. number_of (take w c) ∷ xs) (whole_numbers w n (drop w c) r some (omega (arith, length-drop w c)) short)
+    ∙ ap (λ xs. number_of (take w c) ∷ xs)
+    (whole_numbers w n (drop w c) r some (omega (arith, length-drop w c)) short)
     ∙ sym (items_first (number w) c _ _ here (omega (arith, length-drop w c)))
 
 pub listed : (w : ℕ) (b : Bytes) (xs : List ℕ) (r : Bytes) → 0 < w
@@ -75,7 +78,8 @@ listed w b xs r some e =
     let is : reading (times n (number w)) b ≡ Ok (items_in (number w) c, drop (w * n) b) =
     numbers_in w n b c (drop (w * n) b) some fits refl refl in
     let same : ◌≡◌ {A = List ℕ × Bytes} (xs, r) (items_in (number w) c, drop (w * n) b) =
-    (let both : ◌≡◌ {A = Answer (List ℕ)} (Ok (xs, r)) (Ok (items_in (number w) c, drop (w * n) b)) = sym e ∙ is in
+    (let both : ◌≡◌ {A = Answer (List ℕ)} (Ok (xs, r))
+    (Ok (items_in (number w) c, drop (w * n) b)) = sym e ∙ is in
     cc) in
     let short : length (drop (w * n) b) < w = omega (arith, cut, left, length-drop (w * n) b) in
     ap (λ x. x.0) same ∙ sym (whole_numbers w n c (drop (w * n) b) some size short)

@@ -1,5 +1,5 @@
--- The bytes that handshake messages are written as (RFC 5246, section 7.4): fields in order, joined, each count in front of
--- what it counts. Of each message also what can be written, and how it is read back.
+-- The encoding of handshake messages (RFC 5246, section 7.4): fields in order, joined, each length
+-- before what it counts. Also which messages can be written, and how each reads back.
 use Rattle.std.specs.Prelude.{ℕ, ◌<◌, ◌≤◌, ◌^◌, ◌≡◌, [], ◌∷◌, ◌++◌, length, Option, Some, None, ⊤, ◌==◌, if◌then◌else◌}
 use Rattle.std.specs.Option.{IsSome}
 use Rattle.std.specs.List.{All}
@@ -25,7 +25,7 @@ client_hello_text h =
     ++ counted_text 1 (numbers_text 1 h.compression_methods)
     ++ counted_text 2 (held h.extensions)
 
--- Its fields have lengths that can be written.
+-- The lengths of the fields can be written.
 pub record FitsClientHello (h : hello.ClientHello) : Type 0 where
   pub random : length h.random ≡ 32
   pub session_id : length (held h.session_id) ≤ 32
@@ -33,19 +33,19 @@ pub record FitsClientHello (h : hello.ClientHello) : Type 0 where
   pub methods : length h.compression_methods ≤ 255
   pub extensions : length (held h.extensions) ≤ 65535
 
--- Its numbers are of their fields' sizes, as those of each value in memory are.
+-- The numbers fit their fields, as those of every value in memory do.
 pub record InRangeClientHello (h : hello.ClientHello) : Type 0 where
   pub version : h.client_version < 256 ^ 2
   pub suites : All (λ x. x < 256 ^ 2) h.cipher_suites
   pub methods : All (λ x. x < 256 ^ 1) h.compression_methods
 
--- How a session id is read back: one of no bytes as none.
+-- How a session id reads back: an empty one as None.
 abbrev pub normal_id : Option Bytes → Option Bytes
 normal_id None = None
 normal_id (Some []) = None
 normal_id (Some (x ∷ b)) = Some (x ∷ b)
 
--- How a ClientHello is read back: extensions are there, perhaps none of them.
+-- How a ClientHello reads back: with extensions, possibly an empty block.
 abbrev pub normal_client_hello : hello.ClientHello → hello.ClientHello
 normal_client_hello h = record {
   client_version = h.client_version;
@@ -76,7 +76,7 @@ pub record InRangeServerHello (h : server.ServerHello) : Type 0 where
   pub suite : h.cipher_suite < 256 ^ 2
   pub method : h.compression_method < 256 ^ 1
 
--- How a ServerHello is read back: one of SSL 3.0 has no extensions, whatever stands there.
+-- How a ServerHello reads back: one of SSL 3.0 without extensions, whatever it had.
 abbrev pub normal_server_hello : server.ServerHello → server.ServerHello
 normal_server_hello h = record {
   server_version = h.server_version;
@@ -90,7 +90,8 @@ normal_server_hello h = record {
 -- The body of a ServerHello of draft 18 of TLS 1.3 (draft-ietf-tls-tls13-18, section 4.1.3).
 unfoldable pub server_hello_draft18_text : server.ServerHelloDraft18 → Bytes
 server_hello_draft18_text h =
-    bytes_of 2 h.version ++ h.random ++ bytes_of 2 h.cipher_suite ++ counted_text 2 (held h.extensions)
+    bytes_of 2 h.version ++ h.random ++ bytes_of 2 h.cipher_suite ++ counted_text 2
+    (held h.extensions)
 
 pub record FitsServerHelloDraft18 (h : server.ServerHelloDraft18) : Type 0 where
   pub random : length h.random ≡ 32
@@ -103,7 +104,8 @@ pub record InRangeServerHelloDraft18 (h : server.ServerHelloDraft18) : Type 0 wh
 abbrev pub normal_server_hello_draft18 : server.ServerHelloDraft18 → server.ServerHelloDraft18
 normal_server_hello_draft18 h = record h { extensions = Some (held h.extensions) }
 
--- The body of a ClientKeyExchange (RFC 5246, section 7.4.7; RFC 8422, section 5.7). Its bytes don't say which form it has.
+-- The body of a ClientKeyExchange (RFC 5246, section 7.4.7; RFC 8422, section 5.7). Its bytes don't
+-- reveal its form.
 abbrev pub client_key_exchange_text : session.ClientKeyExchange → Bytes
 client_key_exchange_text (session.Dh b) = counted_text 2 b
 client_key_exchange_text (session.Ecdh b) = counted_text 1 b
@@ -134,7 +136,7 @@ msg_type_of (CertificateStatus s) = 22
 msg_type_of (NextProtocol p) = 67
 msg_type_of (KeyUpdate n) = 24
 
--- The body of a message of a kind that the writer knows; of the other kinds there is no text.
+-- The body of a message of a kind that the writer knows. Other kinds have no encoding.
 abbrev pub body_text : Handshake → Bytes
 body_text (ClientHello h) = client_hello_text h
 body_text (ServerHello h) = server_hello_text h
@@ -143,7 +145,7 @@ body_text (ClientKeyExchange k) = client_key_exchange_text k
 body_text (Finished b) = b
 body_text m = []
 
--- It is of a kind that the writer knows, and the fields of its body have lengths that can be written.
+-- The writer knows the kind, and the lengths of the body's fields can be written.
 abbrev pub FitsBody : Handshake → Type 0
 FitsBody HelloRequest = ⊤
 FitsBody (ClientHello h) = FitsClientHello h
@@ -163,12 +165,12 @@ InRangeHandshake m = ⊤
 abbrev pub handshake_text : Handshake → Bytes
 handshake_text m = bytes_of 1 (msg_type_of m) ++ counted_text 3 (body_text m)
 
--- It can be written.
+-- The message can be written.
 pub record FitsHandshake (m : Handshake) : Type 0 where
   pub body : FitsBody m
   pub length : length (body_text m) ≤ 16777215
 
--- Why it can't, where it can't.
+-- Why a message that can't be written is refused.
 abbrev pub refusal_of_handshake : Handshake → GenError
 refusal_of_handshake HelloRequest = BadLength
 refusal_of_handshake (ClientHello h) = BadLength
@@ -178,30 +180,31 @@ refusal_of_handshake (ClientKeyExchange k) = BadLength
 refusal_of_handshake (Finished b) = BadLength
 refusal_of_handshake m = NotYetImplemented
 
--- The writer knows its kind, so a length is at fault where it can't be written.
+-- The writer knows the kind. So if it can't be written, a length is at fault.
 abbrev pub IsKnown : Handshake → Type 0
 IsKnown m = refusal_of_handshake m ≡ BadLength
 
--- The writer doesn't know its kind.
+-- The writer doesn't know the kind.
 abbrev pub IsUnknown : Handshake → Type 0
 IsUnknown m = (FitsBody m → ⊥) × (refusal_of_handshake m ≡ NotYetImplemented)
 
--- The version in a hello of a server is one whose form is read back.
+-- The version of a ServerHello is one whose form reads back.
 abbrev pub IsReadableHandshake : Handshake → Type 0
 IsReadableHandshake (ServerHello h) = (0x0300 ≤ h.server_version) × (h.server_version ≤ 0x0303)
 IsReadableHandshake (ServerHelloV13Draft18 h) = h.version ≡ 0x7f12
 IsReadableHandshake m = ⊤
 
--- How a handshake message is read back.
+-- How a handshake message reads back.
 abbrev pub normal_handshake : Handshake → Handshake
 normal_handshake (ClientHello h) = ClientHello (normal_client_hello h)
 normal_handshake (ServerHello h) = ServerHello (normal_server_hello h)
 normal_handshake (ServerHelloV13Draft18 h) = ServerHelloV13Draft18 (normal_server_hello_draft18 h)
-normal_handshake (ClientKeyExchange k) = ClientKeyExchange (session.Unknown (client_key_exchange_text k))
+normal_handshake (ClientKeyExchange k) =
+    ClientKeyExchange (session.Unknown (client_key_exchange_text k))
 normal_handshake m = m
 
--- It is of a kind that the writer knows, and where it is a hello it has extensions: so what is read of its own bytes, with
--- nothing dropped, is written as these bytes.
+-- The writer knows the kind, and a hello has extensions. So bytes that are read as this message,
+-- with nothing dropped, are what the writer writes for it.
 abbrev pub IsWrittenBack : Handshake → Type 0
 IsWrittenBack HelloRequest = ⊤
 IsWrittenBack (ClientHello h) = IsSome h.extensions

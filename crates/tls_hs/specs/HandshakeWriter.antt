@@ -1,4 +1,4 @@
--- What the calls answer that write handshake messages: their text is said in `HandshakeText`.
+-- What the writers of handshake messages promise. `HandshakeText` defines the encoding.
 use Rattle.std.specs.Prelude.{ℕ, ◌≡◌, ◌++◌, Option, Result, Ok}
 use Rattle.layouts.specs.Bytes.{Bytes}
 use Rattle.layouts.specs.Meaning.{Allows}
@@ -10,34 +10,40 @@ use Rattle.tls_hs.specs.HandshakeText.{body_text, FitsBody, handshake_text, Fits
 use Rattle.tls_hs.specs.HandshakeText.{refusal_of_handshake, IsReadableHandshake, normal_handshake}
 use Rattle.tls_hs.specs.Message as message
 
--- The length of the body of a message of a kind that the writer knows, were it not counted.
+-- Computes the length of the body of a message of a known kind. Whether it fits the message's
+-- length field isn't checked.
 abbrev pub JudgesBody : Handshake → Result ℕ GenError → Type 0
 JudgesBody m r = Judges (FitsBody m) (λ e. e ≡ BadLength) (body_text m) r
 
--- The length of its body, which is to fit the 3 bytes of its count.
+-- Computes the length of the body, which must fit the 3 bytes of its length field.
 abbrev pub JudgesCountedBody : Handshake → Result ℕ GenError → Type 0
 JudgesCountedBody m r = Judges (FitsHandshake m) (λ e. e ≡ BadLength) (body_text m) r
 
--- The length of the text of a message of any kind.
+-- Computes the length of the encoding of a message of any kind.
 abbrev pub JudgesHandshake : Handshake → Result ℕ GenError → Type 0
-JudgesHandshake m r = Judges (FitsHandshake m) (λ e. e ≡ refusal_of_handshake m) (handshake_text m) r
+JudgesHandshake m r =
+    Judges (FitsHandshake m) (λ e. e ≡ refusal_of_handshake m) (handshake_text m) r
 
--- The text of a message of any kind, in memory of its own.
+-- Returns the encoding of a message of any kind in newly allocated memory.
 abbrev pub BuildsHandshake : Handshake → Result Bytes GenError → Type 0
-BuildsHandshake m r = Builds (FitsHandshake m) (λ e. e ≡ refusal_of_handshake m) (handshake_text m) r
+BuildsHandshake m r =
+    Builds (FitsHandshake m) (λ e. e ≡ refusal_of_handshake m) (handshake_text m) r
 
--- The text of a message of any kind, appended to what a writer holds.
-abbrev pub WritesHandshake : {W : Type 0} → Handshake → (W → Option Bytes) → W → W → Result Unit GenError → Type 0
+-- Appends the encoding of a message of any kind to what a `Write` holds.
+abbrev pub WritesHandshake : {W : Type 0} → Handshake → (W → Option Bytes) → W → W
+    → Result Unit GenError → Type 0
 WritesHandshake m contents old new r =
     Writes (FitsHandshake m) (λ e. e ≡ refusal_of_handshake m) (handshake_text m) contents old new r
 
--- What its text is read as, whatever follows: its normal form, where it can be written and read back.
+-- The encoding reads back as the message's normal form, whatever bytes follow, if it can be written
+-- and read back.
 abbrev pub IsReadBack : Handshake → Bytes → Type 0
 IsReadBack m r =
     FitsHandshake m → InRangeHandshake m → IsReadableHandshake m
-    → Allows message.handshake (handshake_text m ++ r) (Ok (message.Handshake (normal_handshake m), r))
+    → Allows message.handshake (handshake_text m ++ r)
+    (Ok (message.Handshake (normal_handshake m), r))
 
--- It can be written, and b is its text and then r.
+-- The message can be written, and b is its encoding followed by r.
 pub record HasText (m : Handshake) (b r : Bytes) : Type 0 where
   pub fits : FitsHandshake m
   pub range : InRangeHandshake m

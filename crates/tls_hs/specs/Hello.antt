@@ -7,8 +7,9 @@ use Rattle.layouts.specs.Layout.{Layout, done, number, block, left, maybe, mappe
 use Rattle.layouts.specs.declared.result.ErrorKind.TheVariants.{LengthValue, Verify}
 use Rattle.tls_hs.specs.declared.client_hello.TlsClientHelloContents.{TlsClientHelloContents}
 
--- A ClientHello, apart from where it lies in memory; the extensions are one undivided block. In TLS 1.3 its version is
--- 0x0303, and those that the client offers stand in its extension supported_versions (RFC 8446, section 4.2.1).
+-- The value of a ClientHello, regardless of its place in memory; the extensions are one unparsed
+-- block. In TLS 1.3 its version is 0x0303, and the offered versions are in its extension
+-- supported_versions (RFC 8446, section 4.2.1).
 pub record ClientHello : Type 0 where
   pub client_version : ℕ
   pub random : Bytes
@@ -27,7 +28,7 @@ view_client_hello h = record {
   extensions = option_map (λ x. x.now) h.ext;
 }
 
--- opaque SessionID<0..32>; one of no bytes says that there is none.
+-- opaque SessionID<0..32>. An empty one means that there is none.
 unfoldable pub session_id : Layout (Option Bytes)
 session_id = do
   n ← number 1
@@ -35,8 +36,8 @@ session_id = do
   id ← block n
   done (if n == 0 then None else Some id)
 
--- CipherSuite cipher_suites<2..2^16-2>, counted in bytes; here none may stand too. The count is tested before the suites
--- are read.
+-- CipherSuite cipher_suites<2..2^16-2>, with the length in bytes. The list may be empty. The length
+-- is checked before the suites are read.
 unfoldable pub cipher_suites : Layout (List ℕ)
 cipher_suites = do
   k ← number 2
@@ -44,8 +45,8 @@ cipher_suites = do
   test (k % 2 == 0 && nat_le k n) LengthValue
   times (k / 2) (number 2)
 
--- CompressionMethod compression_methods<1..2^8-1>, one byte each; here none may stand too. The count is tested before the
--- methods are read.
+-- CompressionMethod compression_methods<1..2^8-1>, 1 byte each. The list may be empty. The length
+-- is checked before the methods are read.
 unfoldable pub compression_methods : Layout (List ℕ)
 compression_methods = do
   k ← number 1
@@ -53,8 +54,8 @@ compression_methods = do
   test (nat_le k n) LengthValue
   times k (number 1)
 
--- The body of a ClientHello whose cookie has that layout, and the cookie: it stands behind the session id in DTLS, and there is
--- none in TLS. Its extensions may be missing.
+-- The body of a ClientHello whose cookie has this layout, and the cookie. In DTLS it follows the
+-- session id, in TLS there is none. The extensions may be missing.
 unfoldable pub client_hello_with : Layout (Option Bytes) → Layout (ClientHello × Option Bytes)
 client_hello_with cookie_layout = do
   version ← number 2
@@ -80,10 +81,10 @@ client_hello_with cookie_layout = do
 unfoldable pub client_hello : Layout ClientHello
 client_hello = mapped (λ x. x.0) (client_hello_with (done None))
 
--- uint32 gmt_unix_time: the first 4 bytes of a random as a number, 0 where there are fewer.
+-- uint32 gmt_unix_time: the first 4 bytes of a random as a number, 0 if there are fewer.
 abbrev pub random_time : Bytes → ℕ
 random_time random = if nat_lt (length random) 4 then 0 else number_of (take 4 random)
 
--- opaque random_bytes[28]: what follows the first 4 bytes of a random, none where there are fewer.
+-- opaque random_bytes[28]: a random after its first 4 bytes, empty if there are fewer.
 abbrev pub random_bytes : Bytes → Bytes
 random_bytes random = drop 4 random

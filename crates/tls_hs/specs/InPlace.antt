@@ -1,4 +1,4 @@
--- Handshake messages in place: what they say is what those with lists of their own say.
+-- Handshake messages in place: their values are those of the messages with lists.
 use Rattle.std.specs.Prelude.{ℕ, List, Option, Result, Ok, Err, length}
 use Rattle.std.specs.Borrow.{Bor}
 use Rattle.std.specs.Option.{option_map}
@@ -32,25 +32,29 @@ view_client_hello_in_place h = record {
   extensions = option_map (λ x. x.now) h.ext;
 }
 
--- The same with a cookie, where it has one.
-abbrev pub view_fields_in_place : ClientHelloView × Option (Bor (List ℕ)) → ClientHello × Option Bytes
+-- The fields of a hello in place, with a cookie if it has one.
+abbrev pub view_fields_in_place : ClientHelloView × Option (Bor (List ℕ))
+    → ClientHello × Option Bytes
 view_fields_in_place x = (view_client_hello_in_place x.0, option_map (λ c. c.now) x.1)
 
 abbrev pub view_certificate_request_in_place : CertificateRequestView → CertificateRequest
 view_certificate_request_in_place r = record {
   certificate_types = r.cert_types.now;
-  supported_signature_algorithms = option_map (λ v. items_in (number 2) v.bytes.now) r.sig_hash_algs;
+  supported_signature_algorithms =
+      option_map (λ v. items_in (number 2) v.bytes.now) r.sig_hash_algs;
   certificate_authorities = items_in (counted 2) r.unparsed_ca.bytes.now;
 }
 
 abbrev pub view_handshake_in_place : HandshakeView → Handshake
-view_handshake_in_place (in_place.ClientHello h) = handshakes.ClientHello (view_client_hello_in_place h)
-view_handshake_in_place (in_place.Certificate c) = handshakes.Certificate (items_in (counted 3) c.bytes.now)
+view_handshake_in_place (in_place.ClientHello h) =
+    handshakes.ClientHello (view_client_hello_in_place h)
+view_handshake_in_place (in_place.Certificate c) =
+    handshakes.Certificate (items_in (counted 3) c.bytes.now)
 view_handshake_in_place (in_place.CertificateRequest r) =
     handshakes.CertificateRequest (view_certificate_request_in_place r)
 view_handshake_in_place (in_place.Other m) = view_handshake m
 
--- What a call returned, as a message that has no list.
+-- The result of a call, as a message without lists.
 abbrev pub as_other : Returned TlsMessageHandshake → Returned HandshakeView
 as_other (Ok x) = Ok (x.0, in_place.Other x.1)
 as_other (Err e) = Err e
@@ -62,11 +66,11 @@ view_raw_handshake h = record { kind = h.msg_type.0; content = h.body.now }
 abbrev pub raw_handshake : Layout Framed
 raw_handshake = framed 1 3
 
--- What its body says.
+-- The value of the message's body.
 abbrev pub body_of : Framed → Result Handshake Refusal
 body_of h = value_of (reading (handshake_body h.kind (length h.content)) h.content)
 
--- The message that it is.
+-- The value of the message.
 abbrev pub handshake_of : Framed → Result Message Refusal
 handshake_of h = value_of (reading (handshake_body h.kind (length h.content)) h.content
     and_then λ x. Ok (message.Handshake x.0, x.1))

@@ -13,7 +13,7 @@ use Rattle.tls_hs.specs.declared.message_view.RawMessage.{RawMessage}
 use Rattle.tls_hs.specs.declared.message_view.RawMessage.TheVariants as raw
 use Rattle.tls_hs.specs.declared.message_view.Messages.{Messages}
 
--- A message, of which a handshake's body isn't read.
+-- A message, with the body of a handshake message unparsed.
 pub data Raw : Type 0 where
   Handshake : Framed → Raw
   Whole : Message → Raw
@@ -25,7 +25,7 @@ view_raw (raw.Alert a) = Whole (message.Alert (alerts.view_alert a))
 view_raw (raw.ApplicationData d) = Whole (message.ApplicationData d.now)
 view_raw (raw.Heartbeat h) = Whole (message.Heartbeat (message.view_heartbeat h))
 
--- The message that it is.
+-- The value of the message.
 abbrev pub message_of : Raw → Result Message Refusal
 message_of (Handshake h) = handshake_of h
 message_of (Whole m) = Ok m
@@ -33,7 +33,8 @@ message_of (Whole m) = Ok m
 abbrev pub change_cipher_specs : Bytes → List Raw
 change_cipher_specs b = map Whole (items_in message.change_cipher_spec b)
 
--- The messages in the fragment of a record of that type, another than change_cipher_spec, and that length.
+-- The messages in the fragment of a record of this type and length, if the type isn't
+-- change_cipher_spec.
 abbrev pub messages_of_other_type : ℕ → ℕ → Bytes → List Raw
 messages_of_other_type content_type length b =
     if content_type == 21 then map Whole (items_in message.alert b)
@@ -42,11 +43,13 @@ messages_of_other_type content_type length b =
     else if content_type == 24 then map Whole (list_read (reading (message.heartbeat length) b))
     else []
 
--- The same of any type.
+-- The messages in the fragment of a record of this type and length.
 abbrev pub messages_of_type : ℕ → ℕ → Bytes → List Raw
 messages_of_type content_type length b =
-    if content_type == 20 then change_cipher_specs b else messages_of_other_type content_type length b
+    if content_type == 20 then
+    change_cipher_specs b else messages_of_other_type content_type length b
 
--- The messages that a walk has yet to come to.
+-- The messages that a walk has yet to reach.
 abbrev pub raw_messages : Messages → List Raw
-raw_messages m = if m.is_change then change_cipher_specs m.bytes.now else messages_of_other_type m.record_type.0 m.len m.bytes.now
+raw_messages m = if m.is_change then
+    change_cipher_specs m.bytes.now else messages_of_other_type m.record_type.0 m.len m.bytes.now

@@ -1,4 +1,4 @@
--- What a server answers to a ClientHello.
+-- The ServerHello and its forms in drafts of TLS 1.3.
 use Rattle.std.specs.Prelude.{ℕ, Bool, [], ◌∷◌, Option, None, nat_le, ◌==◌, ◌&&◌}
 use Rattle.std.specs.Str.{bytes_eq}
 use Rattle.std.specs.Option.{option_map}
@@ -10,8 +10,9 @@ use Rattle.tls_hs.specs.declared.server_hello.TlsServerHelloContents.{TlsServerH
 use Rattle.tls_hs.specs.declared.server_hello.TlsServerHelloV13Draft18Contents.{TlsServerHelloV13Draft18Contents}
 use Rattle.tls_hs.specs.declared.server_hello.TlsHelloRetryRequestContents.{TlsHelloRetryRequestContents}
 
--- A ServerHello (RFC 5246, section 7.4.1.3), apart from where it lies in memory. In TLS 1.3 its version is 0x0303, and
--- the version that is spoken stands in its extension supported_versions (RFC 8446, section 4.2.1).
+-- The value of a ServerHello (RFC 5246, section 7.4.1.3), regardless of its place in memory. In TLS
+-- 1.3 its version is 0x0303, and the version in use is in its extension supported_versions (RFC
+-- 8446, section 4.2.1).
 pub record ServerHello : Type 0 where
   pub server_version : ℕ
   pub random : Bytes
@@ -33,13 +34,15 @@ view_server_hello h = record {
 -- The random of a ServerHello that is a HelloRetryRequest (RFC 8446, section 4.1.3).
 abbrev pub hello_retry_random : Bytes
 hello_retry_random =
-    0xcf ∷ 0x21 ∷ 0xad ∷ 0x74 ∷ 0xe5 ∷ 0x9a ∷ 0x61 ∷ 0x11 ∷ 0xbe ∷ 0x1d ∷ 0x8c ∷ 0x02 ∷ 0x1e ∷ 0x65 ∷ 0xb8 ∷ 0x91 ∷
-    0xc2 ∷ 0xa2 ∷ 0x11 ∷ 0x16 ∷ 0x7a ∷ 0xbb ∷ 0x8c ∷ 0x5e ∷ 0x07 ∷ 0x9e ∷ 0x09 ∷ 0xe2 ∷ 0xc8 ∷ 0xa8 ∷ 0x33 ∷ 0x9c ∷ []
+    0xcf ∷ 0x21 ∷ 0xad ∷ 0x74 ∷ 0xe5 ∷ 0x9a ∷ 0x61 ∷ 0x11 ∷ 0xbe ∷ 0x1d ∷ 0x8c ∷ 0x02 ∷ 0x1e ∷ 0x65
+    ∷ 0xb8 ∷ 0x91 ∷
+    0xc2 ∷ 0xa2 ∷ 0x11 ∷ 0x16 ∷ 0x7a ∷ 0xbb ∷ 0x8c ∷ 0x5e ∷ 0x07 ∷ 0x9e ∷ 0x09 ∷ 0xe2 ∷ 0xc8 ∷ 0xa8
+    ∷ 0x33 ∷ 0x9c ∷ []
 
 abbrev pub is_retry_request : ServerHello → Bool
 is_retry_request h = bytes_eq h.random hello_retry_random
 
--- The body of a ServerHello whose extensions have that layout.
+-- The body of a ServerHello whose extensions have this layout.
 abbrev pub server_hello_with : Layout (Option Bytes) → Layout ServerHello
 server_hello_with extensions_layout = do
   version ← number 2
@@ -57,15 +60,15 @@ server_hello_with extensions_layout = do
     extensions = extensions;
   })
 
--- The body of a ServerHello of any version; its extensions may be missing.
+-- The body of a ServerHello of any version. The extensions may be missing.
 unfoldable pub server_hello_any : Layout ServerHello
 server_hello_any = server_hello_with (maybe (counted 2))
 
--- The body of a ServerHello of SSL 3.0 (RFC 6101, section 5.6.1.3): there are no extensions.
+-- The body of a ServerHello of SSL 3.0 (RFC 6101, section 5.6.1.3), without extensions.
 unfoldable pub server_hello_ssl30 : Layout ServerHello
 server_hello_ssl30 = server_hello_with (done None)
 
--- The body of a ServerHello up to TLS 1.2. Its version, which is looked at and not taken, says which form it has.
+-- The body of a ServerHello up to TLS 1.2. Its version, which isn't consumed, decides its form.
 unfoldable pub server_hello : Layout ServerHello
 server_hello = do
   version ← look (number 2)
@@ -73,7 +76,7 @@ server_hello = do
       choose (nat_le 0x0301 version && nat_le version 0x0303) server_hello_any (
       refuse Tag))
 
--- A ServerHello of draft 18 of TLS 1.3 (draft-ietf-tls-tls13-18, section 4.1.3), apart from where it lies in memory.
+-- The value of a ServerHello of draft 18 of TLS 1.3 (draft-ietf-tls-tls13-18, section 4.1.3).
 pub record ServerHelloDraft18 : Type 0 where
   pub version : ℕ
   pub random : Bytes
@@ -95,10 +98,16 @@ server_hello_draft18 = do
   random ← block 32
   suite ← number 2
   extensions ← maybe (counted 2)
-  done (record { version = version; random = random; cipher_suite = suite; extensions = extensions })
+  done (record {
+    version = version;
+    random = random;
+    cipher_suite = suite;
+    extensions =
+        extensions;
+  })
 
--- A HelloRetryRequest of drafts of TLS 1.3 (draft-ietf-tls-tls13-19, section 4.1.4), apart from where it lies in memory;
--- in RFC 8446 it is a ServerHello.
+-- The value of a HelloRetryRequest of drafts of TLS 1.3 (draft-ietf-tls-tls13-19, section 4.1.4).
+-- In RFC 8446 it is a ServerHello.
 pub record HelloRetryRequest : Type 0 where
   pub server_version : ℕ
   pub cipher_suite : ℕ

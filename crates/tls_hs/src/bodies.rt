@@ -1,5 +1,7 @@
-//! The bodies of handshake messages (RFC 5246, section 7.4), each read as a message; those of `session` stand there. Where a call takes
-//! `len`, it is the length of the body in bytes, whatever `i` holds.
+//! Parses the bodies of handshake messages as messages (RFC 5246, section 7.4). The other bodies
+//! are in `session`.
+//!
+//! Where a call takes `len`, that is the length of the body in bytes, whatever the length of `i`.
 ghost use Rattle.layouts.specs.Answers.{Gives, GivesOrMemory};
 ghost use Rattle.tls_hs.specs.Handshake.{view_handshake, hello_request_body, client_hello_body, server_hello_body, server_hello_of_draft_body};
 ghost use Rattle.tls_hs.specs.Handshake.{end_of_early_data_body, hello_retry_request_body, certificate_body, certificate_request_body};
@@ -16,7 +18,7 @@ use layouts::{ErrorKind, IResult, block, refused};
 use std::alloc::Global;
 use tls_base::TlsVersion;
 
-/// Reads the body of a HelloRequest (RFC 5246, section 7.4.1.1): no bytes. It never refuses.
+/// Reads the body of a HelloRequest (RFC 5246, section 7.4.1.1): no bytes. Never refuses.
 #[tactic(auto, using(layouts::proofs::OneAnswerLemmas::read_allowed), unfolding(crate::specs::Handshake::hello_request_body))]
 pub fn parse_tls_handshake_msg_hello_request(i: &[u8]) -> IResult<&[u8], TlsMessageHandshake>
     ensures { Gives view_handshake hello_request_body i.now result }
@@ -24,7 +26,8 @@ pub fn parse_tls_handshake_msg_hello_request(i: &[u8]) -> IResult<&[u8], TlsMess
     Ok((i, TlsMessageHandshake::HelloRequest))
 }
 
-/// Reads the body of a ClientHello (RFC 5246, section 7.4.1.2): as [`parse_tls_handshake_client_hello`].
+/// Reads the body of a ClientHello (RFC 5246, section 7.4.1.2), as
+/// [`parse_tls_handshake_client_hello`].
 #[tactic(auto, using(layouts::proofs::OneAnswerLemmas::read_allowed), unfolding(crate::specs::Handshake::client_hello_body))]
 #[inline(always)]
 pub fn parse_tls_handshake_msg_client_hello(
@@ -37,12 +40,13 @@ pub fn parse_tls_handshake_msg_client_hello(
     Ok((i, TlsMessageHandshake::ClientHello(hello)))
 }
 
-/// Reads the body of a ServerHello: where its version, the first 2 bytes, is 0x7f12, that of draft 18 of TLS 1.3
-/// (draft-ietf-tls-tls13-18, section 4.1.3), with 2 bytes of version, 32 of random, 2 of cipher suite, and perhaps
-/// extensions after 2 bytes of length; else as [`parse_tls_handshake_server_hello`].
+/// Reads the body of a ServerHello. If its version, the first 2 bytes, is 0x7f12, it has the form
+/// of draft 18 of TLS 1.3 (draft-ietf-tls-tls13-18, section 4.1.3): 2 bytes of version, 32 of
+/// random, 2 of cipher suite, and optional extensions after 2 bytes of length. Else it is read as
+/// by [`parse_tls_handshake_server_hello`].
 ///
-/// `Incomplete` of the count of missing bytes, where they are missing in front of the extensions; else what that call
-/// refuses.
+/// `Incomplete` with the number of missing bytes, if they are missing before the extensions; else
+/// the refusal of that call.
 #[tactic(auto, using(layouts::proofs::OneAnswerLemmas::read_allowed), unfolding(crate::specs::Handshake::server_hello_body))]
 pub fn parse_tls_handshake_msg_server_hello(i: &[u8]) -> IResult<&[u8], TlsMessageHandshake>
     ensures { Gives view_handshake server_hello_body i.now result }
@@ -60,10 +64,11 @@ pub fn parse_tls_handshake_msg_server_hello(i: &[u8]) -> IResult<&[u8], TlsMessa
     }
 }
 
-/// Reads the body of a ServerHello of drafts 14 to 21 of TLS 1.3, whose version, the first 2 bytes, is 0x7f and the draft's number: in the form of
-/// draft 18 (draft-ietf-tls-tls13-18, section 4.1.3), whichever it is. Later drafts have the form of RFC 8446.
+/// Reads the body of a ServerHello of drafts 14 to 21 of TLS 1.3. Its version, the first 2 bytes,
+/// is 0x7f and the draft's number. Each is read in the form of draft 18 (draft-ietf-tls-tls13-18,
+/// section 4.1.3). Later drafts have the form of RFC 8446.
 ///
-/// - `Incomplete` of the count of missing bytes, where they are missing in front of the extensions.
+/// - `Incomplete` with the number of missing bytes, if they are missing before the extensions.
 /// - `Error` of kind `Tag` for any other version, whatever follows it.
 #[tactic(auto, using(layouts::proofs::OneAnswerLemmas::read_allowed), unfolding(crate::specs::Handshake::server_hello_of_draft_body))]
 pub fn parse_tls_handshake_msg_server_hello_of_draft(
@@ -81,7 +86,7 @@ pub fn parse_tls_handshake_msg_server_hello_of_draft(
     }
 }
 
-/// Reads the body of an EndOfEarlyData (RFC 8446, section 4.5): no bytes. It never refuses.
+/// Reads the body of an EndOfEarlyData (RFC 8446, section 4.5): no bytes. Never refuses.
 #[tactic(auto, using(layouts::proofs::OneAnswerLemmas::read_allowed), unfolding(crate::specs::Handshake::end_of_early_data_body))]
 #[inline(always)]
 pub(crate) fn end_of_early_data(i: &[u8]) -> IResult<&[u8], TlsMessageHandshake>
@@ -90,10 +95,10 @@ pub(crate) fn end_of_early_data(i: &[u8]) -> IResult<&[u8], TlsMessageHandshake>
     Ok((i, TlsMessageHandshake::EndOfEarlyData))
 }
 
-/// Reads the body of a HelloRetryRequest of drafts of TLS 1.3 (draft-ietf-tls-tls13-19, section 4.1.4): 2 bytes of version,
-/// 2 of cipher suite, and perhaps extensions after 2 bytes of length.
+/// Reads the body of a HelloRetryRequest of drafts of TLS 1.3 (draft-ietf-tls-tls13-19, section
+/// 4.1.4): 2 bytes of version, 2 of cipher suite, and optional extensions after 2 bytes of length.
 ///
-/// `Incomplete` of the count of missing bytes, where they are missing in front of the extensions.
+/// `Incomplete` with the number of missing bytes, if they are missing before the extensions.
 #[tactic(auto, using(layouts::proofs::OneAnswerLemmas::read_allowed), unfolding(crate::specs::Handshake::hello_retry_request_body))]
 #[inline(always)]
 pub fn parse_tls_handshake_msg_hello_retry_request(i: &[u8]) -> IResult<&[u8], TlsMessageHandshake>
@@ -103,7 +108,8 @@ pub fn parse_tls_handshake_msg_hello_retry_request(i: &[u8]) -> IResult<&[u8], T
     Ok((i, TlsMessageHandshake::HelloRetryRequest(request)))
 }
 
-/// Reads the body of a Certificate in its form up to TLS 1.2 (RFC 5246, section 7.4.2): as [`crate::parts::certificate`].
+/// Reads the body of a Certificate up to TLS 1.2 (RFC 5246, section 7.4.2), as
+/// [`crate::parts::certificate`].
 #[tactic(auto, using(layouts::proofs::OneAnswerLemmas::read_allowed), unfolding(crate::specs::Handshake::certificate_body))]
 pub fn parse_tls_handshake_msg_certificate(
     alloc: Global,
@@ -115,7 +121,7 @@ pub fn parse_tls_handshake_msg_certificate(
     Ok((i, TlsMessageHandshake::Certificate(certificate)))
 }
 
-/// Reads the body of a CertificateRequest in its form up to TLS 1.2 (RFC 5246, section 7.4.4): as
+/// Reads the body of a CertificateRequest up to TLS 1.2 (RFC 5246, section 7.4.4), as
 /// [`parse_tls_handshake_certificaterequest`].
 #[tactic(auto, using(layouts::proofs::OneAnswerLemmas::read_allowed), unfolding(crate::specs::Handshake::certificate_request_body))]
 pub fn parse_tls_handshake_msg_certificaterequest(
@@ -128,9 +134,10 @@ pub fn parse_tls_handshake_msg_certificaterequest(
     Ok((i, TlsMessageHandshake::CertificateRequest(request)))
 }
 
-/// Reads the body of a ServerHelloDone (RFC 5246, section 7.4.5): `len` bytes, which are kept.
+/// Reads the body of a ServerHelloDone (RFC 5246, section 7.4.5): `len` bytes, which the message
+/// keeps.
 ///
-/// `Incomplete` of the count of missing bytes.
+/// `Incomplete` with the number of missing bytes.
 #[tactic(auto, using(layouts::proofs::OneAnswerLemmas::read_allowed), unfolding(crate::specs::Handshake::server_done_body))]
 pub fn parse_tls_handshake_msg_serverdone(
     i: &[u8],
@@ -144,7 +151,7 @@ pub fn parse_tls_handshake_msg_serverdone(
 
 /// Reads the body of a CertificateVerify (RFC 5246, section 7.4.8): `len` bytes.
 ///
-/// `Incomplete` of the count of missing bytes.
+/// `Incomplete` with the number of missing bytes.
 #[tactic(auto, using(layouts::proofs::OneAnswerLemmas::read_allowed), unfolding(crate::specs::Handshake::certificate_verify_body))]
 pub fn parse_tls_handshake_msg_certificateverify(
     i: &[u8],
@@ -158,7 +165,7 @@ pub fn parse_tls_handshake_msg_certificateverify(
 
 /// Reads the body of a Finished (RFC 5246, section 7.4.9): `len` bytes.
 ///
-/// `Incomplete` of the count of missing bytes.
+/// `Incomplete` with the number of missing bytes.
 #[tactic(auto, using(layouts::proofs::OneAnswerLemmas::read_allowed), unfolding(crate::specs::Handshake::finished_body))]
 pub fn parse_tls_handshake_msg_finished(i: &[u8], len: usize) -> IResult<&[u8], TlsMessageHandshake>
     ensures { Gives view_handshake (finished_body len) i.now result }
@@ -167,7 +174,8 @@ pub fn parse_tls_handshake_msg_finished(i: &[u8], len: usize) -> IResult<&[u8], 
     Ok((i, TlsMessageHandshake::Finished(bytes)))
 }
 
-/// Reads the body of a CertificateStatus (RFC 6066, section 8): as [`parse_tls_handshake_certificatestatus`].
+/// Reads the body of a CertificateStatus (RFC 6066, section 8), as
+/// [`parse_tls_handshake_certificatestatus`].
 #[tactic(auto, using(layouts::proofs::OneAnswerLemmas::read_allowed), unfolding(crate::specs::Handshake::certificate_status_body))]
 pub fn parse_tls_handshake_msg_certificatestatus(i: &[u8]) -> IResult<&[u8], TlsMessageHandshake>
     ensures { Gives view_handshake certificate_status_body i.now result }

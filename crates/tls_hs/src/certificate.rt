@@ -7,7 +7,7 @@ ghost use Rattle.tls_hs.specs.Certificate.{view_certificate_status, certificate_
 use layouts::{IResult, OutOfMemory, Room, counted3, items, number1};
 use std::alloc::Global;
 
-/// A certificate, as it stands after its length (RFC 5246, section 7.4.2).
+/// A certificate, without its length (RFC 5246, section 7.4.2).
 #[derive(Clone, Debug, PartialEq, Drop)]
 pub struct RawCertificate<'a> {
     /// The certificate, in DER.
@@ -19,14 +19,14 @@ impl<'a> Room for RawCertificate<'a> {}
 /// The body of a Certificate up to TLS 1.2 (RFC 5246, section 7.4.2).
 #[derive(Debug, PartialEq, Drop)]
 pub struct TlsCertificateContents<'a> {
-    /// The sender's own certificate first.
+    /// The certificates; the sender's is first.
     pub cert_chain: Vec<RawCertificate<'a>>,
 }
 
 impl<'a> TlsCertificateContents<'a> {
-    /// The same certificates again, in a list of their own.
+    /// Returns a copy with a copied list. The certificates' bytes are shared.
     ///
-    /// `OutOfMemory` where memory for the list runs out.
+    /// `OutOfMemory` if the list can't be allocated.
     pub fn try_clone(&self, alloc: Global) -> Result<Self, OutOfMemory>
         ensures { IfOk result (λ c. view_certificate c ≡ view_certificate self.now) }
     {
@@ -36,11 +36,12 @@ impl<'a> TlsCertificateContents<'a> {
     }
 }
 
-/// Reads the body of a Certificate up to TLS 1.2 (RFC 5246, section 7.4.2): 3 bytes of length, big-endian, and within so
-/// many bytes certificates, each after 3 bytes of length, up to the first that isn't whole. What is left within is dropped.
+/// Reads the body of a Certificate up to TLS 1.2 (RFC 5246, section 7.4.2): 3 bytes of length,
+/// big-endian, and that many bytes of certificates, each after 3 bytes of length. The list ends
+/// before the first incomplete certificate; the bytes from there are dropped.
 ///
-/// - `Incomplete` of the count of missing bytes, where the list isn't whole.
-/// - `OutOfMemory` where memory for the list runs out.
+/// - `Incomplete` with the number of missing bytes, if the list is incomplete.
+/// - `OutOfMemory` if the list can't be allocated.
 #[tactic(auto, using(layouts::proofs::OneAnswerLemmas::read_allowed), unfolding(crate::specs::Certificate::certificate))]
 #[inline(always)]
 pub fn certificate(alloc: Global, i: &[u8]) -> IResult<&[u8], TlsCertificateContents>
@@ -54,16 +55,16 @@ pub fn certificate(alloc: Global, i: &[u8]) -> IResult<&[u8], TlsCertificateCont
 /// The body of a CertificateStatus (RFC 6066, section 8).
 #[derive(Clone, Debug, PartialEq, Drop)]
 pub struct TlsCertificateStatusContents<'a> {
-    /// 1 for OCSP.
+    /// The type of the status: 1 for OCSP.
     pub status_type: u8,
-    /// The response of the certificate's authority.
+    /// The response of the certificate authority.
     pub blob: &'a [u8],
 }
 
-/// Reads the body of a CertificateStatus (RFC 6066, section 8): 1 byte of type, 3 bytes of length, big-endian, and so many
-/// bytes.
+/// Reads the body of a CertificateStatus (RFC 6066, section 8): 1 byte of type, 3 bytes of length,
+/// big-endian, and that many bytes.
 ///
-/// `Incomplete` of the count of missing bytes.
+/// `Incomplete` with the number of missing bytes.
 #[tactic(auto, using(layouts::proofs::OneAnswerLemmas::read_allowed), unfolding(crate::specs::Certificate::certificate_status))]
 pub fn parse_tls_handshake_certificatestatus(
     i: &[u8],

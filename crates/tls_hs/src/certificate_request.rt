@@ -1,4 +1,4 @@
-//! The CertificateRequest, in its two forms up to TLS 1.2 (RFC 5246, section 7.4.4).
+//! The CertificateRequest up to TLS 1.2, in its two forms (RFC 5246, section 7.4.4).
 ghost use Rattle.std.specs.Prelude.{◌≡◌, map, IfOk};
 ghost use Rattle.layouts.specs.Answers.{GivesOrMemory};
 ghost use Rattle.tls_hs.specs.Certificate.{view_certificate_request, certificate_types as certificate_types_layout};
@@ -15,20 +15,21 @@ use std::alloc::Global;
 /// The body of a CertificateRequest up to TLS 1.2 (RFC 5246, section 7.4.4).
 #[derive(Debug, PartialEq, Drop)]
 pub struct TlsCertificateRequestContents<'a> {
-    /// The types of certificates that the server takes.
+    /// The types of certificates that the server accepts.
     pub cert_types: Vec<u8>,
-    /// The signature algorithms that the server can check; `None` up to TLS 1.1.
+    /// The signature algorithms that the server supports; `None` up to TLS 1.1.
     pub sig_hash_algs: Option<Vec<u16>>,
-    /// The names of the authorities that the server trusts, in DER.
+    /// The names of the certificate authorities that the server trusts, in DER.
     pub unparsed_ca: Vec<&'a [u8]>,
 }
 
 impl<'a> TlsCertificateRequestContents<'a> {
-    /// The same request again, with lists of its own.
+    /// Returns a copy with copied lists. The names' bytes are shared.
     ///
-    /// `OutOfMemory` where memory for a list runs out.
+    /// `OutOfMemory` if a list can't be allocated.
     pub fn try_clone(&self, alloc: Global) -> Result<Self, OutOfMemory>
-        ensures { IfOk result (λ r. view_certificate_request r ≡ view_certificate_request self.now) }
+        ensures { IfOk result
+            (λ r. view_certificate_request r ≡ view_certificate_request self.now) }
     {
         let sig_hash_algs = match &self.sig_hash_algs {
             Some(algorithms) => Some(Vec::from_slice(alloc, algorithms)?),
@@ -42,7 +43,7 @@ impl<'a> TlsCertificateRequestContents<'a> {
     }
 }
 
-/// Reads certificate types: 1 byte of count, and so many bytes.
+/// Reads certificate types: 1 byte of length and that many types, 1 byte each.
 #[tactic(auto, using(layouts::proofs::OneAnswerLemmas::read_allowed), unfolding(crate::specs::Certificate::certificate_types))]
 fn certificate_types(alloc: Global, i: &[u8]) -> IResult<&[u8], Vec<u8>>
     ensures { GivesOrMemory (λ v. v.items) certificate_types_layout i.now result }
@@ -51,7 +52,7 @@ fn certificate_types(alloc: Global, i: &[u8]) -> IResult<&[u8], Vec<u8>>
     Ok((i, Vec::from_slice(alloc, types)?))
 }
 
-/// Reads signature algorithms: 2 bytes of length, and within so many bytes numbers of 2 bytes.
+/// Reads signature algorithms: 2 bytes of length and that many bytes of numbers, 2 bytes each.
 #[tactic(auto, using(layouts::proofs::OneAnswerLemmas::read_allowed, layouts::proofs::ListLemmas::map_same), unfolding(crate::specs::Certificate::signature_algorithms))]
 fn signature_algorithms(alloc: Global, i: &[u8]) -> IResult<&[u8], Vec<u16>>
     ensures { GivesOrMemory (λ v. v.items) signature_algorithms_layout i.now result }
@@ -61,20 +62,23 @@ fn signature_algorithms(alloc: Global, i: &[u8]) -> IResult<&[u8], Vec<u16>>
     Ok((i, algorithms))
 }
 
-/// Reads names of authorities: 2 bytes of length, and within so many bytes names, each after 2 bytes of length.
+/// Reads names of authorities: 2 bytes of length and that many bytes of names, each after 2 bytes
+/// of length.
 #[tactic(auto, using(layouts::proofs::OneAnswerLemmas::read_allowed), unfolding(crate::specs::Certificate::certificate_authorities))]
 fn certificate_authorities(alloc: Global, i: &[u8]) -> IResult<&[u8], Vec<&[u8]>>
-    ensures { GivesOrMemory (λ v. map (λ x. x.now) v.items) certificate_authorities_layout i.now result }
+    ensures { GivesOrMemory (λ v. map (λ x. x.now) v.items) certificate_authorities_layout
+        i.now result }
 {
     let (i, window) = counted2(i)?;
     let (_, authorities) = items::<Counted2>(alloc, window)?;
     Ok((i, authorities))
 }
 
-/// Reads a request as in TLS 1.2.
+/// Reads a request in the form of TLS 1.2.
 #[tactic(auto, using(layouts::proofs::OneAnswerLemmas::read_allowed), unfolding(crate::specs::Certificate::certificate_request_with_algorithms))]
 fn with_algorithms(alloc: Global, i: &[u8]) -> IResult<&[u8], TlsCertificateRequestContents>
-    ensures { GivesOrMemory view_certificate_request certificate_request_with_algorithms i.now result }
+    ensures { GivesOrMemory view_certificate_request certificate_request_with_algorithms
+        i.now result }
 {
     let (i, cert_types) = certificate_types(alloc, i)?;
     let (i, algorithms) = signature_algorithms(alloc, i)?;
@@ -87,10 +91,11 @@ fn with_algorithms(alloc: Global, i: &[u8]) -> IResult<&[u8], TlsCertificateRequ
     Ok((i, request))
 }
 
-/// Reads a request as up to TLS 1.1.
+/// Reads a request in the form up to TLS 1.1.
 #[tactic(auto, using(layouts::proofs::OneAnswerLemmas::read_allowed), unfolding(crate::specs::Certificate::certificate_request_without_algorithms))]
 fn without_algorithms(alloc: Global, i: &[u8]) -> IResult<&[u8], TlsCertificateRequestContents>
-    ensures { GivesOrMemory view_certificate_request certificate_request_without_algorithms i.now result }
+    ensures { GivesOrMemory view_certificate_request certificate_request_without_algorithms
+        i.now result }
 {
     let (i, cert_types) = certificate_types(alloc, i)?;
     let (i, unparsed_ca) = certificate_authorities(alloc, i)?;
@@ -102,14 +107,19 @@ fn without_algorithms(alloc: Global, i: &[u8]) -> IResult<&[u8], TlsCertificateR
     Ok((i, request))
 }
 
-/// Reads the body of a CertificateRequest up to TLS 1.2 (RFC 5246, section 7.4.4): 1 byte of count and so many certificate
-/// types of 1 byte, signature algorithms of 2 bytes each after 2 bytes of length, and names of authorities, each after
-/// 2 bytes of length, after 2 bytes of length. All numbers are big-endian.
+/// Reads the body of a CertificateRequest up to TLS 1.2 (RFC 5246, section 7.4.4). All numbers are
+/// big-endian.
 ///
-/// Where that isn't read, the form up to TLS 1.1 is (RFC 4346, section 7.4.4), without the algorithms.
+/// - Certificate types of 1 byte each, after 1 byte of length;
+/// - signature algorithms of 2 bytes each, after 2 bytes of length;
+/// - names of authorities, each after 2 bytes of length; the list is after 2 bytes of length too.
 ///
-/// - `Error` of kind `Complete` where neither form is read, even where only bytes are missing.
-/// - `OutOfMemory` where memory for a list of the form that is tried runs out; the other form is not tried then.
+/// If that can't be read, the form up to TLS 1.1 is tried, without the algorithms (RFC 4346,
+/// section 7.4.4).
+///
+/// - `Error` of kind `Complete` if neither form can be read, even if only bytes are missing.
+/// - `OutOfMemory` if a list of the form that is tried can't be allocated; the other form isn't
+///   tried then.
 #[tactic(auto, using(layouts::proofs::OneAnswerLemmas::read_allowed), unfolding(crate::specs::Certificate::certificate_request))]
 pub fn parse_tls_handshake_certificaterequest(
     alloc: Global,

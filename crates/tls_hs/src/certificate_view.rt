@@ -1,4 +1,4 @@
-//! Certificates, and requests for them, in place.
+//! Certificates and certificate requests in place.
 ghost use Rattle.layouts.specs.Answers.{Gives};
 ghost use Rattle.layouts.specs.Bytes.{Bytes};
 ghost use Rattle.layouts.specs.Items.{items_in};
@@ -27,10 +27,11 @@ impl<'a> InPlace<'a> for RawCertificate<'a> {
     }
 }
 
-/// Reads the body of a Certificate up to TLS 1.2 in place (RFC 5246, section 7.4.2), the sender's own certificate first: as
-/// [`crate::parse_tls_handshake_msg_certificate`], memory aside.
+/// Reads the body of a Certificate up to TLS 1.2 in place (RFC 5246, section 7.4.2); the sender's
+/// certificate is first. Gives the same answer as [`crate::parse_tls_handshake_msg_certificate`],
+/// but allocates nothing.
 ///
-/// The length of the list is judged; each certificate is read as the walk comes to it.
+/// The length of the list is checked at once. Each certificate is read when the walk reaches it.
 #[tactic(auto, using(layouts::proofs::OneAnswerLemmas::read_allowed), unfolding(crate::specs::Certificate::certificate))]
 #[inline(always)]
 pub fn certificates(i: &[u8]) -> IResult<&[u8], Items<RawCertificate>>
@@ -40,43 +41,48 @@ pub fn certificates(i: &[u8]) -> IResult<&[u8], Items<RawCertificate>>
     Ok((i, Items::new(window)))
 }
 
-/// The body of a CertificateRequest up to TLS 1.2 (RFC 5246, section 7.4.4), as [`crate::TlsCertificateRequestContents`], but
-/// with its lists in place.
+/// The body of a CertificateRequest up to TLS 1.2 (RFC 5246, section 7.4.4), as
+/// [`crate::TlsCertificateRequestContents`], with its lists in place.
 #[derive(Clone, Copy, Debug, PartialEq)]
 pub struct CertificateRequestView<'a> {
-    /// The types of certificates that the server takes.
+    /// The types of certificates that the server accepts.
     pub cert_types: &'a [u8],
-    /// The signature algorithms that the server can check; `None` up to TLS 1.1.
+    /// The signature algorithms that the server supports; `None` up to TLS 1.1.
     pub sig_hash_algs: Option<Items<'a, u16>>,
-    /// The names of the authorities that the server trusts, in DER.
+    /// The names of the certificate authorities that the server trusts, in DER.
     pub unparsed_ca: Items<'a, Counted2>,
 }
 
-/// Reads signature algorithms in place: 2 bytes of length, and within so many bytes numbers of 2 bytes.
+/// Reads signature algorithms in place: 2 bytes of length and that many bytes of numbers, 2 bytes
+/// each.
 #[tactic(auto, using(layouts::proofs::OneAnswerLemmas::read_allowed), unfolding(crate::specs::Certificate::signature_algorithms))]
 #[inline(always)]
 fn signature_algorithms(i: &[u8]) -> IResult<&[u8], Items<u16>>
-    ensures { Gives (λ v. items_in (number 2) v.bytes.now) signature_algorithms_layout i.now result }
+    ensures { Gives (λ v. items_in (number 2) v.bytes.now) signature_algorithms_layout
+        i.now result }
 {
     let (i, window) = counted2(i)?;
     Ok((i, Items::new(window)))
 }
 
-/// Reads names of authorities in place: 2 bytes of length, and within so many bytes names, each after 2 bytes of length.
+/// Reads names of authorities in place: 2 bytes of length and that many bytes of names, each after
+/// 2 bytes of length.
 #[tactic(auto, using(layouts::proofs::OneAnswerLemmas::read_allowed), unfolding(crate::specs::Certificate::certificate_authorities))]
 #[inline(always)]
 fn certificate_authorities(i: &[u8]) -> IResult<&[u8], Items<Counted2>>
-    ensures { Gives (λ v. items_in (counted 2) v.bytes.now) certificate_authorities_layout i.now result }
+    ensures { Gives (λ v. items_in (counted 2) v.bytes.now) certificate_authorities_layout
+        i.now result }
 {
     let (i, window) = counted2(i)?;
     Ok((i, Items::new(window)))
 }
 
-/// Reads a request as in TLS 1.2.
+/// Reads a request in the form of TLS 1.2.
 #[tactic(auto, using(layouts::proofs::OneAnswerLemmas::read_allowed), unfolding(crate::specs::Certificate::certificate_request_with_algorithms, crate::specs::Certificate::certificate_types))]
 #[inline(always)]
 fn with_algorithms(i: &[u8]) -> IResult<&[u8], CertificateRequestView>
-    ensures { Gives view_certificate_request_in_place certificate_request_with_algorithms i.now result }
+    ensures { Gives view_certificate_request_in_place certificate_request_with_algorithms
+        i.now result }
 {
     let (i, cert_types) = counted1(i)?;
     let (i, algorithms) = signature_algorithms(i)?;
@@ -89,11 +95,12 @@ fn with_algorithms(i: &[u8]) -> IResult<&[u8], CertificateRequestView>
     Ok((i, request))
 }
 
-/// Reads a request as up to TLS 1.1.
+/// Reads a request in the form up to TLS 1.1.
 #[tactic(auto, using(layouts::proofs::OneAnswerLemmas::read_allowed), unfolding(crate::specs::Certificate::certificate_request_without_algorithms, crate::specs::Certificate::certificate_types))]
 #[inline(always)]
 fn without_algorithms(i: &[u8]) -> IResult<&[u8], CertificateRequestView>
-    ensures { Gives view_certificate_request_in_place certificate_request_without_algorithms i.now result }
+    ensures { Gives view_certificate_request_in_place certificate_request_without_algorithms
+        i.now result }
 {
     let (i, cert_types) = counted1(i)?;
     let (i, unparsed_ca) = certificate_authorities(i)?;
@@ -106,10 +113,10 @@ fn without_algorithms(i: &[u8]) -> IResult<&[u8], CertificateRequestView>
 }
 
 impl<'a> CertificateRequestView<'a> {
-    /// Reads the body of a CertificateRequest: it answers what [`crate::parse_tls_handshake_certificaterequest`] does, memory
-    /// aside.
+    /// Reads the body of a CertificateRequest in place. Gives the same answer as
+    /// [`crate::parse_tls_handshake_certificaterequest`], but allocates nothing.
     ///
-    /// The lengths of the lists are judged; what stands in them is read as a walk comes to it.
+    /// The lengths of the lists are checked at once. Their items are read when a walk reaches them.
     #[tactic(auto, using(layouts::proofs::OneAnswerLemmas::read_allowed), unfolding(crate::specs::Certificate::certificate_request))]
     pub fn parse(i: &'a [u8]) -> IResult<&'a [u8], Self>
         ensures { Gives view_certificate_request_in_place certificate_request i.now result }

@@ -1,4 +1,4 @@
-//! The ClientHello of TLS (RFC 5246, section 7.4.1.2): its body, and its reader.
+//! The ClientHello of TLS (RFC 5246, section 7.4.1.2): its body and its reader.
 ghost use Rattle.std.specs.Prelude.{◌≡◌, map, IfOk};
 ghost use Rattle.layouts.specs.Answers.{GivesOrMemory};
 ghost use Rattle.tls_base.specs.CipherTable.{suite_of_id};
@@ -15,23 +15,23 @@ use tls_base::{CipherTable, TlsCipherSuite, TlsCipherSuiteID, TlsCompressionID, 
 /// The body of a ClientHello (RFC 5246, section 7.4.1.2).
 #[derive(Debug, PartialEq, Drop)]
 pub struct TlsClientHelloContents<'a> {
-    /// The version that the client offers up to TLS 1.2. In TLS 1.3 it is 0x0303, and what the client offers stands in
-    /// the extension supported_versions (RFC 8446, section 4.2.1).
+    /// The version that the client offers up to TLS 1.2. In TLS 1.3 it is 0x0303, and the offered
+    /// versions are in the extension supported_versions (RFC 8446, section 4.2.1).
     pub version: TlsVersion,
-    /// 32 bytes.
+    /// The random, 32 bytes.
     pub random: &'a [u8],
-    /// 1 to 32 bytes; `None` where there are none.
+    /// The session id, 1 to 32 bytes; `None` if it is empty.
     pub session_id: Option<&'a [u8]>,
     /// The cipher suites that the client offers, in its order.
     pub ciphers: Vec<TlsCipherSuiteID>,
     /// The compression methods that the client offers, in its order.
     pub comp: Vec<TlsCompressionID>,
-    /// The extensions, as they stand after their length; `None` where no whole block follows.
+    /// The extensions, without their length; `None` if no complete block follows.
     pub ext: Option<&'a [u8]>,
 }
 
 impl<'a> TlsClientHelloContents<'a> {
-    /// A ClientHello of these fields, in the order of the type.
+    /// Returns a ClientHello with these fields, in the order of the type.
     pub fn new(
         v: u16,
         random: &'a [u8],
@@ -57,29 +57,32 @@ impl<'a> TlsClientHelloContents<'a> {
         }
     }
 
-    /// The field `version`.
+    /// Returns the field `version`.
     pub fn get_version(&self) -> TlsVersion
         ensures { result ≡ self.now.version }
     {
         self.version
     }
 
-    /// The suite that `table` has for each cipher suite that the client offers, in its order; `None` where it has none.
+    /// Returns the table's suite for each cipher suite that the client offers, in its order; `None`
+    /// if the table has none.
     ///
-    /// `OutOfMemory` where memory for the list runs out.
+    /// `OutOfMemory` if the list can't be allocated.
     pub fn get_ciphers<'t>(
         &self,
         alloc: Global,
         table: &'t CipherTable,
     ) -> Result<Vec<Option<&'t TlsCipherSuite>>, OutOfMemory>
-        ensures { IfOk result (λ v. map (option_map (λ s. s.now)) v.items ≡ map (suite_of_id table.now) (view_client_hello self.now).cipher_suites) }
+        ensures { IfOk result
+            (λ v. map (option_map (λ s. s.now)) v.items ≡ map (suite_of_id table.now)
+            (view_client_hello self.now).cipher_suites) }
     {
         suites(alloc, table, &self.ciphers)
     }
 
-    /// The same ClientHello again, with lists of its own.
+    /// Returns a copy with copied lists. Slices are shared.
     ///
-    /// `OutOfMemory` where memory for a list runs out.
+    /// `OutOfMemory` if a list can't be allocated.
     pub fn try_clone(&self, alloc: Global) -> Result<Self, OutOfMemory>
         ensures { IfOk result (λ h. view_client_hello h ≡ view_client_hello self.now) }
     {
@@ -138,18 +141,25 @@ impl<'a> ClientHello<'a> for TlsClientHelloContents<'a> {
     }
 }
 
-/// Reads the body of a ClientHello (RFC 5246, section 7.4.1.2): 2 bytes of version, 32 of random, a session id after
-/// 1 byte of length, cipher suites of 2 bytes each after 2 bytes of length, compression methods of 1 byte each after
-/// 1 byte of length, and perhaps extensions after 2 bytes of length. All numbers are big-endian.
+/// Reads the body of a ClientHello (RFC 5246, section 7.4.1.2). All numbers are big-endian.
 ///
-/// - `Incomplete` of the count of missing bytes, where the version, the random, the session id or one of these lengths
-///   isn't whole.
-/// - `Error` of kind `Verify` where the session id is longer than 32 bytes.
-/// - `Error` of kind `LengthValue` where the length of the suites is odd, or where that of the suites or of the methods
-///   is above the bytes that are left.
-/// - `OutOfMemory` where memory for a list runs out.
+/// - 2 bytes of version, 32 of random;
+/// - a session id, after 1 byte of length;
+/// - cipher suites of 2 bytes each, after 2 bytes of length;
+/// - compression methods of 1 byte each, after 1 byte of length;
+/// - optional extensions, after 2 bytes of length.
 ///
-/// Extensions that aren't whole are no refusal: `ext` is `None`, and they are the rest. No list has a least length here.
+/// The refusals:
+///
+/// - `Incomplete` with the number of missing bytes, if the version, the random, the session id or
+///   one of these lengths is incomplete.
+/// - `Error` of kind `Verify` if the session id is longer than 32 bytes.
+/// - `Error` of kind `LengthValue` if the length of the suites is odd, or if that of the suites or
+///   of the methods is greater than the number of remaining bytes.
+/// - `OutOfMemory` if a list can't be allocated.
+///
+/// Incomplete extensions aren't refused: `ext` is `None`, and they are the rest. Any list may be
+/// empty.
 #[inline(always)]
 pub fn parse_tls_handshake_client_hello(
     alloc: Global,

@@ -1,4 +1,4 @@
-//! Where the parts of a ClientHello stand in the bytes that it was read from.
+//! Positions of the parts of a ClientHello within its bytes.
 #![tactic(auto, using(layouts::proofs::OneAnswerLemmas::read_allowed))]
 
 ghost use Rattle.std.specs.Prelude.{◌≡◌, ◌+◌, IfOk};
@@ -12,25 +12,26 @@ use crate::client_hello_view::{ClientHelloView, client_hello_fields};
 use crate::hello_fields::held_bytes;
 use layouts::{IResult, Place};
 
-/// Where the parts of a ClientHello's body stand in it.
+/// The positions of the parts of a ClientHello within its body.
 #[derive(Clone, Copy, Debug, PartialEq)]
 pub struct ClientHelloPlaces {
     /// The 32 bytes of the random.
     pub random: Place,
-    /// The session id, without its length; `None` where there is none.
+    /// The session id, without its length; `None` if there is none.
     pub session_id: Option<Place>,
     /// The cipher suites, without their length.
     pub ciphers: Place,
     /// The compression methods, without their length.
     pub comp: Place,
-    /// The extensions, without their length; `None` where no whole block follows.
+    /// The extensions, without their length; `None` if no complete block follows.
     pub ext: Option<Place>,
 }
 
-/// Where `part` stands in `whole`, if `between` bytes stand between what is at `place` and it.
+/// Returns where `part` is in `whole`, if it begins `between` bytes after the end of `place`.
 #[inline(always)]
 fn behind(whole: &[u8], place: Place, between: usize, part: &[u8]) -> Place
-    ensures { BeginsAt whole.now (place.offset + place.length + between) part.now → result ≡ place_from (place.offset + place.length + between) part.now }
+    ensures { BeginsAt whole.now (place.offset + place.length + between) part.now
+        → result ≡ place_from (place.offset + place.length + between) part.now }
 {
     Place {
         offset: place
@@ -42,10 +43,14 @@ fn behind(whole: &[u8], place: Place, between: usize, part: &[u8]) -> Place
     }
 }
 
-/// Where what may be there stands in `whole`, if so.
+/// Returns where an optional part is in `whole`, if it begins `between` bytes after the end of
+/// `place`.
 #[inline(always)]
 fn held_behind(whole: &[u8], place: Place, between: usize, part: Option<&[u8]>) -> Option<Place>
-    ensures { MayBeginAt whole.now (place.offset + place.length + between) (option_map (λ x. x.now) part.entry) → result ≡ option_map (λ x. place_from (place.offset + place.length + between) x.now) part.entry }
+    ensures { MayBeginAt whole.now (place.offset + place.length + between)
+        (option_map (λ x. x.now) part.entry)
+        → result ≡ option_map (λ x. place_from (place.offset + place.length + between) x.now)
+        part.entry }
 {
     match part {
         Some(bytes) => Some(behind(whole, place, between, bytes)),
@@ -53,15 +58,17 @@ fn held_behind(whole: &[u8], place: Place, between: usize, part: Option<&[u8]>) 
     }
 }
 
-/// Where the parts of a ClientHello, and its cookie where it has one, stand in `whole`, its body.
+/// Returns where the parts of a ClientHello, and its cookie if it has one, are in its body `whole`.
 #[inline(always)]
 pub fn client_hello_places_in(
     whole: &[u8],
     hello: &ClientHelloView,
     cookie: Option<&[u8]>,
 ) -> (ClientHelloPlaces, Option<Place>)
-    ensures places { LiesAsClientHello whole.now hello.now (option_map (λ x. x.now) cookie.entry) → HelloStandsWithin whole.now hello.now result.0 }
-    ensures cookie { LiesAsClientHello whole.now hello.now (option_map (λ x. x.now) cookie.entry) → MayStand whole.now result.1 (option_map (λ x. x.now) cookie.entry) }
+    ensures places { LiesAsClientHello whole.now hello.now (option_map (λ x. x.now) cookie.entry)
+        → HelloStandsWithin whole.now hello.now result.0 }
+    ensures cookie { LiesAsClientHello whole.now hello.now (option_map (λ x. x.now) cookie.entry)
+        → MayStand whole.now result.1 (option_map (λ x. x.now) cookie.entry) }
 {
     let random = Place {
         offset: 2,
@@ -84,7 +91,8 @@ pub fn client_hello_places_in(
 }
 
 impl<'a> ClientHelloView<'a> {
-    /// Reads the body of a ClientHello as [`ClientHelloView::parse`], and says where its parts stand in `i`.
+    /// Reads the body of a ClientHello, as [`ClientHelloView::parse`], and returns where its parts
+    /// are in `i`.
     #[tactic(auto, using(layouts::proofs::OneAnswerLemmas::read_allowed), unfolding(crate::specs::Hello::client_hello))]
     pub fn parse_with_places(i: &'a [u8]) -> IResult<&'a [u8], (Self, ClientHelloPlaces)>
         ensures gives { Gives (λ x. view_client_hello_in_place x.0) client_hello i.now result }

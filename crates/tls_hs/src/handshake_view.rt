@@ -1,4 +1,5 @@
-//! Handshake messages in place (RFC 5246, section 7.4): raw, with the body as it stands, and with the body read.
+//! Handshake messages in place (RFC 5246, section 7.4): raw, with an unparsed body, and with the
+//! body parsed.
 ghost use Rattle.std.specs.Prelude.{◌≡◌, length};
 ghost use Rattle.layouts.specs.Answers.{Gives};
 ghost use Rattle.layouts.specs.Framed.{Framed};
@@ -16,23 +17,24 @@ use crate::{bodies, session};
 use layouts::{IResult, InPlace, Items, block, counted3, number3};
 use tls_base::TlsHandshakeType;
 
-/// A handshake message (RFC 5246, section 7.4), as [`crate::TlsMessageHandshake`], but with its lists in place.
+/// A handshake message (RFC 5246, section 7.4), as [`crate::TlsMessageHandshake`], with its lists
+/// in place.
 #[derive(Debug, PartialEq, Drop)]
 pub enum HandshakeView<'a> {
-    /// What a client offers (RFC 5246, section 7.4.1.2).
+    /// The client's offer (RFC 5246, section 7.4.1.2).
     ClientHello(ClientHelloView<'a>),
-    /// The sender's certificates, in their form up to TLS 1.2 (RFC 5246, section 7.4.2).
+    /// The sender's certificates, in the form up to TLS 1.2 (RFC 5246, section 7.4.2).
     Certificate(Items<'a, RawCertificate<'a>>),
-    /// The server asks for a certificate, in its form up to TLS 1.2 (RFC 5246, section 7.4.4).
+    /// The server requests a certificate, in the form up to TLS 1.2 (RFC 5246, section 7.4.4).
     CertificateRequest(CertificateRequestView<'a>),
-    /// A message that has no list, as the calls that make lists answer it.
+    /// A message without lists, as the calls that make lists return it.
     Other(TlsMessageHandshake<'a>),
 }
 
-/// A handshake message whose body isn't read.
+/// A handshake message whose body isn't parsed.
 #[derive(Clone, Copy, Debug, PartialEq)]
 pub struct RawHandshake<'a> {
-    /// What its body is.
+    /// The type of the message.
     pub msg_type: TlsHandshakeType,
     /// The body, without its length.
     pub body: &'a [u8],
@@ -56,7 +58,8 @@ impl<'a> InPlace<'a> for RawHandshake<'a> {
     }
 }
 
-/// A whole message, which is judged with its body: as [`crate::parse_tls_message_handshake`], memory aside.
+/// A message with its body parsed, as an item of a list. Gives the same answer as
+/// [`crate::parse_tls_message_handshake`], but allocates nothing.
 impl<'a> InPlace<'a> for HandshakeView<'a> {
     type Read = Self;
 
@@ -78,17 +81,20 @@ impl<'a> InPlace<'a> for HandshakeView<'a> {
 }
 
 impl<'a> RawHandshake<'a> {
-    /// Reads the body within its bytes alone: it answers what [`crate::parse_tls_message_handshake`] does of a message that is
-    /// whole, memory aside. The rest is what the body leaves of its bytes.
+    /// Parses the body within its bytes. Gives the same answer as
+    /// [`crate::parse_tls_message_handshake`] on a complete message, but allocates nothing. The
+    /// rest is what the body leaves of its bytes.
     #[inline(always)]
     pub fn parse_body(self) -> IResult<&'a [u8], HandshakeView<'a>>
-        ensures { Gives view_handshake_in_place (handshake_body self.entry.msg_type.0 (length self.entry.body.now)) self.entry.body.now result }
+        ensures { Gives view_handshake_in_place
+            (handshake_body self.entry.msg_type.0 (length self.entry.body.now))
+            self.entry.body.now result }
     {
         body_in_place(self.body, self.msg_type, self.body.len())
     }
 }
 
-/// What a body that has no list is read as.
+/// Converts the result of a body without lists.
 #[inline(always)]
 fn other<'a>(
     read: IResult<&'a [u8], TlsMessageHandshake<'a>>,
@@ -101,20 +107,24 @@ fn other<'a>(
     }
 }
 
-/// What the row of the type reads in place; `$other` where none of these rows has it.
+/// Expands to a match on the type: the reader in place of its row, or `$other` if no row has it.
 macro_rules! in_place {
     ([$msg_type:ident $i:ident $len:ident => $other:expr]
-        $($form:ident $name:ident $(($view:path))?: $module:ident::$read:ident $arguments:tt;)*) => {
+        $($form:ident $name:ident $(($view:path))?: $module:ident::$read:ident
+            $arguments:tt;)*) => {
         match $msg_type {
-            $(TlsHandshakeType::$name => one_in_place!($form $name $(($view))?: $module::$read $arguments, $i $len),)*
+            $(TlsHandshakeType::$name =>
+                one_in_place!($form $name $(($view))?: $module::$read $arguments, $i $len),)*
             _ => $other,
         }
     };
 }
 
-/// What a row reads in place: its lists by the call in brackets, any other message by the call that answers it.
+/// Expands to the reader in place of a row: for lists the call in brackets, for any other message
+/// its usual call.
 macro_rules! one_in_place {
-    (lists $name:ident($view:path): $module:ident::$read:ident $arguments:tt, $i:ident $len:ident) => {{
+    (lists $name:ident($view:path): $module:ident::$read:ident $arguments:tt, $i:ident $len:ident)
+        => {{
         let (i, lists) = $view($i)?;
         Ok((i, HandshakeView::$name(lists)))
     }};
@@ -123,9 +133,10 @@ macro_rules! one_in_place {
     };
 }
 
-/// Reads the body of a message of the type `msg_type`, of `len` bytes, where the type is Certificate (11) or above.
+/// Reads the body of a message of type `msg_type` and `len` bytes in place, if the type is
+/// Certificate (11) or above.
 ///
-/// `Error` of kind `Switch` where no body has this type; else what the body's own call refuses.
+/// `Error` of kind `Switch` if no body has this type, else the refusal of the body's call.
 #[tactic(auto, using(layouts::proofs::OneAnswerLemmas::read_allowed), unfolding(crate::specs::Handshake::body_from_certificate, crate::specs::Handshake::certificate_body, crate::specs::Handshake::certificate_request_body))]
 fn from_certificate(
     i: &[u8],
@@ -137,9 +148,9 @@ fn from_certificate(
     rows!(certificate_rows in_place msg_type i len => other(body_from_finished(i, msg_type, len)))
 }
 
-/// Reads the body of a message of the type `msg_type`, of `len` bytes, from the front of `i`.
+/// Reads the body of a message of type `msg_type` and `len` bytes in place, from the start of `i`.
 ///
-/// `Error` of kind `Switch` where no body has this type; else what the body's own call refuses.
+/// `Error` of kind `Switch` if no body has this type, else the refusal of the body's call.
 #[tactic(auto, using(layouts::proofs::OneAnswerLemmas::read_allowed), unfolding(crate::specs::Handshake::handshake_body, crate::specs::Handshake::client_hello_body))]
 #[inline(always)]
 fn body_in_place(i: &[u8], msg_type: TlsHandshakeType, len: usize) -> IResult<&[u8], HandshakeView>

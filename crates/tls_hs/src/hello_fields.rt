@@ -1,4 +1,4 @@
-//! Fields of hellos (RFC 5246, section 7.4.1), each read alone, and what is told of them.
+//! Reads single fields of hellos (RFC 5246, section 7.4.1), and derives values from them.
 ghost use Rattle.std.specs.Prelude.{◌≡◌, ◌<◌, map, IfOk, Ok};
 ghost use Rattle.std.specs.Option.{option_map};
 ghost use Rattle.layouts.specs.Answers.{Gives, GivesOrMemory};
@@ -17,9 +17,11 @@ use layouts::{
 use std::alloc::{AllocError, Global};
 use tls_base::{CipherTable, TlsCipherSuite, TlsCipherSuiteID, TlsCompressionID};
 
-/// Reads a session id (RFC 5246, section 7.4.1.2): 1 byte of length, at most 32, and so many bytes; one of no bytes is `None`.
+/// Reads a session id (RFC 5246, section 7.4.1.2): 1 byte of length, at most 32, and that many
+/// bytes. An empty one is `None`.
 ///
-/// `Error` of kind `Verify` where the length is above 32; else `Incomplete` of the count of missing bytes.
+/// `Error` of kind `Verify` if the length is above 32, else `Incomplete` with the number of missing
+/// bytes.
 #[tactic(auto, using(layouts::proofs::OneAnswerLemmas::read_allowed), unfolding(crate::specs::Hello::session_id))]
 pub fn session_id(i: &[u8]) -> IResult<&[u8], Option<&[u8]>>
     ensures { Gives (λ v. option_map (λ x. x.now) v) session_id_layout i.now result }
@@ -36,7 +38,7 @@ pub fn session_id(i: &[u8]) -> IResult<&[u8], Option<&[u8]>>
     }
 }
 
-/// What may be there, as bytes: none where it isn't.
+/// Returns the bytes of an optional part, or no bytes if there is none.
 #[inline(always)]
 pub fn held_bytes(part: Option<&[u8]>) -> &[u8]
     ensures { result.now ≡ held (option_map (λ x. x.now) part.entry) }
@@ -47,14 +49,15 @@ pub fn held_bytes(part: Option<&[u8]>) -> &[u8]
     }
 }
 
-/// The numbers in place, as a list of their own. The room for them is asked for at once.
+/// Returns the numbers of a list in place as a vector, which is allocated once.
 ///
-/// `AllocError` where memory for the list runs out.
+/// `AllocError` if the vector can't be allocated.
 #[tactic(auto, using(layouts::proofs::OneAnswerLemmas::read_allowed, crate::proofs::ListedLemmas::listed))]
 #[inline(always)]
 pub fn listed<T: Number>(alloc: Global, items: Items<T>) -> Result<Vec<T>, AllocError>
     requires { 0 < T.WIDTH }
-    ensures { IfOk result (λ v. map T.value v.items ≡ items_in (number T.WIDTH) items.entry.bytes.now) }
+    ensures { IfOk result
+        (λ v. map T.value v.items ≡ items_in (number T.WIDTH) items.entry.bytes.now) }
 {
     let bytes = items.bytes();
     match numbers::<T>(alloc, bytes, bytes.len() / T::WIDTH) {
@@ -63,7 +66,8 @@ pub fn listed<T: Number>(alloc: Global, items: Items<T>) -> Result<Vec<T>, Alloc
     }
 }
 
-/// Reads cipher suites in place: as [`crate::parts::cipher_suites`], memory aside.
+/// Reads cipher suites in place. Gives the same answer as [`crate::parts::cipher_suites`], but
+/// allocates nothing.
 #[tactic(auto, using(layouts::proofs::OneAnswerLemmas::read_allowed, layouts::proofs::NumbersLemmas::numbers_in), unfolding(crate::specs::Hello::cipher_suites))]
 #[inline(always)]
 pub fn cipher_suites_in_place(i: &[u8]) -> IResult<&[u8], Items<TlsCipherSuiteID>>
@@ -79,7 +83,8 @@ pub fn cipher_suites_in_place(i: &[u8]) -> IResult<&[u8], Items<TlsCipherSuiteID
     Ok((rest, Items::new(suites)))
 }
 
-/// Reads compression methods in place: as [`crate::parts::compressions`], memory aside.
+/// Reads compression methods in place. Gives the same answer as [`crate::parts::compressions`], but
+/// allocates nothing.
 #[tactic(auto, using(layouts::proofs::OneAnswerLemmas::read_allowed, layouts::proofs::NumbersLemmas::numbers_in), unfolding(crate::specs::Hello::compression_methods))]
 #[inline(always)]
 pub fn compressions_in_place(i: &[u8]) -> IResult<&[u8], Items<TlsCompressionID>>
@@ -95,11 +100,13 @@ pub fn compressions_in_place(i: &[u8]) -> IResult<&[u8], Items<TlsCompressionID>
     Ok((rest, Items::new(methods)))
 }
 
-/// Reads cipher suites (RFC 5246, section 7.4.1.2): 2 bytes of length, and so many bytes, 2 for each suite, big-endian.
+/// Reads cipher suites (RFC 5246, section 7.4.1.2): 2 bytes of length and that many bytes of
+/// suites, 2 bytes each, big-endian.
 ///
-/// - `Incomplete` of the count of missing bytes, where the length isn't whole.
-/// - `Error` of kind `LengthValue` where the length is odd, or above the bytes that are left.
-/// - `OutOfMemory` where memory for the list runs out.
+/// - `Incomplete` with the number of missing bytes, if the length is incomplete.
+/// - `Error` of kind `LengthValue` if the length is odd, or greater than the number of remaining
+///   bytes.
+/// - `OutOfMemory` if the list can't be allocated.
 pub fn cipher_suites(alloc: Global, i: &[u8]) -> IResult<&[u8], Vec<TlsCipherSuiteID>>
     ensures { GivesOrMemory (λ v. map (λ x. x.0) v.items) cipher_suites_layout i.now result }
 {
@@ -107,11 +114,12 @@ pub fn cipher_suites(alloc: Global, i: &[u8]) -> IResult<&[u8], Vec<TlsCipherSui
     Ok((rest, listed(alloc, suites)?))
 }
 
-/// Reads compression methods (RFC 5246, section 7.4.1.2): 1 byte of length, and so many bytes, 1 for each method.
+/// Reads compression methods (RFC 5246, section 7.4.1.2): 1 byte of length and that many methods, 1
+/// byte each.
 ///
-/// - `Incomplete` of 1 where there is no length.
-/// - `Error` of kind `LengthValue` where the length is above the bytes that are left.
-/// - `OutOfMemory` where memory for the list runs out.
+/// - `Incomplete` with 1 if there is no length.
+/// - `Error` of kind `LengthValue` if the length is greater than the number of remaining bytes.
+/// - `OutOfMemory` if the list can't be allocated.
 pub fn compressions(alloc: Global, i: &[u8]) -> IResult<&[u8], Vec<TlsCompressionID>>
     ensures { GivesOrMemory (λ v. map (λ x. x.0) v.items) compression_methods i.now result }
 {
@@ -119,8 +127,8 @@ pub fn compressions(alloc: Global, i: &[u8]) -> IResult<&[u8], Vec<TlsCompressio
     Ok((rest, listed(alloc, methods)?))
 }
 
-/// Reads the extensions at the end of a hello (RFC 5246, section 7.4.1.2): 2 bytes of length, and so many bytes; `None`, and
-/// nothing is taken, where they aren't all there. It never refuses.
+/// Reads the extensions at the end of a hello (RFC 5246, section 7.4.1.2): 2 bytes of length and
+/// that many bytes. If they are incomplete, returns `None` and consumes nothing. Never refuses.
 pub fn extension_block(i: &[u8]) -> (&[u8], Option<&[u8]>)
     ensures { Gives (λ v. option_map (λ x. x.now) v) (maybe (counted 2)) i.now (Ok result) }
 {
@@ -130,15 +138,17 @@ pub fn extension_block(i: &[u8]) -> (&[u8], Option<&[u8]>)
     }
 }
 
-/// The suite that `table` has for each of `ciphers`, in their order; `None` where it has none.
+/// Returns the table's suite for each of `ciphers`, in their order; `None` if the table has none.
 ///
-/// `OutOfMemory` where memory for the list runs out.
+/// `OutOfMemory` if the list can't be allocated.
 pub fn suites<'t>(
     alloc: Global,
     table: &'t CipherTable,
     ciphers: &[TlsCipherSuiteID],
 ) -> Result<Vec<Option<&'t TlsCipherSuite>>, OutOfMemory>
-    ensures { IfOk result (λ v. map (option_map (λ s. s.now)) v.items ≡ map (suite_of_id table.now) (map (λ c. c.0) ciphers.now)) }
+    ensures { IfOk result
+        (λ v. map (option_map (λ s. s.now)) v.items ≡ map (suite_of_id table.now)
+        (map (λ c. c.0) ciphers.now)) }
 {
     let mut suites = Vec::with_capacity(alloc, ciphers.len())?;
     for cipher in ciphers {
@@ -147,7 +157,8 @@ pub fn suites<'t>(
     Ok(suites)
 }
 
-/// The first 4 bytes of a ClientHello's random as a number, big-endian; 0 where there are fewer.
+/// Returns the first 4 bytes of a ClientHello's random as a number, big-endian; 0 if there are
+/// fewer.
 pub fn random_time(random: &[u8]) -> u32
     ensures { result ≡ time_of random.now }
 {
@@ -157,7 +168,7 @@ pub fn random_time(random: &[u8]) -> u32
     }
 }
 
-/// What follows the first 4 bytes of a ClientHello's random; empty where there are fewer.
+/// Returns a ClientHello's random after its first 4 bytes; empty if there are fewer.
 pub fn random_bytes(random: &[u8]) -> &[u8]
     ensures { result.now ≡ bytes_of random.now }
 {

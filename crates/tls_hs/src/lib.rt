@@ -1,7 +1,16 @@
-//! Handshake messages: what stands in records of type 22 (RFC 5246, section 7.4), and the messages of other records.
+//! Parses and writes handshake messages, the content of records of type 22 (RFC 5246, section 7.4),
+//! and parses the messages of other records.
 //!
-//! Each call answers what a layout of `specs/` allows on the bytes: the value and the exact rest, or the refusal of the
-//! leftmost part that can't be read. Slices in a value are parts of the input.
+//! The promise: each parse call returns the one answer of its layout. That is the value and the
+//! exact rest, or the refusal of the leftmost part that can't be read. Slices in a value are parts
+//! of the input. What is written reads back, and what was read is written back, under the
+//! conditions that [`laws`] states.
+//!
+//! - `specs/Message.antt` defines the messages of records, `Handshake` the body of each handshake
+//!   type. `Hello`, `ServerHello`, `Certificate` and `Session` define the bodies' fields.
+//! - `specs/InPlace.antt` and `Messages` define messages that are parsed while they are walked.
+//! - `specs/HandshakeText.antt` defines the encoding, `HandshakeWriter` what the writers promise.
+//! - `specs/Places.antt` defines where the parts of a ClientHello are in its bytes.
 #![tactic(auto, using(layouts::proofs::OneAnswerLemmas::read_allowed))]
 
 mod bodies;

@@ -1,4 +1,4 @@
-//! The messages of records.
+//! Messages of records.
 ghost use Rattle.std.specs.Prelude.{◌≡◌, map, IfOk};
 ghost use Rattle.layouts.specs.Answers.{Gives, GivesOrMemory};
 ghost use Rattle.tls_hs.specs.Message.{view_message, handshake, change_cipher_spec, alert as alert_layout};
@@ -14,18 +14,18 @@ use tls_base::{TlsHandshakeType, TlsHeartbeatMessageType, TlsMessageAlert};
 /// Application data (RFC 5246, section 10).
 #[derive(Clone, Debug, PartialEq, Drop)]
 pub struct TlsMessageApplicationData<'a> {
-    /// The data, as they stand in the record.
+    /// The data of the record.
     pub blob: &'a [u8],
 }
 
 /// A Heartbeat message (RFC 6520, section 4).
 #[derive(Clone, Debug, PartialEq, Drop)]
 pub struct TlsMessageHeartbeat<'a> {
-    /// Whether it asks or answers.
+    /// The message's type: request or response.
     pub heartbeat_type: TlsHeartbeatMessageType,
     /// The length of `payload`, in bytes.
     pub payload_len: u16,
-    /// What an answer has to repeat.
+    /// The payload, which a response must repeat.
     pub payload: &'a [u8],
 }
 
@@ -34,7 +34,7 @@ pub struct TlsMessageHeartbeat<'a> {
 pub enum TlsMessage<'a> {
     /// A handshake message (RFC 5246, section 7.4).
     Handshake(TlsMessageHandshake<'a>),
-    /// The keys change from here on (RFC 5246, section 7.1).
+    /// The sender's next records use the new keys (RFC 5246, section 7.1).
     ChangeCipherSpec,
     /// An alert (RFC 5246, section 7.2).
     Alert(TlsMessageAlert),
@@ -45,9 +45,9 @@ pub enum TlsMessage<'a> {
 }
 
 impl<'a> TlsMessage<'a> {
-    /// The same message again, with lists of its own.
+    /// Returns a copy of the message with copied lists. Slices are shared.
     ///
-    /// `OutOfMemory` where memory for a list runs out.
+    /// `OutOfMemory` if a list can't be allocated.
     pub fn try_clone(&self, alloc: Global) -> Result<Self, OutOfMemory>
         ensures { IfOk result (λ m. view_message m ≡ view_message self.now) }
     {
@@ -62,13 +62,14 @@ impl<'a> TlsMessage<'a> {
     }
 }
 
-/// Reads a whole handshake message (RFC 5246, section 7.4): 1 byte of type, 3 bytes of length, big-endian, and a body
-/// of so many bytes. The body is read within these bytes alone, and what it leaves of them is dropped.
+/// Reads a handshake message (RFC 5246, section 7.4): 1 byte of type, 3 bytes of length,
+/// big-endian, and a body of that many bytes. The body is read within these bytes, and what it
+/// leaves of them is dropped.
 ///
-/// - `Incomplete` of the count of missing bytes, where the message isn't whole.
-/// - `Error` of kind `Switch` where the message is whole and no body has its type.
-/// - What the body's own call refuses, `Incomplete` too.
-/// - `OutOfMemory` where memory for a list runs out.
+/// - `Incomplete` with the number of missing bytes, if the message is incomplete.
+/// - `Error` of kind `Switch` if the message is complete and no body has its type.
+/// - The refusal of the body's call, which may be `Incomplete` too.
+/// - `OutOfMemory` if a list can't be allocated.
 #[tactic(auto, using(layouts::proofs::OneAnswerLemmas::read_allowed), unfolding(crate::specs::Message::handshake))]
 pub fn parse_tls_message_handshake(alloc: Global, i: &[u8]) -> IResult<&[u8], TlsMessage>
     ensures { GivesOrMemory view_message handshake i.now result }
@@ -82,7 +83,7 @@ pub fn parse_tls_message_handshake(alloc: Global, i: &[u8]) -> IResult<&[u8], Tl
 
 /// Reads a ChangeCipherSpec (RFC 5246, section 7.1): 1 byte, which is 1.
 ///
-/// `Incomplete` of 1 where there is no byte; `Error` of kind `Verify` where it isn't 1.
+/// `Incomplete` with 1 if there is no byte; `Error` of kind `Verify` if it isn't 1.
 #[tactic(auto, using(layouts::proofs::OneAnswerLemmas::read_allowed), unfolding(crate::specs::Message::change_cipher_spec))]
 pub fn parse_tls_message_changecipherspec(i: &[u8]) -> IResult<&[u8], TlsMessage>
     ensures { Gives view_message change_cipher_spec i.now result }
@@ -94,9 +95,9 @@ pub fn parse_tls_message_changecipherspec(i: &[u8]) -> IResult<&[u8], TlsMessage
     Ok((after, TlsMessage::ChangeCipherSpec))
 }
 
-/// Reads an alert (RFC 5246, section 7.2): 1 byte of severity and 1 of description.
+/// Reads an alert (RFC 5246, section 7.2): 1 byte of severity, then 1 of description.
 ///
-/// `Incomplete` of 1 where either is missing.
+/// `Incomplete` with 1 if either is missing.
 #[tactic(auto, using(layouts::proofs::OneAnswerLemmas::read_allowed), unfolding(crate::specs::Message::alert))]
 pub fn parse_tls_message_alert(i: &[u8]) -> IResult<&[u8], TlsMessage>
     ensures { Gives view_message alert_layout i.now result }
@@ -105,7 +106,7 @@ pub fn parse_tls_message_alert(i: &[u8]) -> IResult<&[u8], TlsMessage>
     Ok((i, TlsMessage::Alert(alert)))
 }
 
-/// Reads application data (RFC 5246, section 10): all bytes, perhaps none. It never refuses.
+/// Reads application data (RFC 5246, section 10): all bytes, possibly none. Never refuses.
 #[tactic(auto, using(layouts::proofs::OneAnswerLemmas::read_allowed), unfolding(crate::specs::Message::application_data))]
 pub fn parse_tls_message_applicationdata(i: &[u8]) -> IResult<&[u8], TlsMessage>
     ensures { Gives view_message application_data i.now result }
@@ -117,18 +118,21 @@ pub fn parse_tls_message_applicationdata(i: &[u8]) -> IResult<&[u8], TlsMessage>
     ))
 }
 
-/// Reads a Heartbeat message (RFC 6520, section 4) in a record whose length is `tls_plaintext_len`, in bytes: 1 byte of
-/// type, 2 of payload length, big-endian, and the payload. It answers a list of one; the padding is the rest.
+/// Reads a Heartbeat message (RFC 6520, section 4) of a record whose length is `tls_plaintext_len`
+/// bytes: 1 byte of type, 2 of payload length, big-endian, and the payload. Returns a list of one
+/// message; the padding is the rest.
 ///
-/// - `Incomplete` of the count of missing bytes.
-/// - `Error` of kind `Verify` where `tls_plaintext_len` is below 3, once the type and the length are there.
-/// - `OutOfMemory` where memory for the list runs out.
+/// - `Incomplete` with the number of missing bytes.
+/// - `Error` of kind `Verify` if `tls_plaintext_len` is below 3, once the type and the length are
+///   present.
+/// - `OutOfMemory` if the list can't be allocated.
 pub fn parse_tls_message_heartbeat(
     alloc: Global,
     i: &[u8],
     tls_plaintext_len: u16,
 ) -> IResult<&[u8], Vec<TlsMessage>>
-    ensures { GivesOrMemory (λ v. map view_message v.items) (heartbeat tls_plaintext_len) i.now result }
+    ensures { GivesOrMemory (λ v. map view_message v.items) (heartbeat tls_plaintext_len)
+        i.now result }
 {
     let (i, message) = heartbeat_in_place(i, tls_plaintext_len)?;
     let mut messages = Vec::new(alloc);

@@ -1,4 +1,5 @@
-//! The messages of records in place (RFC 5246, section 6.2.1). Of a handshake message the body is read on demand.
+//! The messages of records in place (RFC 5246, section 6.2.1). The body of a handshake message is
+//! parsed on demand.
 ghost use Rattle.std.specs.Prelude.{◌≡◌, ◌∷◌, []};
 ghost use Rattle.layouts.specs.Answers.{Gives};
 ghost use Rattle.tls_base.specs.Alert as alerts;
@@ -11,7 +12,7 @@ use crate::message::TlsMessageHeartbeat;
 use layouts::{ErrorKind, IResult, InPlace, Items, block, number1, number2, refused};
 use tls_base::{TlsHeartbeatMessageType, TlsMessageAlert, TlsRecordType};
 
-/// How a ChangeCipherSpec is read in place (RFC 5246, section 7.1).
+/// ChangeCipherSpecs as items of a list (RFC 5246, section 7.1).
 #[derive(Clone, Copy, Debug, PartialEq)]
 pub struct ChangeCipherSpec;
 
@@ -35,7 +36,7 @@ impl<'a> InPlace<'a> for ChangeCipherSpec {
     }
 }
 
-/// How an alert is read in place (RFC 5246, section 7.2).
+/// Alerts as items of a list (RFC 5246, section 7.2).
 #[derive(Clone, Copy)]
 pub struct Alert;
 
@@ -56,12 +57,12 @@ impl<'a> InPlace<'a> for Alert {
     }
 }
 
-/// A message of a record, as [`crate::TlsMessage`], but of a handshake message the body isn't read.
+/// A message of a record, as [`crate::TlsMessage`], with the body of a handshake message unparsed.
 #[derive(Debug, PartialEq, Drop)]
 pub enum RawMessage<'a> {
-    /// A handshake message (RFC 5246, section 7.4): [`RawHandshake::parse_body`] reads its body.
+    /// A handshake message (RFC 5246, section 7.4). [`RawHandshake::parse_body`] parses its body.
     Handshake(RawHandshake<'a>),
-    /// The keys change from here on (RFC 5246, section 7.1).
+    /// The sender's next records use the new keys (RFC 5246, section 7.1).
     ChangeCipherSpec,
     /// An alert (RFC 5246, section 7.2).
     Alert(TlsMessageAlert),
@@ -71,15 +72,15 @@ pub enum RawMessage<'a> {
     Heartbeat(TlsMessageHeartbeat<'a>),
 }
 
-/// The messages of a record, read as the walk comes to each.
+/// Walks the messages of a record. Each is parsed when the walk reaches it.
 ///
-/// No body of a handshake message is judged by the walk: it goes on behind one that [`RawHandshake::parse_body`] refuses, as the
-/// calls that make lists don't.
+/// The walk doesn't check the bodies of handshake messages. So it continues after one that
+/// [`RawHandshake::parse_body`] refuses, where the calls that make lists end.
 #[derive(Clone, Copy, Debug, PartialEq)]
 pub struct Messages<'a> {
     record_type: TlsRecordType,
-    // Whether that is change_cipher_spec. A record has the most messages of that type, and this is a test that stays the same from one to
-    // the next: the compiler makes a loop of it without a jump by the type.
+    // Whether the type is change_cipher_spec. A record has the most messages of that type. The test
+    // gives the same result for each message, so the compiler makes a loop without a jump by type.
     is_change: bool,
     len: u16,
     bytes: &'a [u8],
@@ -89,7 +90,8 @@ pub struct Messages<'a> {
 const NOTHING: TlsRecordType = TlsRecordType(0);
 
 impl<'a> Messages<'a> {
-    /// The messages in the fragment `bytes` of a record of that type, in whose header that length stands.
+    /// Returns a walk over the messages in the fragment `bytes` of a record of this type, whose
+    /// header has the length `len`.
     #[inline(always)]
     pub fn new(record_type: TlsRecordType, len: u16, bytes: &'a [u8]) -> Self
         ensures { raw_messages result ≡ messages_of_type record_type.0 len bytes.now }
@@ -102,7 +104,7 @@ impl<'a> Messages<'a> {
         }
     }
 
-    /// The bytes that aren't walked yet.
+    /// Returns the bytes that the walk hasn't reached yet.
     #[inline(always)]
     pub fn bytes(self) -> &'a [u8]
         ensures { result.now ≡ self.entry.bytes.now }
@@ -157,11 +159,13 @@ impl<'a> Iterator for Messages<'a> {
     }
 }
 
-/// Reads a Heartbeat message in place: as [`crate::parse_tls_message_heartbeat`], memory aside.
+/// Reads a Heartbeat message in place. Gives the same answer as
+/// [`crate::parse_tls_message_heartbeat`], but allocates nothing.
 #[tactic(auto, using(layouts::proofs::OneAnswerLemmas::read_allowed), unfolding(crate::specs::Message::heartbeat))]
 #[inline(always)]
 pub fn heartbeat(i: &[u8], tls_plaintext_len: u16) -> IResult<&[u8], TlsMessageHeartbeat>
-    ensures { Gives (λ h. message.Heartbeat (message.view_heartbeat h) ∷ []) (message.heartbeat tls_plaintext_len) i.now result }
+    ensures { Gives (λ h. message.Heartbeat (message.view_heartbeat h) ∷ [])
+        (message.heartbeat tls_plaintext_len) i.now result }
 {
     let (i, heartbeat_type) = TlsHeartbeatMessageType::parse(i)?;
     let (i, payload_len) = number2(i)?;

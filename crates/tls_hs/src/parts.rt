@@ -1,4 +1,4 @@
-//! Parts of handshake bodies that DTLS has as well (RFC 6347, section 4.2), each read alone.
+//! Readers of single parts of handshake bodies that DTLS has too (RFC 6347, section 4.2).
 
 pub use crate::certificate::certificate;
 pub use crate::client_hello_places::client_hello_places_in;

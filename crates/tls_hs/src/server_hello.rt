@@ -1,4 +1,4 @@
-//! The ServerHello (RFC 5246, section 7.4.1.3), and what drafts of TLS 1.3 made of it.
+//! The ServerHello (RFC 5246, section 7.4.1.3), and its forms in drafts of TLS 1.3.
 ghost use Rattle.std.specs.Option.{option_map};
 ghost use Rattle.std.specs.Prelude.{◌≡◌, None};
 ghost use Rattle.layouts.specs.Answers.{Gives};
@@ -24,23 +24,23 @@ static HELLO_RETRY_RANDOM: [u8; 32] = [
 /// The body of a ServerHello (RFC 5246, section 7.4.1.3).
 #[derive(Clone, Debug, PartialEq, Drop)]
 pub struct TlsServerHelloContents<'a> {
-    /// The version that the server picks up to TLS 1.2. In TLS 1.3 it is 0x0303, and what the server picks stands in the
-    /// extension supported_versions (RFC 8446, section 4.2.1).
+    /// The version that the server chose up to TLS 1.2. In TLS 1.3 it is 0x0303, and the chosen
+    /// version is in the extension supported_versions (RFC 8446, section 4.2.1).
     pub version: TlsVersion,
-    /// 32 bytes.
+    /// The random, 32 bytes.
     pub random: &'a [u8],
-    /// 1 to 32 bytes; `None` where there are none.
+    /// The session id, 1 to 32 bytes; `None` if it is empty.
     pub session_id: Option<&'a [u8]>,
-    /// The cipher suite that the server picks.
+    /// The cipher suite that the server chose.
     pub cipher: TlsCipherSuiteID,
-    /// The compression method that the server picks.
+    /// The compression method that the server chose.
     pub compression: TlsCompressionID,
-    /// The extensions, as they stand after their length; `None` where no whole block follows, and in SSL 3.0.
+    /// The extensions, without their length; `None` if no complete block follows, and in SSL 3.0.
     pub ext: Option<&'a [u8]>,
 }
 
 impl<'a> TlsServerHelloContents<'a> {
-    /// A ServerHello of these fields, in the order of the type.
+    /// Returns a ServerHello with these fields, in the order of the type.
     pub fn new(
         v: u16,
         random: &'a [u8],
@@ -66,21 +66,22 @@ impl<'a> TlsServerHelloContents<'a> {
         }
     }
 
-    /// The field `version`.
+    /// Returns the field `version`.
     pub fn get_version(&self) -> TlsVersion
         ensures { result ≡ self.now.version }
     {
         self.version
     }
 
-    /// Whether it is a HelloRetryRequest of TLS 1.3, which its random tells (RFC 8446, section 4.1.3).
+    /// Returns whether this is a HelloRetryRequest of TLS 1.3, which has a fixed random (RFC 8446,
+    /// section 4.1.3).
     pub fn is_retry_request(&self) -> bool
         ensures { result ≡ is_retry_request (view_server_hello self.now) }
     {
         self.random == HELLO_RETRY_RANDOM.as_slice()
     }
 
-    /// The suite that `table` has for the cipher suite that the server picks, if any.
+    /// Returns the table's suite for the cipher suite that the server chose, if there is one.
     pub fn get_cipher<'t>(&self, table: &'t CipherTable) -> Option<&'t TlsCipherSuite>
         ensures { option_map (λ s. s.now) result ≡ suite_of_id table.now self.now.cipher.0 }
     {
@@ -91,31 +92,32 @@ impl<'a> TlsServerHelloContents<'a> {
 /// The body of a ServerHello of draft 18 of TLS 1.3 (draft-ietf-tls-tls13-18, section 4.1.3).
 #[derive(Clone, Debug, PartialEq, Drop)]
 pub struct TlsServerHelloV13Draft18Contents<'a> {
-    /// The version that the server picks.
+    /// The version that the server chose.
     pub version: TlsVersion,
-    /// 32 bytes.
+    /// The random, 32 bytes.
     pub random: &'a [u8],
-    /// The cipher suite that the server picks.
+    /// The cipher suite that the server chose.
     pub cipher: TlsCipherSuiteID,
-    /// The extensions, as they stand after their length; `None` where no whole block follows.
+    /// The extensions, without their length; `None` if no complete block follows.
     pub ext: Option<&'a [u8]>,
 }
 
 /// The body of a HelloRetryRequest of drafts of TLS 1.3 (draft-ietf-tls-tls13-19, section 4.1.4).
 #[derive(Clone, Debug, PartialEq, Drop)]
 pub struct TlsHelloRetryRequestContents<'a> {
-    /// The version that the server picks.
+    /// The version that the server chose.
     pub version: TlsVersion,
-    /// The cipher suite that the server picks.
+    /// The cipher suite that the server chose.
     pub cipher: TlsCipherSuiteID,
-    /// The extensions, as they stand after their length; `None` where no whole block follows.
+    /// The extensions, without their length; `None` if no complete block follows.
     pub ext: Option<&'a [u8]>,
 }
 
-/// Reads the fields of a ServerHello, with extensions where they may follow: where `extensible`.
+/// Reads the fields of a ServerHello; extensions may follow if `extensible`.
 #[inline(always)]
 fn server_hello_fields(i: &[u8], extensible: bool) -> IResult<&[u8], TlsServerHelloContents>
-    ensures { Gives view_server_hello (server_hello_with (choose extensible (maybe (counted 2)) (done None))) i.now result }
+    ensures { Gives view_server_hello
+        (server_hello_with (choose extensible (maybe (counted 2)) (done None))) i.now result }
 {
     let (i, version) = TlsVersion::parse(i)?;
     let (i, random) = block(i, 32)?;
@@ -138,14 +140,20 @@ fn server_hello_fields(i: &[u8], extensible: bool) -> IResult<&[u8], TlsServerHe
     Ok((i, hello))
 }
 
-/// Reads the body of a ServerHello whatever its version (RFC 5246, section 7.4.1.3): 2 bytes of version, 32 of random, a
-/// session id after 1 byte of length, 2 bytes of cipher suite, 1 of compression method, and perhaps extensions after 2
-/// bytes of length. All numbers are big-endian.
+/// Reads the body of a ServerHello of any version (RFC 5246, section 7.4.1.3). All numbers are
+/// big-endian.
 ///
-/// - `Incomplete` of the count of missing bytes, where they are missing in front of the extensions.
-/// - `Error` of kind `Verify` where the session id is longer than 32 bytes.
+/// - 2 bytes of version, 32 of random;
+/// - a session id, after 1 byte of length;
+/// - 2 bytes of cipher suite, 1 of compression method;
+/// - optional extensions, after 2 bytes of length.
 ///
-/// Extensions that aren't whole are no refusal: `ext` is `None`, and they are the rest.
+/// The refusals:
+///
+/// - `Incomplete` with the number of missing bytes, if they are missing before the extensions.
+/// - `Error` of kind `Verify` if the session id is longer than 32 bytes.
+///
+/// Incomplete extensions aren't refused: `ext` is `None`, and they are the rest.
 #[tactic(auto, using(layouts::proofs::OneAnswerLemmas::read_allowed), unfolding(crate::specs::ServerHello::server_hello_any))]
 pub fn server_hello_any(i: &[u8]) -> IResult<&[u8], TlsServerHelloContents>
     ensures { Gives view_server_hello server_hello_any_layout i.now result }
@@ -153,7 +161,8 @@ pub fn server_hello_any(i: &[u8]) -> IResult<&[u8], TlsServerHelloContents>
     server_hello_fields(i, true)
 }
 
-/// Reads the same without extensions, as in SSL 3.0 (RFC 6101, section 5.6.1.3): `ext` is `None`.
+/// Reads the body of a ServerHello of SSL 3.0 (RFC 6101, section 5.6.1.3): as [`server_hello_any`],
+/// without extensions. `ext` is `None`.
 #[tactic(auto, using(layouts::proofs::OneAnswerLemmas::read_allowed), unfolding(crate::specs::ServerHello::server_hello_ssl30))]
 fn server_hello_ssl30(i: &[u8]) -> IResult<&[u8], TlsServerHelloContents>
     ensures { Gives view_server_hello server_hello_ssl30_layout i.now result }
@@ -161,12 +170,13 @@ fn server_hello_ssl30(i: &[u8]) -> IResult<&[u8], TlsServerHelloContents>
     server_hello_fields(i, false)
 }
 
-/// Reads the body of a ServerHello up to TLS 1.2 (RFC 5246, section 7.4.1.3): as [`crate::parts::server_hello_any`] where
-/// its version, the first 2 bytes, is 0x0301 to 0x0303, and without the extensions where it is 0x0300.
+/// Reads the body of a ServerHello up to TLS 1.2 (RFC 5246, section 7.4.1.3), by its version, the
+/// first 2 bytes: as [`crate::parts::server_hello_any`] for 0x0301 to 0x0303, and without the
+/// extensions for 0x0300.
 ///
-/// - `Incomplete` of the count of missing bytes, where they are missing in front of the extensions.
+/// - `Incomplete` with the number of missing bytes, if they are missing before the extensions.
 /// - `Error` of kind `Tag` for any other version, whatever follows it.
-/// - `Error` of kind `Verify` where the session id is longer than 32 bytes.
+/// - `Error` of kind `Verify` if the session id is longer than 32 bytes.
 #[tactic(auto, using(layouts::proofs::OneAnswerLemmas::read_allowed), unfolding(crate::specs::ServerHello::server_hello))]
 pub fn parse_tls_handshake_server_hello(i: &[u8]) -> IResult<&[u8], TlsServerHelloContents>
     ensures { Gives view_server_hello server_hello_layout i.now result }
@@ -179,10 +189,11 @@ pub fn parse_tls_handshake_server_hello(i: &[u8]) -> IResult<&[u8], TlsServerHel
     }
 }
 
-/// Reads the body of a ServerHello of draft 18 of TLS 1.3 (draft-ietf-tls-tls13-18, section 4.1.3): 2 bytes of version,
-/// 32 of random, 2 of cipher suite, and perhaps extensions after 2 bytes of length.
+/// Reads the body of a ServerHello of draft 18 of TLS 1.3 (draft-ietf-tls-tls13-18, section 4.1.3):
+/// 2 bytes of version, 32 of random, 2 of cipher suite, and optional extensions after 2 bytes of
+/// length.
 ///
-/// `Incomplete` of the count of missing bytes, where they are missing in front of the extensions.
+/// `Incomplete` with the number of missing bytes, if they are missing before the extensions.
 #[tactic(auto, using(layouts::proofs::OneAnswerLemmas::read_allowed), unfolding(crate::specs::ServerHello::server_hello_draft18))]
 pub(crate) fn server_hello_draft18(i: &[u8]) -> IResult<&[u8], TlsServerHelloV13Draft18Contents>
     ensures { Gives view_server_hello_draft18 server_hello_draft18_layout i.now result }
@@ -200,10 +211,10 @@ pub(crate) fn server_hello_draft18(i: &[u8]) -> IResult<&[u8], TlsServerHelloV13
     Ok((i, hello))
 }
 
-/// Reads the body of a HelloRetryRequest (draft-ietf-tls-tls13-19, section 4.1.4): 2 bytes of version, 2 of cipher suite,
-/// and perhaps extensions after 2 bytes of length.
+/// Reads the body of a HelloRetryRequest (draft-ietf-tls-tls13-19, section 4.1.4): 2 bytes of
+/// version, 2 of cipher suite, and optional extensions after 2 bytes of length.
 ///
-/// `Incomplete` of the count of missing bytes, where they are missing in front of the extensions.
+/// `Incomplete` with the number of missing bytes, if they are missing before the extensions.
 #[tactic(auto, using(layouts::proofs::OneAnswerLemmas::read_allowed), unfolding(crate::specs::ServerHello::hello_retry_request))]
 pub(crate) fn hello_retry_request(i: &[u8]) -> IResult<&[u8], TlsHelloRetryRequestContents>
     ensures { Gives view_hello_retry_request hello_retry_request_layout i.now result }

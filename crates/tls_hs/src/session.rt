@@ -1,5 +1,7 @@
-//! Tickets, key exchanges, new keys, and the choice of a protocol, each also as a message. Where a call takes `len`, it is the length of the body in
-//! bytes, whatever `i` holds.
+//! Tickets, key exchanges, key updates and next protocol negotiation: their bodies, also as
+//! messages.
+//!
+//! Where a call takes `len`, that is the length of the body in bytes, whatever the length of `i`.
 #![tactic(auto, using(layouts::proofs::OneAnswerLemmas::read_allowed), unfolding(crate::specs::Session::new_session_ticket, crate::specs::Session::next_protocol))]
 
 ghost use Rattle.layouts.specs.Answers.{Gives};
@@ -15,21 +17,21 @@ use tls_base::ECPoint;
 /// The body of a NewSessionTicket up to TLS 1.2 (RFC 5077, section 3.3).
 #[derive(Clone, Debug, PartialEq, Drop)]
 pub struct TlsNewSessionTicketContent<'a> {
-    /// In seconds; 0 leaves it open.
+    /// The lifetime of the ticket in seconds; 0 leaves it unspecified.
     pub ticket_lifetime_hint: u32,
-    /// All that follows the hint: 2 bytes of the ticket's own length, and the ticket.
+    /// All bytes after the hint: the ticket's own 2 bytes of length, then the ticket.
     pub ticket: &'a [u8],
 }
 
 /// The body of a ServerKeyExchange (RFC 5246, section 7.4.3).
 #[derive(Clone, Debug, PartialEq, Drop)]
 pub struct TlsServerKeyExchangeContents<'a> {
-    /// Their form depends on the cipher suite.
+    /// The parameters. Their form depends on the cipher suite.
     pub parameters: &'a [u8],
 }
 
-/// The body of a ClientKeyExchange (RFC 5246, section 7.4.7). Its form depends on the cipher suite, so what is read is
-/// `Unknown`.
+/// The body of a ClientKeyExchange (RFC 5246, section 7.4.7). Its form depends on the cipher suite,
+/// so the parser returns `Unknown`.
 #[derive(Clone, Debug, PartialEq, Drop)]
 pub enum TlsClientKeyExchangeContents<'a> {
     /// The client's public value.
@@ -45,11 +47,11 @@ pub enum TlsClientKeyExchangeContents<'a> {
 pub struct TlsNextProtocolContent<'a> {
     /// The protocol's name.
     pub selected_protocol: &'a [u8],
-    /// Bytes that hide how long the name is.
+    /// Padding that hides the length of the name.
     pub padding: &'a [u8],
 }
 
-/// What a KeyUpdate asks of its receiver (RFC 8446, section 4.6.3).
+/// Whether a KeyUpdate requests one from its receiver (RFC 8446, section 4.6.3).
 #[derive(Clone, Copy, PartialEq, Eq)]
 pub struct KeyUpdateRequest(pub u8);
 
@@ -57,14 +59,15 @@ impl KeyUpdateRequest {
     /// The receiver may keep its keys.
     pub const NotRequested: KeyUpdateRequest = KeyUpdateRequest(0);
 
-    /// The receiver is to update its keys too.
+    /// The receiver must update its keys too.
     pub const Requested: KeyUpdateRequest = KeyUpdateRequest(1);
 }
 
-/// Reads the body of a NewSessionTicket of `len` bytes (RFC 5077, section 3.3): 4 bytes of hint, big-endian, and the
-/// `len - 4` that follow.
+/// Reads the body of a NewSessionTicket of `len` bytes (RFC 5077, section 3.3): 4 bytes of hint,
+/// big-endian, then `len - 4` bytes.
 ///
-/// `Error` of kind `Verify` where `len` is below 4; else `Incomplete` of the count of missing bytes.
+/// `Error` of kind `Verify` if `len` is below 4, else `Incomplete` with the number of missing
+/// bytes.
 pub(crate) fn new_session_ticket(i: &[u8], len: usize) -> IResult<&[u8], TlsNewSessionTicketContent>
     ensures { Gives view_new_session_ticket (new_session_ticket_layout len) i.now result }
 {
@@ -80,10 +83,10 @@ pub(crate) fn new_session_ticket(i: &[u8], len: usize) -> IResult<&[u8], TlsNewS
     Ok((i, content))
 }
 
-/// Reads the body of a NextProtocol (draft-agl-tls-nextprotoneg-04, section 3): the protocol and the padding, each after
-/// 1 byte of length.
+/// Reads the body of a NextProtocol (draft-agl-tls-nextprotoneg-04, section 3): the protocol and
+/// the padding, each after 1 byte of length.
 ///
-/// `Incomplete` of the count of missing bytes.
+/// `Incomplete` with the number of missing bytes.
 pub fn parse_tls_handshake_next_protocol(i: &[u8]) -> IResult<&[u8], TlsNextProtocolContent>
     ensures { Gives view_next_protocol next_protocol i.now result }
 {
@@ -96,10 +99,12 @@ pub fn parse_tls_handshake_next_protocol(i: &[u8]) -> IResult<&[u8], TlsNextProt
     Ok((i, content))
 }
 
-/// Reads the body of a NewSessionTicket of `len` bytes in its form up to TLS 1.2 (RFC 5077, section 3.3): 4 bytes of hint,
-/// big-endian, and the `len - 4` that follow, the 2 bytes of the ticket's own length first.
+/// Reads the body of a NewSessionTicket of `len` bytes, in the form up to TLS 1.2 (RFC 5077,
+/// section 3.3): 4 bytes of hint, big-endian, then `len - 4` bytes, which begin with the ticket's
+/// own 2 bytes of length.
 ///
-/// `Error` of kind `Verify` where `len` is below 4; else `Incomplete` of the count of missing bytes.
+/// `Error` of kind `Verify` if `len` is below 4, else `Incomplete` with the number of missing
+/// bytes.
 #[tactic(auto, using(layouts::proofs::OneAnswerLemmas::read_allowed), unfolding(crate::specs::Handshake::new_session_ticket_body))]
 pub fn parse_tls_handshake_msg_newsessionticket(
     i: &[u8],
@@ -113,7 +118,7 @@ pub fn parse_tls_handshake_msg_newsessionticket(
 
 /// Reads the body of a ServerKeyExchange (RFC 5246, section 7.4.3): `len` bytes.
 ///
-/// `Incomplete` of the count of missing bytes.
+/// `Incomplete` with the number of missing bytes.
 #[tactic(auto, using(layouts::proofs::OneAnswerLemmas::read_allowed), unfolding(crate::specs::Handshake::server_key_exchange_body))]
 pub fn parse_tls_handshake_msg_serverkeyexchange(
     i: &[u8],
@@ -126,9 +131,10 @@ pub fn parse_tls_handshake_msg_serverkeyexchange(
     Ok((i, TlsMessageHandshake::ServerKeyExchange(content)))
 }
 
-/// Reads the body of a ClientKeyExchange (RFC 5246, section 7.4.7): `len` bytes, which don't say which form they have.
+/// Reads the body of a ClientKeyExchange (RFC 5246, section 7.4.7): `len` bytes, as `Unknown`,
+/// since they don't reveal their form.
 ///
-/// `Incomplete` of the count of missing bytes.
+/// `Incomplete` with the number of missing bytes.
 #[tactic(auto, using(layouts::proofs::OneAnswerLemmas::read_allowed), unfolding(crate::specs::Handshake::client_key_exchange_body))]
 pub fn parse_tls_handshake_msg_clientkeyexchange(
     i: &[u8],
@@ -141,9 +147,10 @@ pub fn parse_tls_handshake_msg_clientkeyexchange(
     Ok((i, TlsMessageHandshake::ClientKeyExchange(content)))
 }
 
-/// Reads the body of a KeyUpdate (RFC 8446, section 4.6.3): 1 byte, of which [`crate::KeyUpdateRequest`] names the values.
+/// Reads the body of a KeyUpdate (RFC 8446, section 4.6.3): 1 byte, whose values
+/// [`crate::KeyUpdateRequest`] names.
 ///
-/// `Incomplete` of 1 where there is no byte.
+/// `Incomplete` with 1 if there is no byte.
 #[tactic(auto, using(layouts::proofs::OneAnswerLemmas::read_allowed), unfolding(crate::specs::Handshake::key_update_body))]
 pub fn parse_tls_handshake_msg_key_update(i: &[u8]) -> IResult<&[u8], TlsMessageHandshake>
     ensures { Gives view_handshake key_update_body i.now result }
@@ -152,7 +159,7 @@ pub fn parse_tls_handshake_msg_key_update(i: &[u8]) -> IResult<&[u8], TlsMessage
     Ok((i, TlsMessageHandshake::KeyUpdate(update)))
 }
 
-/// Reads the body of a NextProtocol (draft-agl-tls-nextprotoneg-04, section 3): as
+/// Reads the body of a NextProtocol (draft-agl-tls-nextprotoneg-04, section 3), as
 /// [`parse_tls_handshake_next_protocol`].
 #[tactic(auto, using(layouts::proofs::OneAnswerLemmas::read_allowed), unfolding(crate::specs::Handshake::next_protocol_body))]
 pub fn parse_tls_handshake_msg_next_protocol(i: &[u8]) -> IResult<&[u8], TlsMessageHandshake>

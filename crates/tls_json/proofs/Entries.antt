@@ -19,22 +19,27 @@ use Rattle.tls_json.specs.Outline.{
 }
 use Rattle.tls_json.specs.declared.json.Value.{Value, Object, the_lemmas}
 
-view_object : (v : Vec (Bor (List ℕ) × Value) Global) → view (Object v) ≡ object (members_view v.items)
+view_object : (v : Vec (Bor (List ℕ) × Value) Global)
+    → view (Object v) ≡ object (members_view v.items)
 view_object v = search (rules, the_lemmas)
 
-outlines_fields : (fs : List (Bor (List ℕ) × Value)) → outlines (members_view fs) ≡ members (entries fs)
+outlines_fields : (fs : List (Bor (List ℕ) × Value))
+    → outlines (members_view fs) ≡ members (entries fs)
 outlines_fields [] = refl
 outlines_fields (f ∷ fs) = ap (λ ms. member f.0.now (outline (view f.1)) ms) (outlines_fields fs)
 
 -- The object of a table's fields.
-pub outline_object : (v : Vec (Bor (List ℕ) × Value) Global) → outline (view (Object v)) ≡ object_of (entries v.items)
-outline_object v = ap (λ d. outline d) (view_object v) ∙ ap (λ ms. object ms) (outlines_fields v.items)
+pub outline_object : (v : Vec (Bor (List ℕ) × Value) Global)
+    → outline (view (Object v)) ≡ object_of (entries v.items)
+outline_object v = ap (λ d. outline d) (view_object v)
+    ∙ ap (λ ms. object ms) (outlines_fields v.items)
 
 names_members : (es : Entries) → member_names (members es) ≡ entry_names es
 names_members [] = refl
 names_members (e ∷ es) = ap (λ ns. e.0 ∷ ns) (names_members es)
 
-pub names_object : (v : Vec (Bor (List ℕ) × Value) Global) → names (outline (view (Object v))) ≡ entry_names (entries v.items)
+pub names_object : (v : Vec (Bor (List ℕ) × Value) Global)
+    → names (outline (view (Object v))) ≡ entry_names (entries v.items)
 names_object v = ap (λ d. names d) (outline_object v) ∙ names_members (entries v.items)
 
 -- What a value shows, if there is one.
@@ -47,6 +52,7 @@ shows_itself (Ok v) = refl
 shows_itself (Err e) = tt
 
 -- Fields have their names.
-pub names_shown : (r : Made) (es : Entries) → IfOk r (Shows (object_of es)) → IfOk r (HasNames (entry_names es))
+pub names_shown : (r : Made) (es : Entries) → IfOk r (Shows (object_of es))
+    → IfOk r (HasNames (entry_names es))
 names_shown (Ok v) es h = ap (λ d. names d) h ∙ names_members es
 names_shown (Err e) es h = tt

@@ -9,6 +9,7 @@ pub items_len-items_view : (vs : List Value) → items_len (items_view vs) ≡ l
 items_len-items_view [] = refl
 items_len-items_view (v ∷ vs) = ap (λ n. suc n) (items_len-items_view vs)
 
-pub members_len-members_view : (ms : List (Bor (List ℕ) × Value)) → members_len (members_view ms) ≡ length ms
+pub members_len-members_view : (ms : List (Bor (List ℕ) × Value))
+    → members_len (members_view ms) ≡ length ms
 members_len-members_view [] = refl
 members_len-members_view (m ∷ ms) = ap (λ n. suc n) (members_len-members_view ms)

@@ -9,5 +9,6 @@ extension_names = codes "extnID" ∷ codes "critical" ∷ codes "extnValue" ∷ 
 
 abbrev pub certificate_names : List (List ℕ)
 certificate_names =
-    codes "version" ∷ codes "serialNumber" ∷ codes "signature" ∷ codes "issuer" ∷ codes "validity" ∷ codes "subject"
+    codes "version" ∷ codes "serialNumber" ∷ codes "signature" ∷ codes "issuer" ∷ codes
+    "validity" ∷ codes "subject"
     ∷ codes "subjectPublicKeyInfo" ∷ codes "extensions" ∷ []

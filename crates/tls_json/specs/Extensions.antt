@@ -53,7 +53,8 @@ abbrev pub offered_psks : List (List ℕ)
 offered_psks = codes "identities" ∷ codes "binders" ∷ []
 
 abbrev pub identity_fields : List ℕ → ℕ → Data
-identity_fields identity age = object_of (bytes (codes "identity") identity ∷ decimal (codes "obfuscated_ticket_age") age ∷ [])
+identity_fields identity age =
+    object_of (bytes (codes "identity") identity ∷ decimal (codes "obfuscated_ticket_age") age ∷ [])
 
 abbrev pub selected_identity : List (List ℕ)
 selected_identity = codes "selected_identity" ∷ []
@@ -94,7 +95,8 @@ filter_fields filter = object_of (
 -- a share, a client's shares, a server's, and the group of a HelloRetryRequest (RFC 8446, section
 -- 4.2.8)
 abbrev pub share_fields : ℕ → List ℕ → Data
-share_fields group key_exchange = object_of (hexadecimal (codes "group") group ∷ bytes (codes "key_exchange") key_exchange ∷ [])
+share_fields group key_exchange =
+    object_of (hexadecimal (codes "group") group ∷ bytes (codes "key_exchange") key_exchange ∷ [])
 
 abbrev pub client_shares : List (List ℕ)
 client_shares = codes "client_shares" ∷ []
@@ -111,7 +113,8 @@ connection_id = codes "cid" ∷ []
 
 -- a client's outer one (RFC 9849, sections 4 and 5)
 abbrev pub suite_fields : ℕ → ℕ → Data
-suite_fields kdf_id aead_id = object_of (hexadecimal (codes "kdf_id") kdf_id ∷ hexadecimal (codes "aead_id") aead_id ∷ [])
+suite_fields kdf_id aead_id =
+    object_of (hexadecimal (codes "kdf_id") kdf_id ∷ hexadecimal (codes "aead_id") aead_id ∷ [])
 
 abbrev pub encrypted_hello_fields : Outer → Data
 encrypted_hello_fields outer = object_of (

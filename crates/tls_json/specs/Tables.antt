@@ -51,7 +51,8 @@ message_fields msg_type name n message_seq body rest = object_of (
 -- Extension extensions<0..2^16-1> (RFC 8446, section 4.2), and what follows the last whole one.
 abbrev pub extensions_fields : Option (Bor (List ℕ)) → Entries
 extensions_fields None = []
-extensions_fields (Some block) = list (codes "extensions") ∷ some_bytes (codes "rest") (left_in raw_extension block.now)
+extensions_fields (Some block) =
+    list (codes "extensions") ∷ some_bytes (codes "rest") (left_in raw_extension block.now)
 
 -- An extension (RFC 8446, section 4.2).
 abbrev pub extension_fields : ℕ → Option (Bor (List ℕ)) → Data → Data
@@ -125,7 +126,8 @@ request_fields request = object_of (
 
 -- A NewSessionTicket (RFC 5077, section 3.3).
 abbrev pub ticket_fields : ℕ → List ℕ → Data
-ticket_fields hint ticket = object_of (decimal (codes "ticket_lifetime_hint") hint ∷ bytes (codes "ticket") ticket ∷ [])
+ticket_fields hint ticket =
+    object_of (decimal (codes "ticket_lifetime_hint") hint ∷ bytes (codes "ticket") ticket ∷ [])
 
 -- A CertificateStatus (RFC 6066, section 8).
 abbrev pub status_fields : TlsCertificateStatusContents → Data
@@ -176,7 +178,8 @@ named_curve_fields curve_type namedcurve = object_of (
     ∷ [])
 
 abbrev pub curve_content_fields : ℕ → content_of.ECParametersContent → Data
-curve_content_fields curve_type (content.ExplicitPrime prime) = explicit_prime_fields curve_type prime
+curve_content_fields curve_type (content.ExplicitPrime prime) =
+    explicit_prime_fields curve_type prime
 curve_content_fields curve_type (content.NamedGroup group) = named_curve_fields curve_type group.0
 
 abbrev pub curve_fields : ECParameters → Data
@@ -207,7 +210,8 @@ signature_fields algorithm signature = object_of (
 -- An alert (RFC 8446, section 6).
 abbrev pub alert_entries : ℕ → ℕ → Option (Bor (List ℕ)) → Entries
 alert_entries level description name =
-    decimal (codes "level") level ∷ decimal (codes "description") description ∷ some_name (codes "name") name
+    decimal (codes "level") level ∷ decimal (codes "description") description ∷ some_name
+    (codes "name") name
 
 abbrev pub alert_fields : ℕ → ℕ → Option (Bor (List ℕ)) → Data
 alert_fields level description name = object_of (alert_entries level description name)
@@ -245,7 +249,8 @@ server_key_exchange_names exchange =
     ++ params_names exchange.public
     ++ names_if exchange.is_signed (codes "signed_params")
 
--- A client's public value, or its encrypted secret (RFC 5246, section 7.4.7; RFC 8422, section 5.7).
+-- A client's public value, or its encrypted secret (RFC 5246, section 7.4.7; RFC 8422, section
+-- 5.7).
 abbrev pub client_value_names : Public → List (List ℕ)
 client_value_names Nothing = []
 client_value_names Rsa = codes "pre_master_secret" ∷ []

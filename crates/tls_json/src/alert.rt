@@ -32,7 +32,9 @@ fn count(name: Option<&'static str>) -> usize
 
 /// Writes the name, if there is one, and ends the object.
 fn end<S: Serializer>(name: Option<&'static str>, out: &mut S) -> Result<(), S::Error>
-    ensures { OnOk result (SendsMembers (members (some_name (codes "name") name.entry)) (S.written out.old) (S.written out.new)) }
+    ensures { OnOk result
+        (SendsMembers (members (some_name (codes "name") name.entry)) (S.written out.old)
+        (S.written out.new)) }
 {
     match name {
         Some(name) => {

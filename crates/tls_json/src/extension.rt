@@ -22,7 +22,8 @@ fn fields(
     name: Option<&'static str>,
     extension_data: Result<Value, AllocError>,
 ) -> Result<Value, AllocError>
-    ensures { (d : Data) → IfOk extension_data (Shows d) → IfOk result (Shows (extension_fields extension_type.0 name.entry d)) }
+    ensures { (d : Data) → IfOk extension_data (Shows d)
+        → IfOk result (Shows (extension_fields extension_type.0 name.entry d)) }
 {
     Table::new(alloc)
         .decimal("extension_type", u64::from(extension_type.0))
@@ -56,7 +57,8 @@ fn rest<'a>(block: &'a [u8]) -> &'a [u8]
 /// Adds a hello's extensions, if it has a block of them, and the bytes after the last whole one.
 /// `ext` is the block without its length.
 pub fn with_extensions(alloc: Global, table: Table, sender: Sender, ext: Option<&[u8]>) -> Table
-    ensures { (es : Entries) → HasFields es table → HasFields (es ++ extensions_fields ext.entry) result }
+    ensures { (es : Entries) → HasFields es table
+        → HasFields (es ++ extensions_fields ext.entry) result }
 {
     match ext {
         Some(block) => table

@@ -52,7 +52,8 @@ fn print<S: Serializer>(value: &Value, out: &mut S) -> Result<(), S::Error>
 
 #[cycle(print)]
 fn print_items<S: Serializer>(items: &Vec<Value>, out: &mut S) -> Result<(), S::Error>
-    ensures { OnOk result (SendsValue (array (items_view items.now.items)) (S.written out.old) (S.written out.new)) }
+    ensures { OnOk result
+        (SendsValue (array (items_view items.now.items)) (S.written out.old) (S.written out.new)) }
 {
     out.begin_seq(Some(items.len()))?;
     for item in items {
@@ -64,7 +65,9 @@ fn print_items<S: Serializer>(items: &Vec<Value>, out: &mut S) -> Result<(), S::
 /// Prints each field once and in order, its name before its value.
 #[cycle(print)]
 fn print_fields<S: Serializer>(fields: &Vec<Field>, out: &mut S) -> Result<(), S::Error>
-    ensures { OnOk result (SendsValue (object (members_view fields.now.items)) (S.written out.old) (S.written out.new)) }
+    ensures { OnOk result
+        (SendsValue (object (members_view fields.now.items)) (S.written out.old)
+        (S.written out.new)) }
 {
     out.begin_map(Some(fields.len()))?;
     for (name, value) in fields {

@@ -233,7 +233,8 @@ fn client_value<'a>(
 
 /// Adds a client's public value or encrypted secret under its name.
 fn with_client_value(alloc: Global, table: Table, public: Public, content: &[u8]) -> Table
-    ensures { (ns : List (List ℕ)) → HasFieldNames ns table → HasFieldNames (ns ++ client_value_names public) result }
+    ensures { (ns : List (List ℕ)) → HasFieldNames ns table
+        → HasFieldNames (ns ++ client_value_names public) result }
 {
     match public {
         Public::Nothing => table,

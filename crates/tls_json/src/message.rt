@@ -43,7 +43,9 @@ fn fields(
     content: Content<'_>,
 ) -> Result<Value, AllocError>
     ensures { (d : Data) → IfOk content.entry.body (Shows d)
-        → IfOk result (Shows (message_fields msg_type.0 name.entry length message_seq d content.entry.rest.now)) }
+        → IfOk result
+        (Shows (message_fields msg_type.0 name.entry length message_seq d
+        content.entry.rest.now)) }
 {
     Table::new(alloc)
         .decimal("msg_type", u64::from(msg_type.0))

@@ -23,7 +23,8 @@ pub enum SuiteText {
 
 /// Writes a name, or the number, as `0x1234`, if there is none.
 fn name_or_code(alloc: Global, name: Option<&'static str>, code: u16) -> Result<Value, AllocError>
-    ensures { IfOk result (Shows (string (name_or_number (option_map (λ t. t.now) name.entry) code))) }
+    ensures { IfOk result
+        (Shows (string (name_or_number (option_map (λ t. t.now) name.entry) code))) }
 {
     match name {
         Some(name) => Ok(Value::Name(name)),

@@ -24,7 +24,8 @@ fn with_field(
 ) -> Result<Vec<Field>, AllocError>
     ensures fields { (es : Entries) → (d : Data) → IfOk fields.entry (HasEntries es) → IfOk value (Shows d)
         → IfOk result (HasEntries (es ++ (name.now, d) ∷ [])) }
-    ensures names { (ns : List (List ℕ)) → IfOk fields.entry (IsNamed ns) → IfOk result (IsNamed (ns ++ name.now ∷ [])) }
+    ensures names { (ns : List (List ℕ)) → IfOk fields.entry (IsNamed ns)
+        → IfOk result (IsNamed (ns ++ name.now ∷ [])) }
 {
     let mut fields = fields?;
     fields.push((name, value?))?;
@@ -47,7 +48,8 @@ impl Table {
     pub fn add(self, name: &'static str, value: Result<Value, AllocError>) -> Table
         ensures fields { (es : Entries) → (d : Data) → HasFields es self → IfOk value (Shows d)
             → HasFields (es ++ (name.now, d) ∷ []) result }
-        ensures names { (ns : List (List ℕ)) → HasFieldNames ns self → HasFieldNames (ns ++ name.now ∷ []) result }
+        ensures names { (ns : List (List ℕ)) → HasFieldNames ns self
+            → HasFieldNames (ns ++ name.now ∷ []) result }
     {
         Table {
             alloc: self.alloc,
@@ -57,14 +59,16 @@ impl Table {
 
     /// Appends a number, in decimal.
     pub fn decimal(self, name: &'static str, count: u64) -> Table
-        ensures { (es : Entries) → HasFields es self → HasFields (es ++ decimal name.now count ∷ []) result }
+        ensures { (es : Entries) → HasFields es self
+            → HasFields (es ++ decimal name.now count ∷ []) result }
     {
         self.add(name, Ok(Value::Number(count)))
     }
 
     /// Appends a number in decimal, if there is one.
     pub fn some_decimal(self, name: &'static str, count: Option<u64>) -> Table
-        ensures { (es : Entries) → HasFields es self → HasFields (es ++ some_decimal name.now count) result }
+        ensures { (es : Entries) → HasFields es self
+            → HasFields (es ++ some_decimal name.now count) result }
     {
         match count {
             Some(count) => self.decimal(name, count),
@@ -74,7 +78,8 @@ impl Table {
 
     /// Appends a number of 2 bytes in hexadecimal, as `0xc02f`.
     pub fn hexadecimal(self, name: &'static str, code: u16) -> Table
-        ensures { (es : Entries) → HasFields es self → HasFields (es ++ hexadecimal name.now code ∷ []) result }
+        ensures { (es : Entries) → HasFields es self
+            → HasFields (es ++ hexadecimal name.now code ∷ []) result }
     {
         let text = code_text(self.alloc, code);
         self.add(name, text)
@@ -82,7 +87,8 @@ impl Table {
 
     /// Appends a number of 2 bytes in hexadecimal, if there is one.
     pub fn some_hexadecimal(self, name: &'static str, code: Option<u16>) -> Table
-        ensures { (es : Entries) → HasFields es self → HasFields (es ++ some_hexadecimal name.now code) result }
+        ensures { (es : Entries) → HasFields es self
+            → HasFields (es ++ some_hexadecimal name.now code) result }
     {
         match code {
             Some(code) => self.hexadecimal(name, code),
@@ -92,7 +98,8 @@ impl Table {
 
     /// Appends a cipher suite as `suite_text` says.
     pub fn suite(self, name: &'static str, suite_text: SuiteText, code: TlsCipherSuiteID) -> Table
-        ensures { (es : Entries) → HasFields es self → HasFields (es ++ suite name.now suite_text code.0 ∷ []) result }
+        ensures { (es : Entries) → HasFields es self
+            → HasFields (es ++ suite name.now suite_text code.0 ∷ []) result }
     {
         let text = suite_value(self.alloc, suite_text, code);
         self.add(name, text)
@@ -100,7 +107,8 @@ impl Table {
 
     /// Appends bytes, in hexadecimal.
     pub fn bytes(self, name: &'static str, content: &[u8]) -> Table
-        ensures { (es : Entries) → HasFields es self → HasFields (es ++ bytes name.now content.now ∷ []) result }
+        ensures { (es : Entries) → HasFields es self
+            → HasFields (es ++ bytes name.now content.now ∷ []) result }
     {
         let text = blob(self.alloc, content);
         self.add(name, text)
@@ -108,7 +116,8 @@ impl Table {
 
     /// Appends bytes in hexadecimal, unless they are empty.
     pub fn some_bytes(self, name: &'static str, content: &[u8]) -> Table
-        ensures { (es : Entries) → HasFields es self → HasFields (es ++ some_bytes name.now content.now) result }
+        ensures { (es : Entries) → HasFields es self
+            → HasFields (es ++ some_bytes name.now content.now) result }
     {
         match content {
             [] => self,
@@ -118,7 +127,8 @@ impl Table {
 
     /// Appends bytes in hexadecimal, if there are any; they may be empty.
     pub fn bytes_if(self, name: &'static str, content: Option<&[u8]>) -> Table
-        ensures { (es : Entries) → HasFields es self → HasFields (es ++ bytes_if name.now content.entry) result }
+        ensures { (es : Entries) → HasFields es self
+            → HasFields (es ++ bytes_if name.now content.entry) result }
     {
         match content {
             Some(content) => self.bytes(name, content),
@@ -128,7 +138,8 @@ impl Table {
 
     /// Appends a fixed name, if there is one.
     pub fn some_name(self, name: &'static str, text: Option<&'static str>) -> Table
-        ensures { (es : Entries) → HasFields es self → HasFields (es ++ some_name name.now text.entry) result }
+        ensures { (es : Entries) → HasFields es self
+            → HasFields (es ++ some_name name.now text.entry) result }
     {
         match text {
             Some(text) => self.add(name, Ok(Value::Name(text))),
@@ -151,7 +162,8 @@ pub fn single(
     name: &'static str,
     value: Result<Value, AllocError>,
 ) -> Result<Value, AllocError>
-    ensures fields { (d : Data) → IfOk value (Shows d) → IfOk result (Shows (object_of ((name.now, d) ∷ []))) }
+    ensures fields { (d : Data) → IfOk value (Shows d)
+        → IfOk result (Shows (object_of ((name.now, d) ∷ []))) }
     ensures names { IfOk result (HasNames (name.now ∷ [])) }
 {
     Table::new(alloc).add(name, value).finish()

@@ -1,10 +1,11 @@
-//! The public names of the Rust crate tls-parser, each of the crate that has it, and their definitions. Nothing is defined here.
+//! Re-exports the public names of the Rust crate tls-parser from the crates that have them, with
+//! their definitions. It defines nothing itself, and the promises are those of these crates.
 //!
-//! Records of TLS and DTLS and the writer are `tls_records`, and following a handshake is `tls_states`. A program that wants one of
-//! them alone names that crate.
+//! Records of TLS and DTLS and the writer are in `tls_records`, the handshake's state machine in
+//! `tls_states`. A program that needs only one of them can depend on that crate.
 #![tactic(auto)]
 
-// Records, and the writer.
+// Records, and their writer.
 pub use tls_records::{
     DTLSBodyView, DTLSClientHello, DTLSClientHelloView, DTLSHandshakeView, DTLSHelloVerifyRequest,
     DTLSMessage, DTLSMessageHandshake, DTLSMessageHandshakeBody, DTLSMessages, DTLSPlaintext,
@@ -23,7 +24,7 @@ pub use tls_records::{
 // Why a value isn't written.
 pub use layouts::GenError;
 
-// Numbers with a name, key exchange, signatures, timestamps, ciphers.
+// Numbers with names, key exchange, signatures, timestamps, cipher suites.
 pub use tls_base::{
     CertificateStatusType, CipherSuiteNotFound, CipherTable, CipherTableError, CipherTableFault,
     CtExtensions, CtLogID, CtVersion, DigitallySigned, ECCurve, ECCurveType, ECParameters,
@@ -85,10 +86,10 @@ pub use tls_hs::{
     parse_tls_message_handshake, parse_tls_message_heartbeat,
 };
 
-// Following a handshake.
+// The handshake's state machine.
 pub use tls_states::{ParseContext, StateChangeError, TlsState, tls_state_transition};
 
-// Reading in place.
+// Parsing in place.
 pub use layouts::{Counted1, Counted2, InPlace, Items, Place};
 pub use tls_base::certificate_timestamps;
 pub use tls_ext::{

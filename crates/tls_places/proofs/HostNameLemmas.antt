@@ -1,4 +1,4 @@
--- The name of a host in a ClientHello's body, told by its place.
+-- The host name in a ClientHello's body, by its place.
 use Rattle.std.proofs.Common.{
   ◌≡◌,
   [],
@@ -31,11 +31,12 @@ use Rattle.tls_records.specs.InPlace.{body_of_type, host_name_of_record, name_in
 use Rattle.tls_records.specs.Record.{RawRecord, raw_record}
 use Rattle.tls_places.specs.Place.{Found, MayStand, Stands}
 
-pub stands_held : (b : Bytes) (p : Place) (x : Option Bytes) → MayStand b (Some p) x → Stands b p (held x)
+pub stands_held : (b : Bytes) (p : Place) (x : Option Bytes) → MayStand b (Some p) x
+    → Stands b p (held x)
 stands_held b p None s = absurd s
 stands_held b p (Some x) s = s
 
--- no extensions have no name
+-- without extensions there is no name
 no_name : host_name [] ≡ Ok None
 unfolding items_at
 no_name = refl
@@ -46,10 +47,13 @@ none_held b (Some x) s = absurd s
 
 module _ (b r : Bytes) (v : ClientHello) (read : reading client_hello b ≡ Ok (v, r)) where
   pub none_told : MayStand b None v.extensions
-      → Tells {X = Option Place} (option_map (bytes_at b)) (name_in_hello (reading client_hello b)) (Ok None)
-  none_told s = record { answers = tt; is = sym (ap name_in_hello read ∙ none_held b v.extensions s) }
+      → Tells {X = Option Place} (option_map (bytes_at b))
+      (name_in_hello (reading client_hello b)) (Ok None)
+  none_told s =
+      record { answers = tt; is = sym (ap name_in_hello read ∙ none_held b v.extensions s) }
 
-  pub name_told : (p : Place) (x : Bytes) (f : Found) → MayStand b (Some p) v.extensions → x ≡ bytes_at b p
+  pub name_told : (p : Place) (x : Bytes) (f : Found) → MayStand b (Some p) v.extensions
+      → x ≡ bytes_at b p
       → Tells (option_map (bytes_at x)) (host_name x) f
       → Tells (option_map (bytes_at (bytes_at b p))) (name_in_hello (reading client_hello b)) f
   name_told p x f s is t =
@@ -62,15 +66,19 @@ is_true : (c : Bool) → false ≡ not c → c ≡ true
 is_true true e = refl
 is_true false e = absurd cc
 
--- a record of handshake messages tells what its fragment tells
-pub handshake_told : (i r : Bytes) (p : Place) (v : RawRecord) (f : Found) → reading raw_record i ≡ Ok (v, r)
+-- a record of handshake messages answers as its fragment does
+pub handshake_told : (i r : Bytes) (p : Place) (v : RawRecord) (f : Found)
+    → reading raw_record i ≡ Ok (v, r)
     → false ≡ not (v.header.content_type == 22) → bytes_at i p ≡ v.fragment
     → Tells (option_map (bytes_at v.fragment)) (name_in_body (body_of_type 1 v.fragment)) f
     → Tells (option_map (bytes_at (bytes_at i p))) (host_name_of_record i) f
 handshake_told i r p v f read kind is t =
-    let here : Tells (option_map (bytes_at (bytes_at i p))) (name_in_body (body_of_type 1 v.fragment)) f =
-    subst (λ y. Tells (option_map (bytes_at y)) (name_in_body (body_of_type 1 v.fragment)) f) (sym is) t in
+    let here : Tells (option_map (bytes_at (bytes_at i p)))
+    (name_in_body (body_of_type 1 v.fragment)) f =
+    subst (λ y. Tells (option_map (bytes_at y)) (name_in_body (body_of_type 1 v.fragment)) f)
+    (sym is) t in
     let same : host_name_of_record i ≡ name_in_body (body_of_type 1 v.fragment) =
-    ap name_in_record read ∙ ap (λ c. if c then name_in_body (body_of_type 1 v.fragment) else Ok None)
+    ap name_in_record read
+    ∙ ap (λ c. if c then name_in_body (body_of_type 1 v.fragment) else Ok None)
     (is_true (v.header.content_type == 22) kind) in
     subst (λ a. Tells (option_map (bytes_at (bytes_at i p))) a f) (sym same) here

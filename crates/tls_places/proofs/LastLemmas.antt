@@ -1,4 +1,4 @@
--- What stands last: three ways to put layouts together, and each structure by them.
+-- The last part of a structure: three ways to combine layouts, and each structure built from them.
 use Rattle.std.proofs.Common.{◌≡◌, ℕ, [], Option, Some, None, Bool, true, false, refl, sym, subst, ap, ◌∙◌}
 use Rattle.layouts.specs.Bytes.{Bytes}
 use Rattle.layouts.specs.Layout.{Layout, done, number, block, maybe, chain, choose, counted}
@@ -10,7 +10,8 @@ use Rattle.tls_ext.specs.Extension.{ServerName, OidFilter}
 use Rattle.tls_places.specs.Place.{EndsIn}
 use Rattle.tls_places.specs.Last.{LastStands, StandsLast}
 
-pub ends_in_after : (b m : Bytes) (x : Option Bytes) (r : Bytes) → EndsWith b m → EndsIn m x r → EndsIn b x r
+pub ends_in_after : (b m : Bytes) (x : Option Bytes) (r : Bytes) → EndsWith b m → EndsIn m x r
+    → EndsIn b x r
 ends_in_after b m None r at s = tt
 ends_in_after b m (Some x) r at s = ends_after b m _ at s
 
@@ -22,19 +23,22 @@ pub chain_last : {A B : Type 0} (l : Layout A) (f : A → Layout B) (last : B �
 chain_last l f last more b v r d (a, m, d1, d2, s, t, e) =
     ends_in_after b m (last v) r (ends l b a m d1 s) (more a m v r d2 t)
 
--- a value that is made of the part
-pub made_last : {A B : Type 0} (l : Layout A) (f : A → B) (last : A → Option Bytes) (of : B → Option Bytes)
+-- a value built from the part
+pub made_last : {A B : Type 0} (l : Layout A) (f : A → B) (last : A → Option Bytes)
+    (of : B → Option Bytes)
     → ((a : A) → of (f a) ≡ last a) → LastStands l last → LastStands (chain l (λ x. done (f x))) of
 made_last l f last of same more b v r d (a, m, d1, d2, s, (is, still, e2), e) =
-    let at : EndsIn b (of v) m = subst (λ x. EndsIn b x m) (sym (same a) ∙ ap of (sym is)) (more b a m d1 s) in
+    let at : EndsIn b (of v) m =
+    subst (λ x. EndsIn b x m) (sym (same a) ∙ ap of (sym is)) (more b a m d1 s) in
     subst (λ x. EndsIn b (of v) x) still at
 
-pub choose_last : {A : Type 0} (c : Bool) (l m : Layout A) (last : A → Option Bytes) → LastStands l last
+pub choose_last : {A : Type 0} (c : Bool) (l m : Layout A) (last : A → Option Bytes)
+    → LastStands l last
     → LastStands m last → LastStands (choose c l m) last
 choose_last true l m last one other = one
 choose_last false l m last one other = other
 
--- what may be there
+-- an optional part
 pub maybe_last : (l : Layout Bytes) → LastStands l (λ x. Some x) → LastStands (maybe l) (λ x. x)
 maybe_last l one b None r d s = tt
 maybe_last l one b (Some x) r d s = one b x r d s
@@ -45,13 +49,16 @@ counted_last k = chain_last (number k) (λ n. block n) (λ x. Some x) block_last
 pub framed_last : (w k : ℕ) → LastStands (framed w k) (λ v. Some v.content)
 unfolding framed
 framed_last w k =
-    chain_last (number w) (λ kind. chain (counted k) (λ content. done (record { kind = kind; content = content })))
+    chain_last (number w)
+    (λ kind. chain (counted k) (λ content. done (record { kind = kind; content = content })))
     (λ v. Some v.content)
-    (λ kind. made_last (counted k) (λ content. record { kind = kind; content = content }) (λ x. Some x)
+    (λ kind. made_last (counted k) (λ content. record { kind = kind; content = content })
+    (λ x. Some x)
     (λ v. Some v.content) (λ x. refl) (counted_last k))
 
--- the same of an answer that is allowed
-pub allowed_last : {A : Type 0} (l : Layout A) (last : A → Bytes) → LastStands l (λ v. Some (last v)) → (v : A)
+-- for an allowed answer
+pub allowed_last : {A : Type 0} (l : Layout A) (last : A → Bytes)
+    → LastStands l (λ v. Some (last v)) → (v : A)
     → StandsLast l v (last v)
 unfolding Allows
 allowed_last l last more v b r (d, s) = more b v r d s
@@ -65,9 +72,11 @@ counted_is_last k = allowed_last (counted k) (λ v. v) (counted_last k)
 server_name_last : LastStands server_name (λ v. Some v.name)
 unfolding server_name
 server_name_last =
-    chain_last (number 1) (λ kind. chain (counted 2) (λ name. done (record { name_type = kind; name = name })))
+    chain_last (number 1)
+    (λ kind. chain (counted 2) (λ name. done (record { name_type = kind; name = name })))
     (λ v. Some v.name)
-    (λ kind. made_last (counted 2) (λ name. record { name_type = kind; name = name }) (λ x. Some x) (λ v. Some v.name)
+    (λ kind. made_last (counted 2) (λ name. record { name_type = kind; name = name }) (λ x. Some x)
+    (λ v. Some v.name)
     (λ x. refl) (counted_last 2))
 
 pub server_name_is_last : (v : ServerName) → StandsLast server_name v v.name
@@ -77,7 +86,8 @@ oid_filter_last : LastStands oid_filter (λ v. Some v.certificate_extension_valu
 unfolding oid_filter
 oid_filter_last =
     chain_last (counted 1) (λ oid. chain (counted 2)
-    (λ values. done (record { certificate_extension_oid = oid; certificate_extension_values = values })))
+    (λ values. done
+    (record { certificate_extension_oid = oid; certificate_extension_values = values })))
     (λ v. Some v.certificate_extension_values)
     (λ oid. made_last (counted 2) (λ values. record {
       certificate_extension_oid = oid;
@@ -88,7 +98,8 @@ oid_filter_last =
 pub oid_filter_is_last : (v : OidFilter) → StandsLast oid_filter v v.certificate_extension_values
 oid_filter_is_last = allowed_last oid_filter (λ v. v.certificate_extension_values) oid_filter_last
 
--- the rest of what is read
-pub behind : {A : Type 0} (l : Layout A) (b m : Bytes) (a : A) (r d : Bytes) → EndsWith b m → Spells l m a r d
+-- the rest of what is parsed
+pub behind : {A : Type 0} (l : Layout A) (b m : Bytes) (a : A) (r d : Bytes) → EndsWith b m
+    → Spells l m a r d
     → EndsWith b r
 behind l b m a r d at s = ends_after b m r at (ends l m a r d s)

@@ -12,19 +12,23 @@ use Rattle.tls_places.proofs.PlaceLemmas.{lies_stands}
 abbrev pub ok_found : Option Place → Found
 ok_found o = Ok o
 
--- a place within a place, by what stands there
+-- a place within a place, by its bytes
 module _ (b : Bytes) (p q s : Place)
     (within : (x y : Bytes) → Stands b p x → Stands x q y → Stands b s y) where
   pub there : Lies b p → Lies (bytes_at b p) q → Stands b s (bytes_at (bytes_at b p) q)
   there out here = within (bytes_at b p) (bytes_at (bytes_at b p) q) (lies_stands b p out)
       (lies_stands (bytes_at b p) q here)
 
-  pub some_within : (found : Found) → found ≡ Ok (Some q) → Lies b p → IsWithin (bytes_at b p) found → Lies b s
-  some_within found is out here = (there out (subst (λ f. IsWithin (bytes_at b p) f) is here)).within
+  pub some_within : (found : Found) → found ≡ Ok (Some q) → Lies b p
+      → IsWithin (bytes_at b p) found → Lies b s
+  some_within found is out here =
+      (there out (subst (λ f. IsWithin (bytes_at b p) f) is here)).within
 
-  pub some_told : (found : Found) → found ≡ Ok (Some q) → (a : Result (Option Bytes) Refusal) → Lies b p
+  pub some_told : (found : Found) → found ≡ Ok (Some q)
+      → (a : Result (Option Bytes) Refusal) → Lies b p
       → IsWithin (bytes_at b p) found
-      → Tells (option_map (bytes_at (bytes_at b p))) a found → Tells (option_map (bytes_at b)) a (Ok (Some s))
+      → Tells (option_map (bytes_at (bytes_at b p))) a found
+      → Tells (option_map (bytes_at b)) a (Ok (Some s))
   some_told found is a out here t =
       let at : Tells (option_map (bytes_at (bytes_at b p))) a (Ok (Some q)) =
       subst (λ f. Tells (option_map (bytes_at (bytes_at b p))) a f) is t in

@@ -1,4 +1,4 @@
--- Where parts stand.
+-- The places of parts.
 use Rattle.std.proofs.Common.{
   ◌≡◌,
   ℕ,
@@ -43,7 +43,7 @@ use Rattle.layouts.proofs.EndLemmas.{ends_after}
 pub use Rattle.tls_hs.proofs.PlacesLemmas.{stands_behind}
 use Rattle.tls_places.specs.Place.{Stands, IsEnd, Lies, MayStand}
 
--- what stands in front of the rest
+-- the part right before the rest
 pub stands_before : (b x r : Bytes) → EndsWith b (x ++ r)
     → Stands b (record { offset = length b - length r - length x; length = length x }) x
 stands_before b x r (f, e) =
@@ -52,7 +52,7 @@ stands_before b x r (f, e) =
     let front : length f ≡ length b - length r - length x = omega (arith, all) in
     stands_behind (length b - length r - length x) b f x r e front
 
--- the bytes in front of a part, and those behind it
+-- the bytes before a part, and those after it
 record Cut (b : Bytes) (o : ℕ) (x : Bytes) : Type 0 where
   front : Bytes
   behind : Bytes
@@ -64,7 +64,8 @@ cut b x p s = record {
   front = take p.offset b;
   behind = drop p.length (drop p.offset b);
   whole = sym (ap (λ y. take p.offset b ++ y)
-      (ap (λ y. y ++ drop p.length (drop p.offset b)) (sym s.is) ∙ take-append-drop p.length (drop p.offset b))
+      (ap (λ y. y ++ drop p.length (drop p.offset b)) (sym s.is)
+      ∙ take-append-drop p.length (drop p.offset b))
       ∙ take-append-drop p.offset b);
   size = length-take-le p.offset b (omega (arith, s.within));
 }
@@ -86,20 +87,23 @@ stands_within b x y p q outer inner =
     ∙ ap (λ z. here.front ++ z) (append_assoc y here.behind out.behind))
     ∙ sym (append_assoc out.front here.front (y ++ (here.behind ++ out.behind))) in
     let at : Stands b (record { offset = p.offset + q.offset; length = length y }) y =
-    stands_behind (p.offset + q.offset) b (out.front ++ here.front) y (here.behind ++ out.behind) whole
+    stands_behind (p.offset + q.offset) b (out.front ++ here.front) y
+    (here.behind ++ out.behind) whole
     (length-append out.front here.front ∙ ap₂ (λ i j. i + j) out.size here.size) in
     let P : ℕ → Type 0 = λ n. Stands b (record { offset = p.offset + q.offset; length = n }) y in
     subst P (size_of x y q inner) at
 
--- what ends an end
+-- the end of an end
 pub ends_in : (w b x r : Bytes) → EndsWith w b → EndsWith b (x ++ r) → EndsWith w (x ++ r)
 ends_in w b x r = ends_after w b (x ++ r)
 
--- the bytes x that an item ends in, which are told as y
-pub frame_stands : (w b x y r : Bytes) (p : Place) → y ≡ x → (EndsWith w (y ++ r) → Stands w p y) → EndsWith w b
+-- the bytes x that an item ends in, known as y
+pub frame_stands : (w b x y r : Bytes) (p : Place) → y ≡ x → (EndsWith w (y ++ r) → Stands w p y)
+    → EndsWith w b
     → EndsWith b (x ++ r) → Stands w p x
 frame_stands w b x y r p same place at last =
-    let there : EndsWith w (y ++ r) = subst (λ z. EndsWith w (z ++ r)) (sym same) (ends_in w b x r at last) in
+    let there : EndsWith w (y ++ r) =
+    subst (λ z. EndsWith w (z ++ r)) (sym same) (ends_in w b x r at last) in
     subst (λ z. Stands w p z) same (place there)
 
 pub is_end : (b r : Bytes) → EndsWith b r → IsEnd b r
@@ -115,19 +119,20 @@ is_end b r (f, e) =
 pub ends_of : (b r : Bytes) → IsEnd b r → EndsWith b r
 ends_of b r end = (
   take (length b - length r) b,
-  sym (ap (λ x. take (length b - length r) b ++ x) (sym end.is) ∙ take-append-drop (length b - length r) b),
+  sym (ap (λ x. take (length b - length r) b ++ x) (sym end.is)
+      ∙ take-append-drop (length b - length r) b),
 )
 
 -- all bytes are their own end
 pub whole_is_end : (b : Bytes) → IsEnd b b
 whole_is_end b = is_end b b ([], refl)
 
--- nothing stands at the front
+-- nothing is at the front
 pub none_stands : (b : Bytes) → length b ≤ 0 → Stands b (record { offset = 0; length = 0 }) b
 none_stands [] h = record { is = refl; within = omega arith }
 none_stands (x ∷ b) h = absurd (omega arith)
 
--- what may be there, as bytes, of which there are none where it isn't
+-- an optional part as bytes, which are empty if it is missing
 pub held_there : (b : Bytes) (p : Option Place) (x : Option Bytes) → MayStand b p x
     → Stands b (unwrap_or p (record { offset = 0; length = 0 })) (held x)
 held_there b (Some p) (Some x) s = s
@@ -135,11 +140,12 @@ held_there b None None s = record { is = refl; within = omega arith }
 held_there b (Some p) None s = absurd s
 held_there b None (Some x) s = absurd s
 
--- what stands at a place that lies within
+-- the bytes at a place that lies within
 pub lies_stands : (b : Bytes) (p : Place) → Lies b p → Stands b p (bytes_at b p)
 lies_stands b p h = record { is = refl; within = h }
 
 pub cut_there : (b x : Bytes) (o n m k : ℕ) → m ≡ min o (length b) → k ≡ min n (length (drop m b))
     → x ≡ take k (drop m b) → x ≡ take n (drop o b)
 cut_there b x o n m k em ek ex =
-    ex ∙ ap (λ i. take i (drop m b)) ek ∙ take_min n (drop m b) ∙ ap (take n) (ap (λ i. drop i b) em ∙ drop_min o b)
+    ex ∙ ap (λ i. take i (drop m b)) ek ∙ take_min n (drop m b)
+    ∙ ap (take n) (ap (λ i. drop i b) em ∙ drop_min o b)

@@ -1,4 +1,4 @@
--- Where parts stand.
+-- The places of parts.
 use Rattle.std.specs.Prelude.{
   ◌≡◌,
   ℕ,
@@ -28,33 +28,37 @@ use Rattle.layouts.specs.declared.result.Error.{Error}
 use Rattle.layouts.specs.declared.result.Err.{Err as Failed}
 pub use Rattle.tls_hs.specs.Places.{Lies, place_from, Stands, MayStand, MayBeginAt}
 
--- r is the end of b: what is left behind as many bytes as b has more.
+-- r is the end of b: what is left after dropping as many bytes as b has more.
 pub record IsEnd (b r : Bytes) : Type 0 where
   pub fits : length r ≤ length b
   pub is : drop (length b - length r) b ≡ r
 
--- What may be there ends b, with r behind it.
+-- b ends with the optional part and then r.
 abbrev pub EndsIn : Bytes → Option Bytes → Bytes → Type 0
 EndsIn b (Some x) r = EndsWith b (x ++ r)
 EndsIn b None r = ⊤
 
--- The next item is the first of the list, and its content stands at its place in the whole.
-pub record YieldsPlaced {S X A : Type 0} (view : X → A) (content : X → Bytes) (whole : S → Bytes) (items : S → List A)
+-- The next item is the first of the list, and its content is at its place in the whole.
+pub record YieldsPlaced {S X A : Type 0} (view : X → A) (content : X → Bytes) (whole : S → Bytes)
+    (items : S → List A)
     (s : S) (r : Option (X × Place)) (t : S) : Type 0 where
   pub first : YieldsFirstBy (λ x. view x.0) items s r t
   pub same : whole t ≡ whole s
   pub stands : MatchOption r ⊤ (λ x. Stands (whole s) x.1 (content x.0))
 
--- A place that is answered lies within b.
+-- A returned place lies within b.
 abbrev pub IsWithin : {E : Type 0} → Bytes → Result (Option Place) E → Type 0
 IsWithin b (Ok (Some p)) = Lies b p
 IsWithin b r = ⊤
 
--- What a call returned that looks for a place.
+-- The answer of a call that looks for a place.
 abbrev pub Found : Type 0
 Found = Result (Option Place) (Failed (Error (Bor (List ℕ))))
 
--- What is told by a place in the part of b that stands at p is told by one in b: the same bytes, or the same refusal.
+-- A place in the part of b at p becomes one in b: it has the same bytes, or the call the same
+-- refusal.
 abbrev pub TellsTheSame : Bytes → Place → Found → Found → Type 0
-TellsTheSame b p found result = (a : Result (Option Bytes) Refusal) → Lies b p → IsWithin (bytes_at b p) found
-    → Tells (option_map (bytes_at (bytes_at b p))) a found → Tells (option_map (bytes_at b)) a result
+TellsTheSame b p found result = (a : Result (Option Bytes) Refusal) → Lies b p
+    → IsWithin (bytes_at b p) found
+    → Tells (option_map (bytes_at (bytes_at b p))) a found
+    → Tells (option_map (bytes_at b)) a result

@@ -1,4 +1,4 @@
-//! Where the parts of a ClientHello of DTLS stand.
+//! The places of the parts of a DTLS ClientHello.
 #![tactic(auto, using(layouts::proofs::OneAnswerLemmas::read_allowed))]
 
 ghost use Rattle.std.specs.Prelude.{IfOk};
@@ -11,18 +11,18 @@ use layouts::{IResult, Place};
 use tls_hs::parts::{client_hello_fields, client_hello_places_in};
 use tls_records::DTLSClientHelloView;
 
-/// Where no bytes stand.
+/// An empty place.
 const NOWHERE: Place = Place {
     offset: 0,
     length: 0,
 };
 
-/// Where the parts of a ClientHello of DTLS stand in its body.
+/// The places of a DTLS ClientHello's parts in its body.
 #[derive(Clone, Copy, Debug, PartialEq)]
 pub struct DtlsClientHelloPlaces {
     /// The 32 bytes of the random.
     pub random: Place,
-    /// The session id, without its length; `None` where there is none.
+    /// The session ID, without its length; `None` if it is empty.
     pub session_id: Option<Place>,
     /// The cookie, without its length.
     pub cookie: Place,
@@ -30,11 +30,12 @@ pub struct DtlsClientHelloPlaces {
     pub ciphers: Place,
     /// The compression methods, without their length.
     pub comp: Place,
-    /// The extensions, without their length; `None` where no whole block follows.
+    /// The extensions, without their length; `None` if no whole block follows.
     pub ext: Option<Place>,
 }
 
-/// Reads the body of a ClientHello of DTLS as [`DTLSClientHelloView::parse`], and says where its parts stand in `whole`.
+/// Parses the body of a DTLS ClientHello as [`DTLSClientHelloView::parse`] does, with the places of
+/// its parts in `whole`.
 #[tactic(auto, using(layouts::proofs::OneAnswerLemmas::read_allowed), unfolding(tls_records::specs::DtlsHello::client_hello))]
 pub fn dtls_client_hello_with_places(
     whole: &[u8],

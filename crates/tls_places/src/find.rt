@@ -1,4 +1,4 @@
-//! Where a hello's extensions, and what stands in them, are found.
+//! The places of a hello's extensions, and of names in them.
 #![tactic(auto, using(layouts::proofs::OneAnswerLemmas::read_allowed))]
 
 ghost use Rattle.std.specs.Prelude.{◌≡◌, ℕ, IfOk, IfSome};
@@ -21,10 +21,11 @@ use layouts::{Counted1, Counted2, Err, Error, IResult, Items, Place};
 use tls_base::TlsExtensionType;
 use tls_ext::{RawExtension, ServerName};
 
-/// Where the content of the first extension of that type stands in `block`, the extensions of a hello after their length.
+/// The place of the first extension's content of this type in `block`, the extensions of a hello
+/// without their length.
 ///
-/// Where there is none: `None` if all bytes of the extensions were walked, else what refuses the extension that the walk ended
-/// in front of: as [`tls_ext::first_content`].
+/// If there is none: `None` if all bytes of the extensions were parsed, else the refusal of the
+/// extension at which the iteration ended, as in [`tls_ext::first_content`].
 pub fn content_place(
     block: &[u8],
     kind: TlsExtensionType,
@@ -45,11 +46,13 @@ pub fn content_place(
     }
 }
 
-/// The names in the content of a server_name extension, as [`tls_ext::server_names`] reads them, and where they stand in it.
+/// Parses the names in the content of a server_name extension as [`tls_ext::server_names`] does,
+/// with their place in it.
 #[tactic(auto, using(layouts::proofs::OneAnswerLemmas::read_allowed, layouts::proofs::ItemsLemmas::none_in, layouts::proofs::PlaceLemmas::ends_here, crate::proofs::PlaceLemmas::none_stands), unfolding(tls_ext::specs::Content::server_names))]
 #[inline(always)]
 fn server_names_placed(i: &[u8]) -> IResult<&[u8], (Items<ServerName>, Place)>
-    ensures gives { Gives (λ x. extension.server_name (items_in content.server_name x.0.bytes.now)) content.server_names i.now result }
+    ensures gives { Gives (λ x. extension.server_name (items_in content.server_name x.0.bytes.now))
+        content.server_names i.now result }
     ensures stands { IfOk result (λ x. Stands i.now x.1.1 x.1.0.bytes.now) }
 {
     if i.is_empty() {
@@ -63,9 +66,10 @@ fn server_names_placed(i: &[u8]) -> IResult<&[u8], (Items<ServerName>, Place)>
     Ok((rest, (Items::new(window), place)))
 }
 
-/// Where the first name stands in the content of a server_name extension.
+/// The place of the first name in the content of a server_name extension.
 fn first_name_place(i: &[u8]) -> Result<Option<Place>, Err<Error<&[u8]>>>
-    ensures tells { Tells (option_map (bytes_there i.now)) (picked first_name (reading content.server_names i.now)) result }
+    ensures tells { Tells (option_map (bytes_there i.now))
+        (picked first_name (reading content.server_names i.now)) result }
     ensures within { IsWithin i.now result }
 {
     let (_, (names, outer)) = server_names_placed(i)?;
@@ -76,10 +80,11 @@ fn first_name_place(i: &[u8]) -> Result<Option<Place>, Err<Error<&[u8]>>>
     }
 }
 
-/// Where the name of the host that a client asks for stands in `block`, the extensions of its hello after their length: the
-/// first name, of whatever type, in the first server_name extension (RFC 6066, section 3).
+/// The place of the host name that a client asks for in `block`, the extensions of its hello
+/// without their length: the first name, of any type, in the first server_name extension (RFC 6066,
+/// section 3).
 ///
-/// It answers and refuses as [`tls_ext::server_name`].
+/// The result and the refusals are those of [`tls_ext::server_name`].
 #[inline(always)]
 pub fn host_name_place(block: &[u8]) -> Result<Option<Place>, Err<Error<&[u8]>>>
     ensures tells { Tells (option_map (bytes_there block.now)) (host_name block.now) result }
@@ -91,23 +96,28 @@ pub fn host_name_place(block: &[u8]) -> Result<Option<Place>, Err<Error<&[u8]>>>
     }
 }
 
-/// Where the names of protocols stand in the content of an application_layer_protocol_negotiation extension.
+/// Parses the protocol names in the content of an application_layer_protocol_negotiation extension,
+/// with their place in it.
 #[tactic(auto, using(layouts::proofs::OneAnswerLemmas::read_allowed, layouts::proofs::PlaceLemmas::ends_here), unfolding(tls_ext::specs::Content::application_layer_protocol_negotiation))]
 #[inline(always)]
 fn protocol_names_placed(i: &[u8]) -> IResult<&[u8], (Items<Counted1>, Place)>
-    ensures gives { Gives (λ x. protocol_names_in x.0.bytes.now) content.application_layer_protocol_negotiation i.now result }
+    ensures gives { Gives (λ x. protocol_names_in x.0.bytes.now)
+        content.application_layer_protocol_negotiation i.now result }
     ensures stands { IfOk result (λ x. Stands i.now x.1.1 x.1.0.bytes.now) }
 {
     let (rest, (window, place)) = frame_at::<Counted2>(i, i)?;
     Ok((rest, (Items::new(window), place)))
 }
 
-/// Where the list of names of protocols stands in `block`, the extensions of a hello after their length: in the first
-/// application_layer_protocol_negotiation extension (RFC 7301, section 3.1), behind the length of the list.
+/// The place of the list of protocol names in `block`, the extensions of a hello without their
+/// length: the list in the first application_layer_protocol_negotiation extension (RFC 7301,
+/// section 3.1), without its length.
 ///
-/// It answers and refuses as [`tls_ext::application_protocols`]; the names are the items of [`Counted1`] there.
+/// The result and the refusals are those of [`tls_ext::application_protocols`]. The names are the
+/// items of [`Counted1`] there.
 pub fn protocol_names_place(block: &[u8]) -> Result<Option<Place>, Err<Error<&[u8]>>>
-    ensures tells { Tells (option_map (λ p. items_in (counted 1) (bytes_there block.now p))) (protocol_names block.now) result }
+    ensures tells { Tells (option_map (λ p. items_in (counted 1) (bytes_there block.now p)))
+        (protocol_names block.now) result }
     ensures within { IsWithin block.now result }
 {
     let kind = TlsExtensionType::ApplicationLayerProtocolNegotiation;

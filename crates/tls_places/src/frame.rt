@@ -1,4 +1,4 @@
-//! Items that end in bytes, and where these stand.
+//! Items that end in bytes, with the place of these.
 ghost use Rattle.std.specs.Prelude.{◌≡◌, IfOk};
 ghost use Rattle.layouts.specs.Answers.{Gives};
 ghost use Rattle.layouts.specs.Bytes.{Bytes};
@@ -11,19 +11,21 @@ use crate::place::place_before;
 use layouts::{IResult, InPlace, Items, Place};
 use std::marker::PhantomData;
 
-/// An item that ends in bytes of its own: the content of an extension, the body of a message, a name behind its length.
+/// An item that ends in a sequence of bytes: the content of an extension, the body of a message, a
+/// name after its length.
 pub trait Frame<'a>: InPlace<'a> {
     ghost content: { Self.Read → Bytes };
 
-    /// These bytes. Where the item is read, they stand in front of what is left.
+    /// These bytes. In the parsed bytes they come right before the rest.
     fn content(read: &Self::Read) -> &'a [u8]
         ensures is { result.now ≡ content read.now }
         ensures last { StandsLast Self.layout (Self.view read.now) (content read.now) };
 }
 
-/// Reads one item from the front of `i`, and says where its content stands in `whole`, if `i` is an end of `whole`.
+/// Parses one item at the front of `i`, with the place of its content in `whole`, if `i` is an end
+/// of `whole`.
 ///
-/// Refused as the item's own reader refuses `i`.
+/// It refuses what the item's parser refuses in `i`.
 #[tactic(auto, using(layouts::proofs::OneAnswerLemmas::read_allowed))]
 #[inline(always)]
 pub fn frame_at<'a, T: Frame<'a>>(whole: &[u8], i: &'a [u8]) -> IResult<&'a [u8], (T::Read, Place)>
@@ -36,9 +38,9 @@ pub fn frame_at<'a, T: Frame<'a>>(whole: &[u8], i: &'a [u8]) -> IResult<&'a [u8]
     Ok((rest, (item, place)))
 }
 
-/// The items of bytes, each with the place in these bytes where its content stands.
+/// An iterator over the items in bytes, each with the place of its content in these bytes.
 ///
-/// It walks as [`Items`] does, and ends where that ends.
+/// It yields the items of [`Items`], and ends where that ends.
 #[derive(Drop)]
 pub struct Placed<'a, T> {
     whole: &'a [u8],
@@ -62,7 +64,8 @@ impl<'a, T> Placed<'a, T> {
         }
     }
 
-    /// What isn't walked yet, without places: [`Items::refusal`] says why the items end where they do.
+    /// The items that weren't iterated yet, without places: [`Items::refusal`] returns why they end
+    /// where they do.
     #[inline(always)]
     pub fn items(&self) -> Items<'a, T>
         ensures { result.bytes.now ≡ self.now.rest.now }

@@ -1,4 +1,5 @@
-//! Which bytes stand last in what is walked: the content of an extension, the body of a message, a name, a certificate.
+//! The last part of each kind of item: the content of an extension, the body of a message, a name,
+//! a certificate.
 
 use crate::frame::Frame;
 use layouts::{Counted1, Counted2};
@@ -17,7 +18,7 @@ impl<'a> Frame<'a> for Counted1 {
     }
 }
 
-/// What stands behind 2 bytes of its length.
+/// The bytes after a length of 2 bytes.
 impl<'a> Frame<'a> for Counted2 {
     ghost content = { λ x. x.now };
 
@@ -72,7 +73,7 @@ impl<'a> Frame<'a> for RawCertificate<'a> {
     }
 }
 
-/// The name of a host, without its type and its length.
+/// The host name, without its type and its length.
 impl<'a> Frame<'a> for ServerName {
     ghost content = { λ n. n.1.now };
 
@@ -83,7 +84,7 @@ impl<'a> Frame<'a> for ServerName {
     }
 }
 
-/// The values of a filter, behind its OID.
+/// The values of a filter, after its OID.
 impl<'a> Frame<'a> for OidFilter<'a> {
     ghost content = { λ f. f.cert_ext_val.now };
 

@@ -1,4 +1,4 @@
-//! Where the name of the host that a client asks for stands: in a hello, in a fragment, in a record.
+//! The place of the host name that a client asks for: in a hello, in a fragment, in a record.
 #![tactic(auto, using(layouts::proofs::OneAnswerLemmas::read_allowed))]
 
 ghost use Rattle.std.specs.Option.{option_map};
@@ -17,9 +17,9 @@ use layouts::{Err, Error, Place};
 use tls_base::{TlsHandshakeType, TlsRecordType};
 use tls_hs::{ClientHelloView, RawHandshake};
 
-/// Where the body of the first of the handshake messages in `fragment` that has that type stands in it.
+/// The place of the body of the first handshake message with this type in `fragment`.
 ///
-/// It answers and refuses as [`tls_records::first_body`].
+/// The result and the refusals are those of [`tls_records::first_body`].
 pub fn body_place(
     fragment: &[u8],
     kind: TlsHandshakeType,
@@ -40,13 +40,16 @@ pub fn body_place(
     }
 }
 
-/// Where the name of the host stands in `body`, that of a ClientHello: the one that [`tls_ext::server_name`] reads.
+/// The place of the host name in `body`, a ClientHello's body: the name that
+/// [`tls_ext::server_name`] returns.
 ///
-/// Refused as [`ClientHelloView::parse`] refuses the body, and as [`tls_ext::server_name`] the extensions.
+/// It refuses what [`ClientHelloView::parse`] refuses in the body, and [`tls_ext::server_name`] in
+/// the extensions.
 #[tactic(auto, using(layouts::proofs::OneAnswerLemmas::read_allowed, crate::proofs::HostNameLemmas::none_told))]
 #[inline(always)]
 pub fn host_name_place_of_hello(body: &[u8]) -> Result<Option<Place>, Err<Error<&[u8]>>>
-    ensures tells { Tells (option_map (bytes_there body.now)) (name_in_hello (reading client_hello body.now)) result }
+    ensures tells { Tells (option_map (bytes_there body.now))
+        (name_in_hello (reading client_hello body.now)) result }
     ensures within { IsWithin body.now result }
 {
     let (rest, (hello, places)) = ClientHelloView::parse_with_places(body)?;
@@ -56,9 +59,10 @@ pub fn host_name_place_of_hello(body: &[u8]) -> Result<Option<Place>, Err<Error<
     }
 }
 
-/// Where the name of the host stands in `fragment`, in the first ClientHello of its handshake messages.
+/// The place of the host name in `fragment`, from the first ClientHello of its handshake messages.
 fn host_name_place_of_fragment(fragment: &[u8]) -> Result<Option<Place>, Err<Error<&[u8]>>>
-    ensures tells { Tells (option_map (bytes_there fragment.now)) (name_in_body (body_of_type 1 fragment.now)) result }
+    ensures tells { Tells (option_map (bytes_there fragment.now))
+        (name_in_body (body_of_type 1 fragment.now)) result }
     ensures within { IsWithin fragment.now result }
 {
     match body_place(fragment, TlsHandshakeType::ClientHello)? {
@@ -71,9 +75,10 @@ fn host_name_place_of_fragment(fragment: &[u8]) -> Result<Option<Place>, Err<Err
     }
 }
 
-/// Where the name of the host that the first ClientHello of the record in front of `i` asks for stands in `i`.
+/// The place in `i` of the host name that the first ClientHello in the record at the front of `i`
+/// asks for.
 ///
-/// It answers and refuses as [`tls_records::server_name_of_record`].
+/// The result and the refusals are those of [`tls_records::server_name_of_record`].
 pub fn host_name_place_of_record(i: &[u8]) -> Result<Option<Place>, Err<Error<&[u8]>>>
     ensures tells { Tells (option_map (bytes_there i.now)) (host_name_of_record i.now) result }
     ensures within { IsWithin i.now result }

@@ -1,8 +1,13 @@
-//! Where parts stand in the bytes that they were read from: places, counted in bytes, each proved by what stands there.
+//! Parses records, messages and extensions with the offsets and lengths of their parts.
 //!
-//! An item whose last part is bytes is a [`Frame`]: a record and its fragment, a message and its body, an extension and its content,
-//! a name, a certificate, a key share. [`frame_at`] reads one and says where these bytes stand, and [`Placed`] walks many. A place in a
-//! part is one in the whole by [`place_within`]. Nothing here takes memory, and every refusal is that of the reader without places.
+//! An item whose last part is bytes is a [`Frame`]: a record and its fragment, a message and its
+//! body, an extension and its content, a name, a certificate, a key share. [`frame_at`] parses one
+//! and returns the [`layouts::Place`] of these bytes; [`Placed`] iterates over many.
+//! [`place_within`] turns a place in a part into one in the whole. Nothing here allocates, and
+//! every refusal is that of the parser without places.
+//!
+//! Each place is proved to lie within the bytes and to hold the part's bytes; `specs/Place.antt`
+//! and `specs/Hello.antt` state it.
 #![tactic(auto)]
 
 mod dtls_hello;

@@ -1,4 +1,4 @@
-//! Where parts stand in the bytes that they were read from.
+//! The places of parts in the bytes that they were parsed from.
 ghost use Rattle.std.specs.Prelude.{◌≡◌, ◌++◌};
 ghost use Rattle.layouts.specs.Bytes.{Bytes};
 ghost use Rattle.std.specs.Option.{option_map};
@@ -8,7 +8,7 @@ ghost use Rattle.tls_places.specs.Place.{EndsIn, IsWithin, Lies, MayBeginAt, May
 
 use layouts::{Err, Error, Place};
 
-/// Where `part` stands in `whole`, at whose end it is followed by `rest`.
+/// The place of `part` in `whole`, which ends with `part` and then `rest`.
 #[tactic(auto, using(crate::proofs::PlaceLemmas::stands_before))]
 #[inline(always)]
 pub fn place_before(whole: &[u8], part: &[u8], rest: &[u8]) -> Place
@@ -22,12 +22,13 @@ pub fn place_before(whole: &[u8], part: &[u8], rest: &[u8]) -> Place
     }
 }
 
-/// The place in `whole` of bytes that stand at the place `inner` in a part, where that part stands at the place `outer` in
+/// The place in `whole` of bytes at the place `inner` of a part, which is at the place `outer` of
 /// `whole`.
 #[tactic(auto, using(crate::proofs::PlaceLemmas::stands_within))]
 #[inline(always)]
 pub fn place_within(whole: &[u8], outer: Place, inner: Place) -> Place
-    ensures { (x y : Bytes) → Stands whole.now outer x → Stands x inner y → Stands whole.now result y }
+    ensures { (x y : Bytes) → Stands whole.now outer x → Stands x inner y
+        → Stands whole.now result y }
 {
     let offset = outer.offset.saturating_add(inner.offset).min(whole.len());
     Place {
@@ -36,7 +37,7 @@ pub fn place_within(whole: &[u8], outer: Place, inner: Place) -> Place
     }
 }
 
-/// The bytes at that place of `whole`; fewer where the place doesn't lie within it.
+/// The bytes at this place of `whole`; fewer if the place doesn't lie within it.
 #[tactic(auto, using(crate::proofs::PlaceLemmas::cut_there))]
 #[inline(always)]
 pub fn bytes_at(whole: &[u8], place: Place) -> &[u8]
@@ -47,10 +48,11 @@ pub fn bytes_at(whole: &[u8], place: Place) -> &[u8]
     part
 }
 
-/// Where what may be there stands in `whole`, in front of `rest`, which ends it.
+/// The place of an optional part in `whole`, which ends with the part and then `rest`.
 #[inline(always)]
 pub(crate) fn held_before(whole: &[u8], part: Option<&[u8]>, rest: &[u8]) -> Option<Place>
-    ensures { EndsIn whole.now (option_map (λ x. x.now) part.entry) rest.now → MayStand whole.now result (option_map (λ x. x.now) part.entry) }
+    ensures { EndsIn whole.now (option_map (λ x. x.now) part.entry) rest.now
+        → MayStand whole.now result (option_map (λ x. x.now) part.entry) }
 {
     match part {
         Some(bytes) => Some(place_before(whole, bytes, rest)),
@@ -58,10 +60,11 @@ pub(crate) fn held_before(whole: &[u8], part: Option<&[u8]>, rest: &[u8]) -> Opt
     }
 }
 
-/// Where what may be there stands in `whole`, if it begins at `offset`.
+/// The place of an optional part in `whole`, if it begins at `offset`.
 #[inline(always)]
 pub(crate) fn held_from(whole: &[u8], offset: usize, part: Option<&[u8]>) -> Option<Place>
-    ensures { MayBeginAt whole.now offset (option_map (λ x. x.now) part.entry) → MayStand whole.now result (option_map (λ x. x.now) part.entry) }
+    ensures { MayBeginAt whole.now offset (option_map (λ x. x.now) part.entry)
+        → MayStand whole.now result (option_map (λ x. x.now) part.entry) }
 {
     match part {
         Some(bytes) => Some(Place {
@@ -72,7 +75,7 @@ pub(crate) fn held_from(whole: &[u8], offset: usize, part: Option<&[u8]>) -> Opt
     }
 }
 
-/// What was found in the bytes at the place `outer` of `whole`, counted from the front of `whole`.
+/// A place found in the bytes at `outer` of `whole`, as a place in `whole`.
 #[tactic(auto, using(crate::proofs::OutwardLemmas::some_told, crate::proofs::OutwardLemmas::some_within))]
 #[inline(always)]
 pub(crate) fn outward<'a>(
@@ -81,7 +84,8 @@ pub(crate) fn outward<'a>(
     found: Result<Option<Place>, Err<Error<&'a [u8]>>>,
 ) -> Result<Option<Place>, Err<Error<&'a [u8]>>>
     ensures tells { TellsTheSame whole.now outer found.entry result }
-    ensures within { Lies whole.now outer → IsWithin (bytes_there whole.now outer) found.entry → IsWithin whole.now result }
+    ensures within { Lies whole.now outer → IsWithin (bytes_there whole.now outer) found.entry
+        → IsWithin whole.now result }
 {
     match found? {
         Some(inner) => Ok(Some(place_within(whole, outer, inner))),

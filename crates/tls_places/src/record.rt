@@ -1,4 +1,4 @@
-//! Records of TLS and DTLS, and messages of DTLS, as items whose bytes have a place.
+//! Records of TLS and DTLS, and messages of DTLS, as items with the place of their last bytes.
 #![tactic(auto, using(layouts::proofs::OneAnswerLemmas::read_allowed))]
 
 ghost use Rattle.layouts.specs.Answers.{Gives};
@@ -12,7 +12,7 @@ use tls_records::{
     parse_tls_raw_record,
 };
 
-/// Names the way in which [`parse_tls_raw_record`] reads a record: its fragment is left as it stands.
+/// A record as [`parse_tls_raw_record`] parses it, with its fragment unparsed.
 #[derive(Clone, Copy)]
 pub struct Record;
 
@@ -42,10 +42,10 @@ impl<'a> Frame<'a> for Record {
     }
 }
 
-/// Names the same for a record of DTLS (RFC 6347, section 4.1).
+/// A record of DTLS (RFC 6347, section 4.1), with its fragment unparsed.
 ///
-/// Refused as `TooLarge` where its length is above [`MAX_RECORD_LEN`]; `Incomplete` of the missing bytes of its header, or else
-/// of its fragment.
+/// `TooLarge` if its length is above [`MAX_RECORD_LEN`]; `Incomplete` with the count of bytes
+/// missing of its header, or else of its fragment.
 #[derive(Clone, Copy)]
 pub struct DtlsRecord;
 
@@ -81,7 +81,7 @@ impl<'a> Frame<'a> for DtlsRecord {
     }
 }
 
-/// The body of a handshake message of DTLS, or the part of it that a fragment has.
+/// The body of a DTLS handshake message, or the fragment's part of it.
 impl<'a> Frame<'a> for DTLSRawHandshake<'a> {
     ghost content = { λ m. m.body.now };
 

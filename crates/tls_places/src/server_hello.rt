@@ -1,4 +1,4 @@
-//! Where the parts of a ServerHello stand.
+//! The places of a ServerHello's parts.
 #![tactic(auto, using(layouts::proofs::OneAnswerLemmas::read_allowed))]
 
 ghost use Rattle.std.specs.Prelude.{IfOk};
@@ -12,21 +12,22 @@ use layouts::{IResult, Place};
 use tls_hs::parts::server_hello_any;
 use tls_hs::{TlsServerHelloContents, parse_tls_handshake_server_hello};
 
-/// Where the parts of a ServerHello's body stand in it.
+/// The places of a ServerHello's parts in its body.
 #[derive(Clone, Copy, Debug, PartialEq)]
 pub struct ServerHelloPlaces {
     /// The 32 bytes of the random.
     pub random: Place,
-    /// The session id, without its length; `None` where there is none.
+    /// The session ID, without its length; `None` if it is empty.
     pub session_id: Option<Place>,
-    /// The extensions, without their length; `None` where no whole block follows.
+    /// The extensions, without their length; `None` if no whole block follows.
     pub ext: Option<Place>,
 }
 
-/// Where the parts of a hello stand in `i`, its body, of which `rest` is what follows.
+/// The places of a hello's parts in `i`, its body followed by `rest`.
 #[inline(always)]
 fn places_in(i: &[u8], hello: &TlsServerHelloContents, rest: &[u8]) -> ServerHelloPlaces
-    ensures { LiesAsServerHello i.now hello.now rest.now → ServerHelloStands i.now hello.now result }
+    ensures { LiesAsServerHello i.now hello.now rest.now
+        → ServerHelloStands i.now hello.now result }
 {
     ServerHelloPlaces {
         random: Place {
@@ -38,7 +39,8 @@ fn places_in(i: &[u8], hello: &TlsServerHelloContents, rest: &[u8]) -> ServerHel
     }
 }
 
-/// Reads the body of a ServerHello as [`parse_tls_handshake_server_hello`], and says where its parts stand in `i`.
+/// Parses the body of a ServerHello as [`parse_tls_handshake_server_hello`] does, with the places
+/// of its parts in `i`.
 pub fn server_hello_with_places(
     i: &[u8],
 ) -> IResult<&[u8], (TlsServerHelloContents, ServerHelloPlaces)>
@@ -50,8 +52,8 @@ pub fn server_hello_with_places(
     Ok((rest, (hello, places)))
 }
 
-/// Reads the body of a ServerHello of DTLS (RFC 6347, section 4.2), and says where its parts stand in `i`: as that of TLS, of any
-/// version, as [`server_hello_any`].
+/// Parses the body of a DTLS ServerHello (RFC 6347, section 4.2), with the places of its parts in
+/// `i`. It has the form of TLS with any version, as in [`server_hello_any`].
 pub fn dtls_server_hello_with_places(
     i: &[u8],
 ) -> IResult<&[u8], (TlsServerHelloContents, ServerHelloPlaces)>

@@ -1,4 +1,4 @@
--- What the proofs of callers need of the layouts, so that a caller stands on this crate alone.
+-- Lemmas about layouts that the proofs of callers use, so that they depend on this crate alone.
 use Rattle.std.proofs.Common.{◌≡◌, ℕ, zero, suc, ◌+◌, ◌/◌, ◌≤◌, List, [], ◌∷◌, ◌++◌, length, Option, Some, None, Ok}
 use Rattle.std.proofs.Common.{nat_le, ◌==◌, if◌then◌else◌, refl, sym, ◌∙◌, ap, subst, arith}
 use Rattle.std.proofs.lemmas.List.{length-append}
@@ -24,21 +24,23 @@ use Rattle.tls_records.specs.Framing.{max_fragment_length}
 use Rattle.tls_records.specs.Record.{RecordHeader, record_content, Plaintext}
 use Rattle.tls_records.specs.RecordText.{FitsMessage, fragment_text, plaintext_text}
 
--- what is read is allowed
-pub read_allowed : {A : Type 0} (l : Layout A) (b : Bytes) (x : Answer A) → AreBytes b → reading l b ≡ x → Allows l b x
+-- the answer of reading is allowed
+pub read_allowed : {A : Type 0} (l : Layout A) (b : Bytes) (x : Answer A) → AreBytes b
+    → reading l b ≡ x → Allows l b x
 read_allowed l b x are e = answers.read_allowed l b x are e
 
--- what is allowed is what is read
-pub only_reading : {A : Type 0} (l : Layout A) (b : Bytes) → AreBytes b → (x : Answer A) → Allows l b x
+-- an allowed answer is that of reading
+pub only_reading : {A : Type 0} (l : Layout A) (b : Bytes) → AreBytes b → (x : Answer A)
+    → Allows l b x
     → x ≡ reading l b
 only_reading l b are x h = answers.only_reading l b are x h
 
--- bytes one after the other are bytes
+-- bytes followed by bytes are bytes
 pub AreBytes-append : (b c : Bytes) → AreBytes b → AreBytes c → AreBytes (b ++ c)
 AreBytes-append b c are_b are_c = numbers.AreBytes-append b c are_b are_c
 
--- A ClientHello that was read has fields that can be written, and its session id is read back as it is: whatever its
--- bytes are followed by.
+-- A ClientHello that was read has fields that can be written, and its session id reads back
+-- unchanged, whatever bytes follow.
 pub record IsReadHello (h : ClientHello) : Type 0 where
   pub random : length h.random ≡ 32
   pub session_id : length (held h.session_id) ≤ 32
@@ -71,12 +73,14 @@ times_count l zero b vs r d s = ap length s.0
 times_count l (suc n) b vs r d (x, m1, d1, d2, s, (xs, m2, d3, d4, t, f, e2), e1) =
     ap length f.0 ∙ ap suc (times_count l n m1 xs m2 d3 t)
 
-suites_read : (b : Bytes) (xs : List ℕ) (r d : Bytes) → Spells cipher_suites b xs r d → length xs ≤ 32767
+suites_read : (b : Bytes) (xs : List ℕ) (r d : Bytes) → Spells cipher_suites b xs r d
+    → length xs ≤ 32767
 unfolding cipher_suites
 suites_read b xs r d (k, m1, d1, d2, s, (n, m2, d3, d4, t, (u, m3, d5, d6, v, w, e3), e2), e1) =
     omega (arith, s.0, times_count (number 2) (k / 2) m3 xs r d6 w)
 
-methods_read : (b : Bytes) (xs : List ℕ) (r d : Bytes) → Spells compression_methods b xs r d → length xs ≤ 255
+methods_read : (b : Bytes) (xs : List ℕ) (r d : Bytes) → Spells compression_methods b xs r d
+    → length xs ≤ 255
 unfolding compression_methods
 methods_read b xs r d (k, m1, d1, d2, s, (n, m2, d3, d4, t, (u, m3, d5, d6, v, w, e3), e2), e1) =
     omega (arith, s.0, times_count (number 1) k m3 xs r d6 w)
@@ -126,7 +130,8 @@ fields_read l b x r d (
       normal = i.1;
     })
 
-client_hello_read : (b : Bytes) (h : ClientHello) (r d : Bytes) → Spells client_hello b h r d → IsReadHello h
+client_hello_read : (b : Bytes) (h : ClientHello) (r d : Bytes) → Spells client_hello b h r d
+    → IsReadHello h
 unfolding client_hello
 client_hello_read b h r d (x, m1, d1, d2, s, f, e1) =
     subst IsReadHello (sym f.0) (fields_read (done None) b x m1 d1 s)
@@ -150,26 +155,32 @@ handshake_read b h r d (
   (n, m2, d3, d4, t, (m, m3, d5, d6, (w, e, g, size, is, inner, e4), f, e3), e2),
   e1,
 ) =
-    let same : handshakes.ClientHello h ≡ m = (let k : Handshake (handshakes.ClientHello h) ≡ Handshake m =
+    let same : handshakes.ClientHello h ≡ m =
+    (let k : Handshake (handshakes.ClientHello h) ≡ Handshake m =
     f.0 in cc) in
     let body : Spells (handshakes.handshake_body kind n) w (handshakes.ClientHello h) e g =
     subst (λ x. Spells (handshakes.handshake_body kind n) w x e g) (sym same) inner in
     let one : kind ≡ 1 = body_makes kind n w (handshakes.ClientHello h) e g body in
-    body_read n w h e g (subst (λ k. Spells (handshakes.handshake_body k n) w (handshakes.ClientHello h) e g) one body)
+    body_read n w h e g
+    (subst (λ k. Spells (handshakes.handshake_body k n) w (handshakes.ClientHello h) e g) one
+    body)
 
 abbrev header_of : ℕ → ℕ → ℕ → RecordHeader
 header_of kind version n = record { content_type = kind; version = version; length = n }
 
 content_read : (version n : ℕ) (b : Bytes) (h : ClientHello) (ms : List Message) (r d : Bytes)
-    → Spells (record_content (header_of 22 version n)) b (Handshake (handshakes.ClientHello h) ∷ ms) r d → IsReadHello h
+    → Spells (record_content (header_of 22 version n)) b (Handshake (handshakes.ClientHello h) ∷ ms)
+    r d → IsReadHello h
 unfolding record_content
 content_read version n b h ms r d (x, m1, d1, d2, s, (ys, m2, d3, d4, t, u, e2), e1) =
     let first : Handshake (handshakes.ClientHello h) ≡ x =
     (let g : Handshake (handshakes.ClientHello h) ∷ ms ≡ x ∷ ys = u.0 in cc) in
     handshake_read b h m1 d1 (subst (λ m. Spells handshake b m m1 d1) (sym first) s)
 
-pub hello_read : (header : RecordHeader) (b : Bytes) (h : ClientHello) (ms : List Message) (r : Bytes)
-    → header.content_type ≡ 22 → Allows (record_content header) b (Ok (Handshake (handshakes.ClientHello h) ∷ ms, r))
+pub hello_read : (header : RecordHeader) (b : Bytes) (h : ClientHello) (ms : List Message)
+    (r : Bytes)
+    → header.content_type ≡ 22
+    → Allows (record_content header) b (Ok (Handshake (handshakes.ClientHello h) ∷ ms, r))
     → IsReadHello h
 unfolding Allows
 hello_read header b h ms r is s =
@@ -177,16 +188,22 @@ hello_read header b h ms r is s =
     (subst (λ k. Spells (record_content (header_of k header.version header.length)) b
     (Handshake (handshakes.ClientHello h) ∷ ms) r s.0) is s.1)
 
--- With other extensions it can be written as well, where it isn't too long.
-long_end : (a b c d e : Bytes) (n : ℕ) (f : Bytes) → length f ≤ length (a ++ b ++ c ++ d ++ e ++ (bytes_of 2 n ++ f))
+-- With other extensions it can be written too, if it isn't too long.
+long_end : (a b c d e : Bytes) (n : ℕ) (f : Bytes)
+    → length f ≤ length (a ++ b ++ c ++ d ++ e ++ (bytes_of 2 n ++ f))
 long_end a b c d e n f =
-    omega (arith, length-append (a ++ b ++ c ++ d ++ e) (bytes_of 2 n ++ f), length-append (bytes_of 2 n) f)
+    omega (
+      arith,
+      length-append (a ++ b ++ c ++ d ++ e) (bytes_of 2 n ++ f),
+      length-append (bytes_of 2 n) f,
+    )
 
 long_text : (h : ClientHello) → length (held h.extensions) ≤ length (client_hello_text h)
 unfolding client_hello_text
 long_text h =
     long_end (bytes_of 2 h.client_version) h.random (counted_text 1 (held h.session_id))
-    (counted_text 2 (numbers_text 2 h.cipher_suites)) (counted_text 1 (numbers_text 1 h.compression_methods))
+    (counted_text 2 (numbers_text 2 h.cipher_suites))
+    (counted_text 1 (numbers_text 1 h.compression_methods))
     (length (held h.extensions)) (held h.extensions)
 
 one_text : (h : ClientHello) → length (client_hello_text h) ≤ length
@@ -205,7 +222,8 @@ abbrev with_ext : Bytes → ClientHello → ClientHello
 with_ext ext h = record h { extensions = Some ext }
 
 pub hello_fits : (h : ClientHello) (ext : Bytes) → IsReadHello h
-    → length (fragment_text (Handshake (handshakes.ClientHello (with_ext ext h)) ∷ [])) ≤ max_fragment_length
+    → length (fragment_text (Handshake (handshakes.ClientHello (with_ext ext h)) ∷ [])) ≤
+    max_fragment_length
     → All FitsMessage (Handshake (handshakes.ClientHello (with_ext ext h)) ∷ [])
 hello_fits h ext was short =
     let m = Handshake (handshakes.ClientHello (with_ext ext h)) in
@@ -221,17 +239,21 @@ hello_fits h ext was short =
       length = omega (arith, short, text);
     }) (All-nil FitsMessage)
 
--- A record's text is a header of 5 bytes, and its fragment.
-framed : (a b c d : Bytes) → length (a ++ b ++ (c ++ d)) ≡ length a + length b + (length c + length d)
-framed a b c d = omega (arith, length-append (a ++ b) (c ++ d), length-append a b, length-append c d)
+-- The encoding of a record is a header of 5 bytes, then its fragment.
+framed : (a b c d : Bytes)
+    → length (a ++ b ++ (c ++ d)) ≡ length a + length b + (length c + length d)
+framed a b c d =
+    omega (arith, length-append (a ++ b) (c ++ d), length-append a b, length-append c d)
 
-pub length-plaintext_text : (p : Plaintext) → length (plaintext_text p) ≡ 5 + length (fragment_text p.messages)
+pub length-plaintext_text : (p : Plaintext)
+    → length (plaintext_text p) ≡ 5 + length (fragment_text p.messages)
 unfolding plaintext_text
 length-plaintext_text p =
     let w = fragment_text p.messages in
     omega (
       arith,
-      framed (bytes_of 1 p.header.content_type) (bytes_of 2 p.header.version) (bytes_of 2 (length w)) w,
+      framed (bytes_of 1 p.header.content_type) (bytes_of 2 p.header.version)
+          (bytes_of 2 (length w)) w,
       numbers.length-bytes_of 1 p.header.content_type,
       numbers.length-bytes_of 2 p.header.version,
       numbers.length-bytes_of 2 (length w),

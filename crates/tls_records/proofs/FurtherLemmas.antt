@@ -1,4 +1,4 @@
--- Records of TLS, where further bytes follow.
+-- Records of TLS with further bytes after them.
 use Rattle.std.proofs.Common.{ℕ, List, [], ◌∷◌, Bool, true, false}
 use Rattle.std.specs.Prelude.{◌==◌}
 use Rattle.layouts.specs.Bytes.{Bytes, AreBytes}
@@ -17,9 +17,10 @@ use Rattle.tls_records.proofs.FramedLemmas.{raw_counts, framed_counts}
 pub application_data_never_lacks : NeverLacks application_data
 unfolding application_data
 application_data_never_lacks =
-    never-chain rest (λ b. done (ApplicationData b)) never-rest (λ b. never-done (ApplicationData b))
+    never-chain rest (λ b. done (ApplicationData b)) never-rest
+    (λ b. never-done (ApplicationData b))
 
--- No bytes are missing in a fragment.
+-- No bytes are missing from a fragment.
 picked_never_lacks : (a b c d e : Bool) (length : ℕ) → NeverLacks (
     choose a (list1 change_cipher_spec) (
     choose b (list1 alert) (
@@ -31,14 +32,16 @@ picked_never_lacks true b c d e length = never-list1 change_cipher_spec
 picked_never_lacks false true c d e length = never-list1 alert
 picked_never_lacks false false true d e length = never-list1 handshake
 picked_never_lacks false false false true e length =
-    never-chain application_data (λ m. done (m ∷ [])) application_data_never_lacks (λ m. never-done (m ∷ []))
+    never-chain application_data (λ m. done (m ∷ [])) application_data_never_lacks
+    (λ m. never-done (m ∷ []))
 picked_never_lacks false false false false true length = never-complete (heartbeat length)
 picked_never_lacks false false false false false length = never-refuse (List Message) Switch
 
 pub content_never_lacks : (h : RecordHeader) → NeverLacks (record_content h)
 unfolding record_content
 content_never_lacks h =
-    picked_never_lacks (h.content_type == 20) (h.content_type == 21) (h.content_type == 22) (h.content_type == 23)
+    picked_never_lacks (h.content_type == 20) (h.content_type == 21) (h.content_type == 22)
+    (h.content_type == 23)
     (h.content_type == 24) h.length
 
 abbrev pub whole_of : RecordHeader → List Message → Plaintext
@@ -53,27 +56,32 @@ header_counts = (tt, λ k. (tt, λ v. (tt, λ n. tt)))
 
 pub raw_record_counts : CountsMissing raw_record
 unfolding raw_record
-raw_record_counts = raw_counts record_header (λ h. h.length) record_content whole_of raw_of header_counts
+raw_record_counts =
+    raw_counts record_header (λ h. h.length) record_content whole_of raw_of header_counts
 
 plaintext_counts : CountsMissing plaintext
 unfolding plaintext
 plaintext_counts =
-    framed_counts record_header (λ h. h.length) record_content whole_of raw_of content_never_lacks header_counts
+    framed_counts record_header (λ h. h.length) record_content whole_of raw_of content_never_lacks
+    header_counts
 
 pub header_decides : (b s : Bytes) → AreBytes b → AreBytes s → Decides record_header b s
-header_decides b s are more = decides record_header (counting_is_stable record_header header_counts) b s are more
+header_decides b s are more =
+    decides record_header (counting_is_stable record_header header_counts) b s are more
 
 pub header_counts_down : (b s : Bytes) → AreBytes b → AreBytes s → CountsDown record_header b s
 header_counts_down b s are more = counts_down record_header header_counts b s are more
 
 pub raw_record_decides : (b s : Bytes) → AreBytes b → AreBytes s → Decides raw_record b s
-raw_record_decides b s are more = decides raw_record (counting_is_stable raw_record raw_record_counts) b s are more
+raw_record_decides b s are more =
+    decides raw_record (counting_is_stable raw_record raw_record_counts) b s are more
 
 pub raw_record_counts_down : (b s : Bytes) → AreBytes b → AreBytes s → CountsDown raw_record b s
 raw_record_counts_down b s are more = counts_down raw_record raw_record_counts b s are more
 
 pub plaintext_decides : (b s : Bytes) → AreBytes b → AreBytes s → Decides plaintext b s
-plaintext_decides b s are more = decides plaintext (counting_is_stable plaintext plaintext_counts) b s are more
+plaintext_decides b s are more =
+    decides plaintext (counting_is_stable plaintext plaintext_counts) b s are more
 
 pub plaintext_counts_down : (b s : Bytes) → AreBytes b → AreBytes s → CountsDown plaintext b s
 plaintext_counts_down b s are more = counts_down plaintext plaintext_counts b s are more

@@ -1,4 +1,4 @@
--- Where records are incomplete, and where they aren't opened.
+-- When records are incomplete, and when their fragments aren't parsed.
 use Rattle.std.proofs.Common.{◌≡◌, ℕ, ◌<◌, ◌↔◌, length, Ok, Err, inl, subst}
 use Rattle.std.specs.Result.{IsErr}
 use Rattle.layouts.specs.Bytes.{Bytes, AreBytes}
@@ -14,40 +14,47 @@ use Rattle.tls_records.proofs.WholeLemmas.{record_lacks, no_record_refused, inco
 use Rattle.tls_records.proofs.FurtherLemmas.{content_never_lacks, whole_of, raw_of}
 use Rattle.tls_records.proofs.DtlsFurtherLemmas as dtls_further
 
-pub plaintext_lacks : (b : Bytes) → AreBytes b → ((n : ℕ) × Allows plaintext b (Err (Lacks n))) ↔ NeedsMore 5 b
+pub plaintext_lacks : (b : Bytes) → AreBytes b → ((n : ℕ) × Allows plaintext b (Err (Lacks n)))
+    ↔ NeedsMore 5 b
 unfolding plaintext
 plaintext_lacks b are =
-    record_lacks record_header (λ h. h.length) record_content whole_of raw_of 5 content_never_lacks short_header
+    record_lacks record_header (λ h. h.length) record_content whole_of raw_of 5 content_never_lacks
+    short_header
     long_header b are
 
 pub dtls_plaintext_lacks : (b : Bytes) → AreBytes b
     → ((n : ℕ) × Allows dtls.plaintext b (Err (Lacks n))) ↔ NeedsMore 13 b
 unfolding dtls.plaintext
 dtls_plaintext_lacks b are =
-    record_lacks dtls.record_header (λ h. h.length) dtls.record_content dtls_further.whole_of dtls_further.raw_of 13
+    record_lacks dtls.record_header (λ h. h.length) dtls.record_content dtls_further.whole_of
+    dtls_further.raw_of 13
     dtls_further.content_never_lacks dtls_short_header dtls_long_header b are
 
 raw_record_refused : (b : Bytes) → HasNoRecord 5 b → IsErr (reading raw_record b)
 unfolding raw_record
 raw_record_refused b un =
-    no_record_refused record_header (λ h. h.length) record_content whole_of raw_of 5 content_never_lacks short_header
+    no_record_refused record_header (λ h. h.length) record_content whole_of raw_of 5
+    content_never_lacks short_header
     long_header b un
 
 dtls_raw_record_refused : (b : Bytes) → HasNoRecord 13 b → IsErr (reading dtls.raw_record b)
 unfolding dtls.raw_record
 dtls_raw_record_refused b un =
-    no_record_refused dtls.record_header (λ h. h.length) dtls.record_content dtls_further.whole_of dtls_further.raw_of
+    no_record_refused dtls.record_header (λ h. h.length) dtls.record_content dtls_further.whole_of
+    dtls_further.raw_of
     13 dtls_further.content_never_lacks dtls_short_header dtls_long_header b un
 
 needs_none : (n : ℕ) (b : Bytes) → NeedsMore n b → HasNoRecord n b
 needs_none n b needs = inl needs.0
 
--- What the calls return, of which it is known that memory doesn't run out where there is no raw record.
-pub plaintext_memory : {X : Type 0} (b : Bytes) (r : Returned X) → (IsErr (reading raw_record b) → MemorySufficed r)
+-- Results of calls that don't run out of memory if there is no raw record.
+pub plaintext_memory : {X : Type 0} (b : Bytes) (r : Returned X)
+    → (IsErr (reading raw_record b) → MemorySufficed r)
     → HasNoRecord 5 b → MemorySufficed r
 plaintext_memory b r memory un = memory (raw_record_refused b un)
 
-pub plaintext_incomplete : {X : Type 0} (view : X → Plaintext) (b : Bytes) (r : Returned X) → AreBytes b
+pub plaintext_incomplete : {X : Type 0} (view : X → Plaintext) (b : Bytes) (r : Returned X)
+    → AreBytes b
     → GivesOrMemory view plaintext b r → (IsErr (reading raw_record b) → MemorySufficed r)
     → IsIncomplete r ↔ NeedsMore 5 b
 plaintext_incomplete view b r are g memory =
@@ -58,15 +65,17 @@ pub dtls_plaintext_memory : {X : Type 0} (b : Bytes) (r : Returned X)
     → (IsErr (reading dtls.raw_record b) → MemorySufficed r) → HasNoRecord 13 b → MemorySufficed r
 dtls_plaintext_memory b r memory un = memory (dtls_raw_record_refused b un)
 
-pub dtls_plaintext_incomplete : {X : Type 0} (view : X → dtls.Plaintext) (b : Bytes) (r : Returned X) → AreBytes b
+pub dtls_plaintext_incomplete : {X : Type 0} (view : X → dtls.Plaintext) (b : Bytes)
+    (r : Returned X) → AreBytes b
     → GivesOrMemory view dtls.plaintext b r → (IsErr (reading dtls.raw_record b) → MemorySufficed r)
     → IsIncomplete r ↔ NeedsMore 13 b
 dtls_plaintext_incomplete view b r are g memory =
     incomplete_returned view dtls.plaintext b (NeedsMore 13 b) r are (dtls_plaintext_lacks b are) g
     (λ needs. memory (dtls_raw_record_refused b (needs_none 13 b needs)))
 
--- A record that is read takes a byte.
-pub plaintext_takes : (b r : Bytes) (p : Plaintext) → reading plaintext b ≡ Ok (p, r) → length r < length b
+-- A record that is read consumes a byte.
+pub plaintext_takes : (b r : Bytes) (p : Plaintext) → reading plaintext b ≡ Ok (p, r)
+    → length r < length b
 unfolding plaintext record_header
 plaintext_takes b r p e = subst (LeavesFewer (length b)) e (takes_byte plaintext b tt)
 

@@ -1,4 +1,4 @@
--- Calls that don't ask for more bytes.
+-- Calls that never return `Incomplete`.
 use Rattle.std.proofs.Common.{List, [], ◌∷◌, Ok, Err}
 use Rattle.layouts.specs.Bytes.{Bytes}
 use Rattle.layouts.specs.Layout.{Layout, done, complete, list1, mapped}
@@ -12,7 +12,8 @@ use Rattle.tls_hs.specs.Message.{Message, application_data}
 use Rattle.tls_records.specs.Framing.{AsksNoMore}
 use Rattle.tls_records.proofs.FurtherLemmas.{application_data_never_lacks}
 
-asks_no_more : {X Y : Type 0} (view : X → Y) (l : Layout Y) → NeverLacks l → (b : Bytes) (r : Returned X)
+asks_no_more : {X Y : Type 0} (view : X → Y) (l : Layout Y) → NeverLacks l
+    → (b : Bytes) (r : Returned X)
     → GivesOrMemory view l b r → AsksNoMore r
 unfolding Allows
 asks_no_more view l never b (Ok x) g = tt
@@ -34,7 +35,8 @@ pub data_asks : {X : Type 0} (view : X → List Message) (b : Bytes) (r : Return
     → GivesOrMemory view (mapped (λ m. m ∷ []) application_data) b r → AsksNoMore r
 data_asks view b r g =
     asks_no_more view (mapped (λ m. m ∷ []) application_data)
-    (never-chain application_data (λ m. done (m ∷ [])) application_data_never_lacks (λ m. never-done (m ∷ []))) b
+    (never-chain application_data (λ m. done (m ∷ [])) application_data_never_lacks
+    (λ m. never-done (m ∷ []))) b
     r g
 
 pub ruleset never_asked = (list_asks, whole_asks, data_asks)

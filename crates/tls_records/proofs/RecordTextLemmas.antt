@@ -1,4 +1,5 @@
--- A record of handshake messages or of ChangeCipherSpecs is spelled by its text, and by no other bytes.
+-- A record of handshake messages or of ChangeCipherSpecs is encoded by its text, and by no other
+-- bytes.
 use Rattle.std.proofs.Common.{◌≡◌, ℕ, ◌^◌, ◌<◌, List, [], ◌∷◌, ◌++◌, length, map, Ok, nat_le, ◌==◌, refl, sym, inl, inr}
 use Rattle.std.proofs.Common.{◌⊎◌, ◌∙◌, ap, subst, arith, append_assoc, append-nil}
 use Rattle.std.proofs.lemmas.List.{length-append}
@@ -124,7 +125,7 @@ header_whole b h r s =
           (q.first.1 ∙ ap (λ m. bytes_of 2 q.value ++ m) (z.first.1 ∙ ap (λ m. bytes_of 2 z.value ++ m) z.then.1));
     })
 
--- messages, of which there is one
+-- messages, at least one
 some_bytes : (m : message.Message) → IsGood m → 0 < length (message_text m)
 some_bytes (message.Handshake m) fits =
     omega (
@@ -210,7 +211,7 @@ content_reads kind version n ms some all = go (type_of kind ms some all)
         subst (λ k. ContentReads k version n ms) (sym e)
         (content_20 version n ms some (subst (λ k. All (Reading k) ms) e all))
 
--- Other layouts spell no messages that are written.
+-- Other layouts encode no messages that are written back.
 abbrev Never : Layout message.Message → Type 0
 Never l = (b : Bytes) (m : message.Message) (r d : Bytes) → Spells l b m r d → IsWrittenBackMessage m → ⊥
 
@@ -337,7 +338,7 @@ plaintext_alone p fits range readable =
     subst (λ b. Allows plaintext b (Ok (normal_plaintext p, []))) (append-nil (plaintext_text p))
     (plaintext_allowed p [] fits range readable)
 
--- the other way
+-- what is read from b can be written, and b is its encoding
 pub record WrittenPlaintext (p : Plaintext) (b r : Bytes) : Type 0 where
   pub fits : FitsPlaintext p
   pub range : InRangePlaintext p
@@ -380,7 +381,7 @@ plaintext_whole b r p written s =
           (bytes_of 2 (length (flat_map message_text ms))) (flat_map message_text ms) r);
     })
 
--- What is built, and what is written, is read back.
+-- What is built, and what is written, reads back.
 pub built_reads : (p : Plaintext) (r : Result (Vec ℕ) GenError)
     → Builds (FitsPlaintext p) (RefusesPlaintext p) (plaintext_text p) (result_map_both (λ v. v.items) (λ e. e) r)
     → IfOk r (λ _. InRangePlaintext p) → IfOk r (λ v. IsReadable p → Allows plaintext v.items

@@ -11,7 +11,7 @@ use Rattle.tls_records.specs.declared.dtls.handshake.DTLSMessageHandshake.{DTLSM
 use Rattle.tls_records.specs.declared.dtls.handshake.DTLSMessageHandshakeBody.{DTLSMessageHandshakeBody}
 use Rattle.tls_records.specs.declared.dtls.handshake.DTLSMessageHandshakeBody.TheVariants as dtls_body
 
--- The body of a handshake message, apart from where it lies in memory, or a fragment of one.
+-- The value of a handshake message's body, regardless of its place in memory, or a fragment of one.
 pub data Body : Type 0 where
   HelloRequest : Body
   ClientHello : dtls_hello.ClientHello → Body
@@ -33,27 +33,31 @@ pub data Body : Type 0 where
 abbrev pub view_body : DTLSMessageHandshakeBody → Body
 view_body dtls_body.HelloRequest = HelloRequest
 view_body (dtls_body.ClientHello h) = ClientHello (dtls_hello.view_client_hello h)
-view_body (dtls_body.HelloVerifyRequest r) = HelloVerifyRequest (dtls_hello.view_hello_verify_request r)
+view_body (dtls_body.HelloVerifyRequest r) =
+    HelloVerifyRequest (dtls_hello.view_hello_verify_request r)
 view_body (dtls_body.ServerHello h) = ServerHello (server_hello.view_server_hello h)
 view_body (dtls_body.NewSessionTicket t) = NewSessionTicket (session.view_new_session_ticket t)
-view_body (dtls_body.HelloRetryRequest r) = HelloRetryRequest (server_hello.view_hello_retry_request r)
+view_body (dtls_body.HelloRetryRequest r) =
+    HelloRetryRequest (server_hello.view_hello_retry_request r)
 view_body (dtls_body.Certificate c) = Certificate (certificate.view_certificate c)
 view_body (dtls_body.ServerKeyExchange k) = ServerKeyExchange k.parameters.now
-view_body (dtls_body.CertificateRequest r) = CertificateRequest (certificate.view_certificate_request r)
+view_body (dtls_body.CertificateRequest r) =
+    CertificateRequest (certificate.view_certificate_request r)
 view_body (dtls_body.ServerDone b) = ServerDone b.now
 view_body (dtls_body.CertificateVerify b) = CertificateVerify b.now
 view_body (dtls_body.ClientKeyExchange k) = ClientKeyExchange (session.view_client_key_exchange k)
 view_body (dtls_body.Finished b) = Finished b.now
-view_body (dtls_body.CertificateStatus s) = CertificateStatus (certificate.view_certificate_status s)
+view_body (dtls_body.CertificateStatus s) =
+    CertificateStatus (certificate.view_certificate_status s)
 view_body (dtls_body.NextProtocol p) = NextProtocol (session.view_next_protocol p)
 view_body (dtls_body.Fragment b) = Fragment b.now
 
--- It is part of a body.
+-- The body is a fragment.
 abbrev pub IsFragment : Body → Type 0
 IsFragment (Fragment b) = ⊤
 IsFragment b = ⊥
 
--- The bodies that are read, of which some are as long as the message says.
+-- The bodies that are parsed. Some take the message's length.
 unfoldable pub client_hello_body : Layout Body
 client_hello_body = mapped ClientHello dtls_hello.client_hello
 
@@ -72,7 +76,7 @@ server_done_body length = mapped ServerDone (block length)
 unfoldable pub client_key_exchange_body : ℕ → Layout Body
 client_key_exchange_body length = mapped (λ b. ClientKeyExchange (session.Unknown b)) (block length)
 
--- select (HandshakeType) of a body that holds no list.
+-- select (HandshakeType) of a body without lists.
 unfoldable pub listless_body : ℕ → ℕ → Layout Body
 listless_body kind length =
     choose (kind == 2) server_hello_body (
@@ -81,18 +85,18 @@ listless_body kind length =
     choose (kind == 16) (client_key_exchange_body length) (
     refuse Switch))))
 
--- select (HandshakeType) of a whole body of that length, in bytes.
+-- select (HandshakeType) of a whole body of this length, in bytes.
 unfoldable pub whole_body : ℕ → ℕ → Layout Body
 whole_body kind length =
     choose (kind == 1) client_hello_body (
     choose (kind == 11) certificate_body (
     listless_body kind length))
 
--- The same, or part of such a body, which is a fragment of whatever type.
+-- A whole body, or a fragment of a body of any type.
 unfoldable pub body : ℕ → ℕ → Bool → Layout Body
 body kind length is_fragment = choose is_fragment (mapped Fragment rest) (whole_body kind length)
 
--- A handshake message, apart from where it lies in memory.
+-- The value of a handshake message, regardless of its place in memory.
 pub record Handshake : Type 0 where
   pub msg_type : ℕ
   pub length : ℕ
@@ -111,9 +115,11 @@ view_handshake h = record {
   body = view_body h.body;
 }
 
--- HandshakeType msg_type; uint24 length; uint16 message_seq; uint24 fragment_offset; uint24 fragment_length; and the
--- body, which is read within the fragment's length alone. It is part of a body where it begins after the body's first
--- byte, or is shorter than the body (RFC 6347, section 4.2.3). That it ends within the body is not asked.
+-- HandshakeType msg_type; uint24 length; uint16 message_seq; uint24 fragment_offset; uint24
+-- fragment_length; and the body, which is read within the fragment's length.
+--
+-- The body is a fragment if it begins after the body's first byte, or is shorter than the body (RFC
+-- 6347, section 4.2.3). Whether it ends within the body isn't checked.
 unfoldable pub handshake : Layout Handshake
 handshake = do
   kind ← number 1

@@ -8,7 +8,7 @@ use Rattle.tls_hs.specs.Hello as hello
 use Rattle.tls_records.specs.declared.dtls.hello.DTLSClientHello.{DTLSClientHello}
 use Rattle.tls_records.specs.declared.dtls.hello.DTLSHelloVerifyRequest.{DTLSHelloVerifyRequest}
 
--- A ClientHello of DTLS, apart from where it lies in memory: what that of TLS has, and a cookie.
+-- The value of a ClientHello of DTLS: that of TLS, and a cookie.
 pub record ClientHello : Type 0 where
   pub hello : hello.ClientHello
   pub cookie : Bytes
@@ -26,12 +26,13 @@ view_client_hello h = record {
   cookie = h.cookie.now;
 }
 
--- Its body: that of TLS, with the cookie behind the session id.
+-- The body of a ClientHello: that of TLS, with the cookie after the session id.
 unfoldable pub client_hello : Layout ClientHello
 client_hello =
-    mapped (λ x. record { hello = x.0; cookie = held x.1 }) (hello.client_hello_with (mapped Some (counted 1)))
+    mapped (λ x. record { hello = x.0; cookie = held x.1 })
+    (hello.client_hello_with (mapped Some (counted 1)))
 
--- A HelloVerifyRequest, apart from where it lies in memory.
+-- The value of a HelloVerifyRequest.
 pub record HelloVerifyRequest : Type 0 where
   pub server_version : ℕ
   pub cookie : Bytes
@@ -39,7 +40,7 @@ pub record HelloVerifyRequest : Type 0 where
 abbrev pub view_hello_verify_request : DTLSHelloVerifyRequest → HelloVerifyRequest
 view_hello_verify_request r = record { server_version = r.server_version.0; cookie = r.cookie.now }
 
--- Its body.
+-- The body of a HelloVerifyRequest.
 unfoldable pub hello_verify_request : Layout HelloVerifyRequest
 hello_verify_request = do
   version ← number 2

@@ -36,11 +36,13 @@ view_client_hello_in_place h = record {
 }
 
 abbrev pub view_body_in_place : DTLSBodyView → Body
-view_body_in_place (in_place.ClientHello h) = dtls_handshake.ClientHello (view_client_hello_in_place h)
-view_body_in_place (in_place.Certificate c) = dtls_handshake.Certificate (items_in (counted 3) c.bytes.now)
+view_body_in_place (in_place.ClientHello h) =
+    dtls_handshake.ClientHello (view_client_hello_in_place h)
+view_body_in_place (in_place.Certificate c) =
+    dtls_handshake.Certificate (items_in (counted 3) c.bytes.now)
 view_body_in_place (in_place.Other b) = view_body b
 
--- A handshake message whose body isn't read.
+-- A handshake message whose body isn't parsed.
 pub record RawHandshake : Type 0 where
   pub msg_type : ℕ
   pub length : ℕ
@@ -59,8 +61,8 @@ view_raw_handshake h = record {
   body = h.body.now;
 }
 
--- HandshakeType msg_type; uint24 length; uint16 message_seq; uint24 fragment_offset; uint24 fragment_length; and the body
--- (RFC 6347, section 4.2.2).
+-- HandshakeType msg_type; uint24 length; uint16 message_seq; uint24 fragment_offset; uint24
+-- fragment_length; and the body (RFC 6347, section 4.2.2).
 unfoldable pub raw_handshake : Layout RawHandshake
 raw_handshake = do
   kind ← number 1
@@ -78,11 +80,11 @@ raw_handshake = do
     body = bytes;
   })
 
--- It is part of a body (RFC 6347, section 4.2.3).
+-- The body is a fragment (RFC 6347, section 4.2.3).
 abbrev pub is_part : RawHandshake → Bool
 is_part h = nat_lt 0 h.fragment_offset || nat_lt h.fragment_length h.length
 
--- The handshake message with that body, and the message that it is.
+-- The handshake message with this body, and its value as a message.
 abbrev pub handshake_with : RawHandshake → Body → dtls_handshake.Handshake
 handshake_with h b = record {
   msg_type = h.msg_type;
@@ -103,11 +105,11 @@ abbrev pub with_read_body : RawHandshake → Result Body Refusal → Result Mess
 with_read_body h (Ok b) = Ok (with_body h b)
 with_read_body h (Err e) = Err e
 
--- The message that it is.
+-- The value of the message.
 abbrev pub handshake_of : RawHandshake → Result Message Refusal
 handshake_of h = with_read_body h (value_of (reading (body h.msg_type h.length (is_part h)) h.body))
 
--- A message, of which a handshake's body isn't read.
+-- A message, with the body of a handshake message unparsed.
 pub data Raw : Type 0 where
   Handshake : RawHandshake → Raw
   Whole : Message → Raw
@@ -117,12 +119,12 @@ view_raw (raw.Handshake h) = Handshake (view_raw_handshake h)
 view_raw raw.ChangeCipherSpec = Whole dtls_record.ChangeCipherSpec
 view_raw (raw.Alert a) = Whole (dtls_record.Alert (base_alert.view_alert a))
 
--- The message that it is.
+-- The value of the message.
 abbrev pub message_of : Raw → Result Message Refusal
 message_of (Handshake h) = handshake_of h
 message_of (Whole m) = Ok m
 
--- The messages in the fragment of a record of that type.
+-- The messages in the fragment of a record of this type.
 abbrev pub messages_of_type : ℕ → Bytes → List Raw
 messages_of_type content_type b =
     if content_type == 20 then map Whole (items_in dtls_record.change_cipher_spec b)
@@ -130,11 +132,12 @@ messages_of_type content_type b =
     else if content_type == 22 then map Handshake (items_in raw_handshake b)
     else []
 
--- The messages that a walk has yet to come to.
+-- The messages that a walk has yet to reach.
 abbrev pub raw_messages : DTLSMessages → List Raw
 raw_messages m = messages_of_type m.content_type.0 m.bytes.now
 
--- A record in place says the messages that it decodes to, up to the first that is refused.
+-- The value of a record in place: its messages are the decoded ones, up to the first that is
+-- refused.
 abbrev pub view_plaintext_in_place : DTLSPlaintextView → Plaintext
 view_plaintext_in_place p = record {
   header = view_header p.header;

@@ -1,4 +1,4 @@
--- Records of DTLS (RFC 6347, section 4.1) and the messages in them.
+-- Records of DTLS (RFC 6347, section 4.1) and their messages.
 use Rattle.std.specs.Prelude.{ℕ, ◌/◌, ◌%◌, ◌^◌, List, map, Ok, ◌==◌}
 use Rattle.layouts.specs.Bytes.{Bytes}
 use Rattle.layouts.specs.Layout.{Layout, done, refuse, number, list1, mapped, ◌>>=◌, choose}
@@ -15,7 +15,7 @@ use Rattle.tls_records.specs.declared.dtls.record.DTLSRecordHeader.{DTLSRecordHe
 use Rattle.tls_records.specs.declared.dtls.record.DTLSRawRecord.{DTLSRawRecord}
 use Rattle.tls_records.specs.declared.dtls.record.DTLSPlaintext.{DTLSPlaintext}
 
--- A message, apart from where it lies in memory.
+-- The value of a message, regardless of its place in memory.
 pub data Message : Type 0 where
   Handshake : dtls_handshake.Handshake → Message
   ChangeCipherSpec : Message
@@ -30,12 +30,13 @@ view_message (dtls_message.Alert a) = Alert (base_alert.view_alert a)
 view_message (dtls_message.ApplicationData d) = ApplicationData d.blob.now
 view_message (dtls_message.Heartbeat h) = Heartbeat (tls_message.view_heartbeat h)
 
--- It is part of a handshake message (RFC 6347, section 4.2.3).
+-- The message is a fragment of a handshake message (RFC 6347, section 4.2.3).
 abbrev pub IsFragment : Message → Type 0
 IsFragment (Handshake h) = dtls_handshake.IsFragment h.body
 IsFragment m = ⊥
 
--- The messages that are read: those of TLS (RFC 5246, sections 7.1 and 7.2), and handshake messages.
+-- The messages that are parsed: those of TLS (RFC 5246, sections 7.1 and 7.2), and handshake
+-- messages.
 unfoldable pub change_cipher_spec : Layout Message
 change_cipher_spec = mapped (λ _. ChangeCipherSpec) tls_message.change_cipher_spec
 
@@ -45,7 +46,7 @@ alert = mapped Alert base_alert.alert
 unfoldable pub handshake : Layout Message
 handshake = mapped Handshake dtls_handshake.handshake
 
--- What stands in front of a fragment; the length is that of the fragment, in bytes.
+-- The header of a record, with the length of the fragment in bytes.
 pub record RecordHeader : Type 0 where
   pub content_type : ℕ
   pub version : ℕ
@@ -62,8 +63,8 @@ view_header h = record {
   length = h.length;
 }
 
--- ContentType type; ProtocolVersion version; uint16 epoch; uint48 sequence_number; uint16 length. Epoch and sequence
--- number are read as one number of 8 bytes.
+-- ContentType type; ProtocolVersion version; uint16 epoch; uint48 sequence_number; uint16 length.
+-- Epoch and sequence number are read as one number of 8 bytes.
 unfoldable pub record_header : Layout RecordHeader
 record_header = do
   kind ← number 1
@@ -78,7 +79,7 @@ record_header = do
     length = length;
   })
 
--- A record whose fragment isn't read.
+-- A record whose fragment isn't parsed.
 pub record RawRecord : Type 0 where
   pub header : RecordHeader
   pub fragment : Bytes
@@ -87,9 +88,10 @@ abbrev pub view_raw_record : DTLSRawRecord → RawRecord
 view_raw_record r = record { header = view_header r.header; fragment = r.fragment.now }
 
 unfoldable pub raw_record : Layout RawRecord
-raw_record = framed_raw_record record_header (λ h. h.length) (λ h fragment. record { header = h; fragment = fragment })
+raw_record = framed_raw_record record_header (λ h. h.length)
+    (λ h fragment. record { header = h; fragment = fragment })
 
--- The messages that stand in the fragment of a record with that header.
+-- The messages in the fragment of a record with this header.
 unfoldable pub record_content : RecordHeader → Layout (List Message)
 record_content header =
     choose (header.content_type == 20) (list1 change_cipher_spec) (
@@ -103,14 +105,15 @@ pub record Plaintext : Type 0 where
   pub messages : List Message
 
 abbrev pub view_plaintext : DTLSPlaintext → Plaintext
-view_plaintext p = record { header = view_header p.header; messages = map view_message p.messages.items }
+view_plaintext p =
+    record { header = view_header p.header; messages = map view_message p.messages.items }
 
 unfoldable pub plaintext : Layout Plaintext
 plaintext =
     framed_record record_header (λ h. h.length) record_content
     (λ h messages. record { header = h; messages = messages })
 
--- A raw record with its content read: the record with the messages that its fragment holds, and the rest after the
+-- Parses the content of a raw record: the record with its messages, and the rest after the
 -- fragment.
 abbrev pub read_content : RawRecord × Bytes → Answer Plaintext
 read_content x =

@@ -16,18 +16,19 @@ use Rattle.tls_records.specs.Record.{RecordHeader, RawRecord, Plaintext, raw_rec
 use Rattle.tls_records.specs.declared.plaintext_view.PlaintextView.{PlaintextView}
 use Rattle.tls_records.specs.declared.record.TlsRecordHeader.{TlsRecordHeader}
 
--- A record in place says the messages that it decodes to, up to the first that is refused.
+-- The value of a record in place: its messages are the decoded ones, up to the first that is
+-- refused.
 abbrev pub view_plaintext_in_place : PlaintextView → Plaintext
 view_plaintext_in_place p = record {
   header = view_header p.hdr;
   messages = decode_while message_of (raw_messages p.msg);
 }
 
--- Those of a fragment with that header in front.
+-- The decoded messages of a fragment after this header.
 abbrev pub messages_of_fragment : TlsRecordHeader → Bytes → List Message
 messages_of_fragment h b = decode_while message_of (messages_of_type h.record_type.0 h.len b)
 
--- Whether an item is read, with no further bytes to come.
+-- Whether an item is read, if no further bytes follow.
 abbrev pub judged : {A : Type 0} → Answer A → Result Unit Refusal
 judged (Ok x) = Ok tt
 judged (Err e) = Err e
@@ -35,10 +36,11 @@ judged (Err e) = Err e
 abbrev pub first_judged : {A : Type 0} → Layout A → Bytes → Result Unit Refusal
 first_judged l b = judged (completed (reading l b))
 
--- The body of the first handshake message of that type. Where there is none, what ended the messages in front of their
--- bytes' end, if anything did.
+-- The body of the first handshake message with this type. If there is none, the refusal that ended
+-- the messages before the end of their bytes, if there was one.
 abbrev pub body_of_type : ℕ → Bytes → Result (Option Bytes) Refusal
-body_of_type msg_type b = found (first_of msg_type (items_in raw_handshake b)) (refusal_in raw_handshake b)
+body_of_type msg_type b =
+    found (first_of msg_type (items_in raw_handshake b)) (refusal_in raw_handshake b)
 
 abbrev pub name_in_hello : Answer ClientHello → Result (Option Bytes) Refusal
 name_in_hello (Ok h) = host_name (held h.0.extensions)
@@ -50,14 +52,15 @@ name_in_body (Ok None) = Ok None
 name_in_body (Err e) = Err e
 
 abbrev pub name_in_record : Answer RawRecord → Result (Option Bytes) Refusal
-name_in_record (Ok x) = if x.0.header.content_type == 22 then name_in_body (body_of_type 1 x.0.fragment) else Ok None
+name_in_record (Ok x) = if x.0.header.content_type == 22 then
+    name_in_body (body_of_type 1 x.0.fragment) else Ok None
 name_in_record (Err e) = Err e
 
--- The name of the host in the first ClientHello of the record in front of b.
+-- The host name in the first ClientHello of the record at the start of b.
 abbrev pub host_name_of_record : Bytes → Result (Option Bytes) Refusal
 host_name_of_record b = name_in_record (reading raw_record b)
 
--- A refusal of what is whole: missing bytes can't come.
+-- The refusal of a part that is complete: no further bytes can follow.
 abbrev pub as_complete : Refusal → Refusal
 as_complete (Broken k) = Broken k
 as_complete (Lacks n) = Broken Complete

@@ -13,7 +13,7 @@ use Rattle.tls_records.specs.declared.record.TlsRawRecord.{TlsRawRecord}
 use Rattle.tls_records.specs.declared.record.TlsEncrypted.{TlsEncrypted}
 use Rattle.tls_records.specs.declared.plaintext.TlsPlaintext.{TlsPlaintext}
 
--- What stands in front of a fragment; the length is that of the fragment, in bytes.
+-- The header of a record, with the length of the fragment in bytes.
 pub record RecordHeader : Type 0 where
   pub content_type : ℕ
   pub version : ℕ
@@ -30,7 +30,7 @@ record_header = do
   length ← number 2
   done (record { content_type = kind; version = version; length = length })
 
--- A record whose fragment isn't read.
+-- A record whose fragment isn't parsed.
 pub record RawRecord : Type 0 where
   pub header : RecordHeader
   pub fragment : Bytes
@@ -43,20 +43,24 @@ abbrev pub view_encrypted : TlsEncrypted → RawRecord
 view_encrypted r = record { header = view_header r.hdr; fragment = r.msg.blob.now }
 
 unfoldable pub raw_record : Layout RawRecord
-raw_record = framed_raw_record record_header (λ h. h.length) (λ h fragment. record { header = h; fragment = fragment })
+raw_record = framed_raw_record record_header (λ h. h.length)
+    (λ h fragment. record { header = h; fragment = fragment })
 
--- The bytes of the raw record v in front of b: the 5 of its header, and as many as the length there says.
+-- The bytes of the raw record v at the start of b: the 5 of its header, and as many as the length
+-- there.
 abbrev pub record_bytes : RawRecord → Bytes → Bytes
 record_bytes v b = take (5 + v.header.length) b
 
--- The raw record v stands in front of b: its bytes are all there, its fragment is those after its header, and then follows r.
+-- b begins with the raw record v: its bytes are all there, its fragment is those after its header,
+-- and r follows.
 pub record IsInFront (v : RawRecord) (b r : Bytes) : Type 0 where
   pub is_whole : 5 + v.header.length ≤ length b
   pub has_fragment : record_bytes v b ≡ take 5 b ++ v.fragment
   pub then_rest : b ≡ record_bytes v b ++ r
 
--- The messages that stand in the fragment of a record with that header. Application data is one message. So is a
--- Heartbeat, and bytes that are missing of it are those of a whole record, so no further bytes can supply them.
+-- The messages in the fragment of a record with this header. Application data is one message. So is
+-- a Heartbeat; bytes missing from it are missing from a complete record, so no further bytes can
+-- supply them.
 unfoldable pub record_content : RecordHeader → Layout (List Message)
 record_content header =
     choose (header.content_type == 20) (list1 change_cipher_spec) (
@@ -79,7 +83,7 @@ plaintext =
     framed_record record_header (λ h. h.length) record_content
     (λ h messages. record { header = h; messages = messages })
 
--- A raw record with its content read: the record with the messages that its fragment holds, and the rest after the
+-- Parses the content of a raw record: the record with its messages, and the rest after the
 -- fragment.
 abbrev pub read_content : RawRecord × Bytes → Answer Plaintext
 read_content x =

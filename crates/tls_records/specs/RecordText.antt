@@ -1,5 +1,5 @@
--- The bytes that records are written as (RFC 5246, section 6.2.1), and the messages in them: what can be written, why the
--- rest can't, and how it is read back.
+-- The encoding of records (RFC 5246, section 6.2.1) and of their messages: what can be written, why
+-- the rest can't, and how it reads back.
 use Rattle.std.specs.Prelude.{◌≡◌, ℕ, ◌<◌, ◌≤◌, ◌^◌, List, [], ◌∷◌, ◌++◌, length, map, ⊤}
 use Rattle.std.specs.List.{All, flat_map}
 use Rattle.layouts.specs.Bytes.{Bytes, bytes_of}
@@ -14,20 +14,20 @@ use Rattle.tls_hs.specs.Message.{Message, Handshake, ChangeCipherSpec}
 use Rattle.tls_records.specs.Framing.{max_fragment_length}
 use Rattle.tls_records.specs.Record.{Plaintext, plaintext}
 
--- A message. A ChangeCipherSpec is the byte 1 (RFC 5246, section 7.1); of the kinds that the writer doesn't know there is no
--- text.
+-- A message. A ChangeCipherSpec is the byte 1 (RFC 5246, section 7.1). Kinds that the writer
+-- doesn't know have no encoding.
 abbrev pub message_text : Message → Bytes
 message_text (Handshake m) = handshake_text m
 message_text ChangeCipherSpec = 1 ∷ []
 message_text m = []
 
--- It can be written.
+-- The message can be written.
 abbrev pub FitsMessage : Message → Type 0
 FitsMessage (Handshake m) = FitsHandshake m
 FitsMessage ChangeCipherSpec = ⊤
 FitsMessage m = ⊥
 
--- It can't, and e tells why.
+-- Why a message that can't be written is refused. `RefusesMessage` also states that it can't be.
 abbrev pub refusal_of_message : Message → GenError
 refusal_of_message (Handshake m) = refusal_of_handshake m
 refusal_of_message m = NotYetImplemented
@@ -35,17 +35,17 @@ refusal_of_message m = NotYetImplemented
 abbrev pub RefusesMessage : Message → GenError → Type 0
 RefusesMessage m e = (FitsMessage m → ⊥) × (e ≡ refusal_of_message m)
 
--- Its numbers are of their fields' sizes, as those of each value in memory are.
+-- The numbers fit their fields, as those of every value in memory do.
 abbrev pub InRangeMessage : Message → Type 0
 InRangeMessage (Handshake m) = InRangeHandshake m
 InRangeMessage m = ⊤
 
--- How it is read back.
+-- How a message reads back.
 abbrev pub normal_message : Message → Message
 normal_message (Handshake m) = Handshake (normal_handshake m)
 normal_message m = m
 
--- It is of a kind that the writer knows, and where it is a hello it has extensions.
+-- The writer knows the kind, and a hello has extensions.
 abbrev pub IsWrittenBackMessage : Message → Type 0
 IsWrittenBackMessage (Handshake m) = IsWrittenBack m
 IsWrittenBackMessage ChangeCipherSpec = ⊤
@@ -55,18 +55,20 @@ IsWrittenBackMessage m = ⊥
 abbrev pub fragment_text : List Message → Bytes
 fragment_text messages = flat_map message_text messages
 
--- ContentType type; ProtocolVersion version; uint16 length; the fragment. The length that a record's header has isn't
--- looked at.
+-- ContentType type; ProtocolVersion version; uint16 length; the fragment. The length in the
+-- record's header is ignored.
 unfoldable pub plaintext_text : Plaintext → Bytes
 plaintext_text p =
-    bytes_of 1 p.header.content_type ++ bytes_of 2 p.header.version ++ counted_text 2 (fragment_text p.messages)
+    bytes_of 1 p.header.content_type ++ bytes_of 2 p.header.version ++ counted_text 2
+    (fragment_text p.messages)
 
--- It can be written.
+-- The record can be written.
 pub record FitsPlaintext (p : Plaintext) : Type 0 where
   pub messages : All FitsMessage p.messages
   pub fragment : length (fragment_text p.messages) ≤ 65535
 
--- It can't, and e tells why: the first message that doesn't fit, else the fragment's length.
+-- The record can't be written, and e is the reason: that of the first message that doesn't fit,
+-- else the fragment's length.
 abbrev pub RefusesPlaintext : Plaintext → GenError → Type 0
 RefusesPlaintext p e = RefusesFirst FitsMessage RefusesMessage p.messages e
 
@@ -75,21 +77,21 @@ pub record InRangePlaintext (p : Plaintext) : Type 0 where
   pub version : p.header.version < 256 ^ 2
   pub messages : All InRangeMessage p.messages
 
--- A record of that type can be read back with that message: a handshake message in one of type 22, a ChangeCipherSpec
--- in one of type 20.
+-- A record of this type with this message reads back: a handshake message in a record of type 22, a
+-- ChangeCipherSpec in one of type 20.
 abbrev pub IsReadableIn : ℕ → Message → Type 0
 IsReadableIn kind (Handshake m) = (kind ≡ 22) × IsReadableHandshake m
 IsReadableIn kind ChangeCipherSpec = kind ≡ 20
 IsReadableIn kind m = ⊥
 
--- It can be read back: there is a message, all have the record's type, and the fragment is no longer than a record may
--- have.
+-- The record reads back: it has a message, all have the record's type, and the fragment isn't
+-- longer than the maximum.
 pub record IsReadable (p : Plaintext) : Type 0 where
   pub some : 0 < length p.messages
   pub messages : All (IsReadableIn p.header.content_type) p.messages
   pub fragment : length (fragment_text p.messages) ≤ max_fragment_length
 
--- How it is read back: with the length of its fragment.
+-- How a record reads back: with the length of its fragment.
 abbrev pub normal_plaintext : Plaintext → Plaintext
 normal_plaintext p = record {
   header = record {
@@ -100,9 +102,10 @@ normal_plaintext p = record {
   messages = map normal_message p.messages;
 }
 
--- It is written back, where b are the bytes that it was read from and r what they left: if b spells it with nothing dropped,
--- and its messages are of kinds that the writer knows, of which each hello has extensions, then it can be written, and b is
--- its text and then r.
+-- The record is written back, if it was read from b with the rest r. For this nothing may have been
+-- dropped, the writer must know the kinds of its messages, and each hello must have extensions.
+-- Then it can be written, and b is its encoding followed by r.
 abbrev pub WritesBack : Plaintext → Bytes → Bytes → Type 0
 WritesBack p b r =
-    Spells plaintext b p r [] → All IsWrittenBackMessage p.messages → FitsPlaintext p × (b ≡ plaintext_text p ++ r)
+    Spells plaintext b p r [] → All IsWrittenBackMessage p.messages
+    → FitsPlaintext p × (b ≡ plaintext_text p ++ r)

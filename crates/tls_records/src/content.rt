@@ -1,4 +1,4 @@
-//! What the fragments of records hold, of TLS and of DTLS: messages of the record's type.
+//! Parses the fragments of records of TLS and of DTLS: messages of the record's type.
 ghost use Rattle.std.specs.Prelude.{◌≤◌, length};
 ghost use Rattle.layouts.specs.Layout.{Layout};
 ghost use Rattle.layouts.specs.Answers.{Gives, GivesOrMemory};
@@ -7,12 +7,12 @@ use layouts::{IResult, Item, Room};
 use std::alloc::Global;
 use std::marker::PhantomData;
 
-/// Whose messages they are, those of TLS or of DTLS, and how each kind is read.
+/// The protocol of the messages, TLS or DTLS, with a reader of each kind.
 pub(crate) trait Protocol<'a> {
-    /// A message.
+    /// The type of a message.
     type Message: Drop;
 
-    /// What it says, apart from where it lies in memory.
+    /// The message's value, regardless of its place in memory.
     ghost Value: { Type 0 };
 
     ghost view: { Self.Message → Value };
@@ -36,7 +36,7 @@ pub(crate) trait Protocol<'a> {
         ensures { GivesOrMemory view handshake_message i.now result };
 }
 
-/// Messages of records of type 20.
+/// Messages of records of type 20, as items of a list.
 pub(crate) struct ChangeCipherSpec<P> {
     protocol: PhantomData<P>,
 }
@@ -58,7 +58,7 @@ impl<'a, P: Protocol<'a>> Item<'a> for ChangeCipherSpec<P> {
     }
 }
 
-/// Messages of records of type 21.
+/// Messages of records of type 21, as items of a list.
 pub(crate) struct Alert<P> {
     protocol: PhantomData<P>,
 }
@@ -86,7 +86,7 @@ impl<'a, P: Protocol<'a>> Item<'a> for Alert<P> {
     }
 }
 
-/// Messages of records of type 22.
+/// Messages of records of type 22, as items of a list.
 pub(crate) struct Handshake<P> {
     protocol: PhantomData<P>,
 }

@@ -1,4 +1,4 @@
-//! Records of DTLS and the messages in them (RFC 6347).
+//! Records of DTLS and their messages (RFC 6347).
 
 mod handshake;
 mod handshake_view;

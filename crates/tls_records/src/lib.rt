@@ -1,10 +1,21 @@
-//! A reader of TLS and DTLS records and of the messages in them (RFC 5246, RFC 6347 and RFC 8446), and a writer of TLS
-//! records.
+//! Parses records of TLS and DTLS with their messages (RFC 5246, RFC 6347 and RFC 8446), and writes
+//! records of TLS.
 //!
-//! Each call that reads answers what a layout of `specs/` allows on the bytes: the value and the exact rest, or the
-//! refusal of the leftmost part that can't be read. Slices in a value are parts of the input. Each call that writes appends
-//! the text of the value, which `specs/` says too; or refuses the value, or runs out of memory, and doesn't call the writer;
-//! or the writer fails, and how much of the text it took is unknown.
+//! The promises:
+//!
+//! - Each parse call returns the one answer of its layout: the value and the exact rest, or the
+//!   refusal of the leftmost part that can't be read. Slices in a value are parts of the input.
+//! - A record is incomplete exactly while its bytes aren't all present and its length isn't too
+//!   large (`NeedsMore` in `specs/Framing.antt`). Memory can't run out unless it is complete and
+//!   not too large (`HasNoRecord`).
+//! - Each call that writes appends the encoding of the value. If it refuses the value, or runs out
+//!   of memory, it doesn't call the `Write`. If the `Write` fails, how much it took is unknown.
+//! - What is written reads back, and what was read is written back, under the conditions that
+//!   `specs/RecordText.antt` and `RecordWriter` define.
+//!
+//! `specs/Record.antt` defines the layouts of TLS; `DtlsRecord`, `DtlsHandshake` and `DtlsHello`
+//! those of DTLS. `InPlace` and `DtlsInPlace` define records whose messages are parsed while they
+//! are walked. [`laws`] states what follows from the layouts alone.
 #![tactic(auto, using(layouts::proofs::OneAnswerLemmas::read_allowed))]
 
 mod content;

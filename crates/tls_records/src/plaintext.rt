@@ -21,19 +21,19 @@ use tls_hs::{
     parse_tls_message_changecipherspec, parse_tls_message_handshake, parse_tls_message_heartbeat,
 };
 
-/// A record that isn't encrypted (RFC 5246, section 6.2.1), with its messages, of which there is at least one.
+/// A record that isn't encrypted (RFC 5246, section 6.2.1), with its messages, at least one.
 #[derive(Debug, PartialEq, Drop)]
 pub struct TlsPlaintext<'a> {
-    /// What stands in front of the messages.
+    /// The header of the record.
     pub hdr: TlsRecordHeader,
     /// The messages, in their order.
     pub msg: Vec<TlsMessage<'a>>,
 }
 
 impl<'a> TlsPlaintext<'a> {
-    /// The same record again, with lists of its own.
+    /// Returns a copy of the record with copied lists. Slices are shared.
     ///
-    /// `OutOfMemory` where a list could not be held.
+    /// `OutOfMemory` if a list can't be allocated.
     pub fn try_clone(&self, alloc: Global) -> Result<Self, OutOfMemory>
         ensures { IfOk result (λ p. view_plaintext p ≡ view_plaintext self.now) }
     {
@@ -74,9 +74,10 @@ impl<'a> Protocol<'a> for Tls {
     }
 }
 
-/// Application data as a list of one message.
+/// Reads application data as a list of one message.
 fn application_data_alone(alloc: Global, i: &[u8]) -> IResult<&[u8], Vec<TlsMessage>>
-    ensures { GivesOrMemory (λ v. map view_message v.items) (mapped (λ m. m ∷ []) application_data) i.now result }
+    ensures { GivesOrMemory (λ v. map view_message v.items) (mapped (λ m. m ∷ []) application_data)
+        i.now result }
 {
     let (i, data) = parse_tls_message_applicationdata(i)?;
     let mut messages = Vec::new(alloc);
@@ -84,9 +85,11 @@ fn application_data_alone(alloc: Global, i: &[u8]) -> IResult<&[u8], Vec<TlsMess
     Ok((i, messages))
 }
 
-/// A Heartbeat message, of which no further bytes can supply what is missing.
+/// Reads a Heartbeat message as a list of one. Missing bytes are refused as `Complete`: no further
+/// bytes could supply them.
 fn heartbeat_alone(alloc: Global, i: &[u8], len: u16) -> IResult<&[u8], Vec<TlsMessage>>
-    ensures { GivesOrMemory (λ v. map view_message v.items) (complete (heartbeat len)) i.now result }
+    ensures { GivesOrMemory (λ v. map view_message v.items) (complete (heartbeat len))
+        i.now result }
 {
     match parse_tls_message_heartbeat(alloc, i, len) {
         Err(Err::Incomplete(_)) => refused(i, ErrorKind::Complete),
@@ -94,24 +97,29 @@ fn heartbeat_alone(alloc: Global, i: &[u8], len: u16) -> IResult<&[u8], Vec<TlsM
     }
 }
 
-/// Reads the fragment `i` of a record with the header `hdr` (RFC 5246, section 6.2.1), as messages of the header's type:
+/// Reads the fragment `i` of a record with the header `hdr` (RFC 5246, section 6.2.1), as messages
+/// of the header's type:
 ///
-/// - 20, 21, 22: one or more of ChangeCipherSpec, of alerts, of handshake messages, as `parse_tls_message_..` reads each.
-///   They end before the first that isn't read; what is left is no refusal.
-/// - 23: all bytes, perhaps none, as one ApplicationData.
-/// - 24: one Heartbeat, as [`parse_tls_message_heartbeat`] reads it with the length in the header.
+/// - 20, 21, 22: one or more ChangeCipherSpecs, alerts or handshake messages, each as by its
+///   `parse_tls_message_..`. They end before the first that can't be read; bytes from there aren't
+///   refused.
+/// - 23: all bytes, possibly none, as one ApplicationData.
+/// - 24: one Heartbeat, as [`parse_tls_message_heartbeat`] with the length in the header.
 ///
-/// It never answers `Incomplete`, and refuses:
-/// - `Error` of kind `Switch` where the type is another.
-/// - What the first message refuses, but `Error` of kind `Complete` in place of `Incomplete`: the fragment is whole.
-/// - `OutOfMemory` where a list could not be held.
+/// Never returns `Incomplete`. The refusals:
+///
+/// - `Error` of kind `Switch` for another type.
+/// - The refusal of the first message, with `Incomplete` turned into `Error` of kind `Complete`:
+///   the fragment is complete.
+/// - `OutOfMemory` if a list can't be allocated.
 #[tactic(auto, using(layouts::proofs::OneAnswerLemmas::read_allowed, crate::proofs::NoMoreLemmas::never_asked), unfolding(crate::specs::Record::record_content))]
 pub fn parse_tls_record_with_header<'a>(
     alloc: Global,
     i: &'a [u8],
     hdr: &TlsRecordHeader,
 ) -> IResult<&'a [u8], Vec<TlsMessage<'a>>>
-    ensures gives { GivesOrMemory (λ v. map view_message v.items) (record_content (view_header hdr.now)) i.now result }
+    ensures gives { GivesOrMemory (λ v. map view_message v.items) (record_content (view_header hdr.now))
+        i.now result }
     ensures never_incomplete { AsksNoMore result }
 {
     match hdr.record_type {
@@ -124,7 +132,7 @@ pub fn parse_tls_record_with_header<'a>(
     }
 }
 
-/// A raw record, and then its fragment by its header.
+/// Reads a raw record, then its fragment by its header.
 #[tactic(auto, using(layouts::proofs::OneAnswerLemmas::read_allowed, crate::proofs::ContentLemmas::plaintext_is_raw_then_content))]
 #[inline(never)]
 fn record_with_messages(alloc: Global, i: &[u8]) -> IResult<&[u8], TlsPlaintext>
@@ -137,18 +145,18 @@ fn record_with_messages(alloc: Global, i: &[u8]) -> IResult<&[u8], TlsPlaintext>
 }
 
 /// Reads a record and its messages (RFC 5246, section 6.2.1): as [`parse_tls_raw_record`], and then
-/// [`parse_tls_record_with_header`] on the fragment, whose refusal is the call's. What the messages leave of the fragment
-/// is dropped.
+/// [`parse_tls_record_with_header`] on the fragment. What the messages leave of the fragment is
+/// dropped.
 ///
-/// - `Incomplete` of the count of missing bytes of the header's first field that isn't whole, or else of the fragment;
-///   nowhere else.
-/// - `Error` of kind `TooLarge` where the length is above [`crate::MAX_RECORD_LEN`], in a record of any version, even if the
-///   fragment isn't there yet.
-/// - What the fragment refuses.
-/// - `OutOfMemory` only where the record is whole and not too large.
+/// - `Incomplete` with the bytes missing from the first incomplete field of the header, or else
+///   from the fragment; never for other reasons.
+/// - `Error` of kind `TooLarge` if the length is above [`crate::MAX_RECORD_LEN`], in a record of
+///   any version, even if the fragment isn't there yet.
+/// - The refusals of [`parse_tls_record_with_header`].
+/// - `OutOfMemory` only if the record is complete and not too large.
 ///
-/// [`crate::gen_tls_plaintext`] writes what was read as the same bytes, where nothing of them was dropped, and the messages
-/// are of kinds that it knows, of which each hello has `ext`.
+/// [`crate::gen_tls_plaintext`] writes what was read as the same bytes, if none of them was
+/// dropped, the writer knows the kinds of the messages, and each hello has `ext`.
 #[tactic(auto, using(layouts::proofs::OneAnswerLemmas::one_answer, crate::proofs::IncompleteLemmas::plaintext_memory, crate::proofs::IncompleteLemmas::plaintext_incomplete))]
 #[inline(always)]
 pub fn parse_tls_plaintext(alloc: Global, i: &[u8]) -> IResult<&[u8], TlsPlaintext>
@@ -161,7 +169,7 @@ pub fn parse_tls_plaintext(alloc: Global, i: &[u8]) -> IResult<&[u8], TlsPlainte
     record_with_messages(alloc, i)
 }
 
-/// The same as [`parse_tls_plaintext`].
+/// Reads a record and its messages, as [`parse_tls_plaintext`].
 ///
 /// Deprecated: use [`parse_tls_plaintext`].
 pub fn tls_parser(alloc: Global, i: &[u8]) -> IResult<&[u8], TlsPlaintext>
@@ -194,11 +202,11 @@ impl<'a> Item<'a> for TlsPlaintext<'a> {
     }
 }
 
-/// Reads one or more records, as [`parse_tls_plaintext`] does, up to the first that isn't read; what is left begins
-/// there.
+/// Reads one or more records, as [`parse_tls_plaintext`], up to the first that can't be read. The
+/// rest begins there.
 ///
-/// - What the first record refuses, but `Error` of kind `Complete` in place of `Incomplete`.
-/// - `OutOfMemory` where a list could not be held.
+/// - The refusal of the first record, with `Incomplete` turned into `Error` of kind `Complete`.
+/// - `OutOfMemory` if a list can't be allocated.
 pub fn tls_parser_many(alloc: Global, i: &[u8]) -> IResult<&[u8], Vec<TlsPlaintext>>
     ensures { GivesOrMemory (λ v. map view_plaintext v.items) (list1 plaintext) i.now result }
 {

@@ -19,20 +19,23 @@ use tls_hs::{
     Alert, ChangeCipherSpec, ClientHelloView, HandshakeView, Messages, RawHandshake, heartbeat,
 };
 
-/// A record that isn't encrypted (RFC 5246, section 6.2.1), as [`crate::TlsPlaintext`], but with its messages in place.
+/// A record that isn't encrypted (RFC 5246, section 6.2.1), as [`crate::TlsPlaintext`], with its
+/// messages in place.
 #[derive(Clone, Copy, Debug, PartialEq)]
 pub struct PlaintextView<'a> {
-    /// What stands in front of the messages.
+    /// The header of the record.
     pub hdr: TlsRecordHeader,
-    /// The messages. The first of them is judged, with its body; of the others nothing is, until the walk comes to them, and
-    /// of a handshake message the body isn't until it is read.
+    /// The messages. The first is checked, with its body. The others aren't checked until the walk
+    /// reaches them, and the body of a handshake message not until it is parsed.
     pub msg: Messages<'a>,
 }
 
-/// A refusal of what is whole: no further bytes can come.
+/// Returns the refusal of a part that is complete: `Incomplete` becomes `Complete`, since no
+/// further bytes can follow.
 #[inline(always)]
 pub(crate) fn completed<'a>(i: &'a [u8], e: Err<Error<&'a [u8]>>) -> Err<Error<&'a [u8]>>
-    ensures { IsRefusal e.entry → IsRefusal result × (refusal_of result ≡ as_complete (refusal_of e.entry)) }
+    ensures { IsRefusal e.entry
+        → IsRefusal result × (refusal_of result ≡ as_complete (refusal_of e.entry)) }
 {
     match e {
         Err::Incomplete(_) => Err::Error(Error {
@@ -43,7 +46,8 @@ pub(crate) fn completed<'a>(i: &'a [u8], e: Err<Error<&'a [u8]>>) -> Err<Error<&
     }
 }
 
-/// Judges the item in front of `i`, which is whole: what refuses it, with `Incomplete` turned into `Error` of kind `Complete`.
+/// Checks the first item of `i`, which is complete. Refuses as the item, with `Incomplete` turned
+/// into `Error` of kind `Complete`.
 #[tactic(auto, using(crate::proofs::InPlaceLemmas::first_is_read, crate::proofs::InPlaceLemmas::first_is_refused))]
 #[inline(always)]
 pub(crate) fn first_judged<'a, T: InPlace<'a>>(i: &'a [u8]) -> Result<(), Err<Error<&'a [u8]>>>
@@ -55,7 +59,7 @@ pub(crate) fn first_judged<'a, T: InPlace<'a>>(i: &'a [u8]) -> Result<(), Err<Er
     }
 }
 
-/// Judges a Heartbeat message in a record of that length.
+/// Checks a Heartbeat message in a record of this length, as [`first_judged`].
 #[tactic(auto, using(crate::proofs::InPlaceLemmas::first_is_read, crate::proofs::InPlaceLemmas::first_is_refused))]
 #[inline(always)]
 fn heartbeat_judged(i: &[u8], len: u16) -> Result<(), Err<Error<&[u8]>>>
@@ -67,10 +71,12 @@ fn heartbeat_judged(i: &[u8], len: u16) -> Result<(), Err<Error<&[u8]>>>
     }
 }
 
-/// Judges the fragment `i` of a record with the header `hdr` as [`crate::parse_tls_record_with_header`] does: by its first message.
+/// Checks the first message of the fragment `i` of a record with the header `hdr`. Refuses as
+/// [`crate::parse_tls_record_with_header`].
 #[tactic(auto, using(crate::proofs::InPlaceLemmas::judges_change_cipher_specs, crate::proofs::InPlaceLemmas::judges_alerts, crate::proofs::InPlaceLemmas::judges_handshakes, crate::proofs::InPlaceLemmas::all_data, crate::proofs::InPlaceLemmas::judges_heartbeat), unfolding(crate::specs::Record::record_content))]
 fn fragment_judged<'a>(i: &'a [u8], hdr: &TlsRecordHeader) -> Result<(), Err<Error<&'a [u8]>>>
-    ensures { Tells (λ u. messages_of_fragment hdr.now i.now) (value_of (reading (record_content (view_header hdr.now)) i.now)) result }
+    ensures { Tells (λ u. messages_of_fragment hdr.now i.now)
+        (value_of (reading (record_content (view_header hdr.now)) i.now)) result }
 {
     match hdr.record_type {
         TlsRecordType::ChangeCipherSpec => first_judged::<ChangeCipherSpec>(i),
@@ -85,27 +91,29 @@ fn fragment_judged<'a>(i: &'a [u8], hdr: &TlsRecordHeader) -> Result<(), Err<Err
     }
 }
 
-/// The messages of the fragment `i` of a record with the header `hdr`, in place: it answers what
-/// [`crate::parse_tls_record_with_header`] does, memory aside, and refuses what that refuses.
+/// Returns the messages of the fragment `i` of a record with the header `hdr`, in place. Gives the
+/// same answer as [`crate::parse_tls_record_with_header`], also if that refuses, but allocates
+/// nothing.
 ///
-/// The first message is judged, with its body; the others are read as the walk comes to them.
+/// The first message is checked, with its body. The others are read when the walk reaches them.
 #[inline(always)]
 pub fn parse_tls_record_with_header_in_place<'a>(
     i: &'a [u8],
     hdr: &TlsRecordHeader,
 ) -> Result<Messages<'a>, Err<Error<&'a [u8]>>>
-    ensures { Tells (λ m. decode_while message_of (raw_messages m)) (value_of (reading (record_content (view_header hdr.now)) i.now)) result }
+    ensures { Tells (λ m. decode_while message_of (raw_messages m))
+        (value_of (reading (record_content (view_header hdr.now)) i.now)) result }
 {
     fragment_judged(i, hdr)?;
     Ok(Messages::new(hdr.record_type, hdr.len, i))
 }
 
-/// Reads a record and its messages in place (RFC 5246, section 6.2.1): it answers what [`crate::parse_tls_plaintext`] does,
-/// memory aside, and refuses what that refuses.
+/// Reads a record and its messages in place (RFC 5246, section 6.2.1). Gives the same answer as
+/// [`crate::parse_tls_plaintext`], also if that refuses, but allocates nothing.
 ///
-/// The header, its length and the first message are judged, and nothing else: that call ends its list in front of a later message
-/// that is refused, and judges no more either. A later message whose end stands in the fragment is walked, and judged where its
-/// body is read.
+/// Only the header, its length and the first message are checked. [`crate::parse_tls_plaintext`]
+/// checks no more: it ends its list before a later message that is refused. Here the walk continues
+/// after such a message if its end is in the fragment; its body is checked when it is parsed.
 #[tactic(auto, using(layouts::proofs::OneAnswerLemmas::read_allowed, crate::proofs::ContentLemmas::plaintext_is_raw_then_content, crate::proofs::InPlaceLemmas::content_read, crate::proofs::InPlaceLemmas::content_refused))]
 #[inline(always)]
 pub fn parse_tls_plaintext_in_place(i: &[u8]) -> IResult<&[u8], PlaintextView>
@@ -116,10 +124,10 @@ pub fn parse_tls_plaintext_in_place(i: &[u8]) -> IResult<&[u8], PlaintextView>
     Ok((i, PlaintextView { hdr, msg }))
 }
 
-/// The body of the first of the handshake messages in `fragment` that has that type.
+/// Returns the body of the first handshake message in `fragment` with this type.
 ///
-/// Where there is none: `None` if all bytes of the fragment were walked, else what refuses the message that the walk ended in front
-/// of, `Incomplete` where it isn't whole.
+/// If there is none: `None` if the walk reached the end of the fragment, else the refusal of the
+/// message that the walk ended at, `Incomplete` if it isn't complete.
 pub fn first_body<'a>(
     fragment: &'a [u8],
     kind: TlsHandshakeType,
@@ -139,11 +147,15 @@ pub fn first_body<'a>(
     }
 }
 
-/// The name of the host that the first ClientHello of the record in front of `i` asks for (RFC 6066, section 3).
+/// Returns the host name that the first ClientHello in the record at the start of `i` requests (RFC
+/// 6066, section 3).
 ///
-/// `None` where the record has no handshake messages, where no ClientHello is among them, or where its extensions have no name. What
-/// refuses the record, the ClientHello's body, or its extension server_name, is the answer, and so is what ends the messages or the
-/// extensions where none is found and they aren't whole. No other message, and no other extension, is judged.
+/// `None` if the record has no handshake messages, if none of them is a ClientHello, or if its
+/// extensions have no name. No other message, and no other extension, is checked. The refusals:
+///
+/// - the refusal of the record, of the ClientHello's body, or of its extension server_name;
+/// - if no ClientHello is found, the refusal of an incomplete message at the end;
+/// - if the ClientHello has no server_name, the refusal of an incomplete extension at the end.
 pub fn server_name_of_record(i: &[u8]) -> Result<Option<&[u8]>, Err<Error<&[u8]>>>
     ensures { Tells (option_map (λ x. x.now)) (host_name_of_record i.now) result }
 {

@@ -1,4 +1,4 @@
-//! Records of TLS whose fragments are not read: their header, and the bytes that follow it.
+//! Records of TLS with unparsed fragments: their header, and the bytes after it.
 ghost use Rattle.std.specs.Prelude.{IfOk};
 ghost use Rattle.layouts.specs.Meaning.{AllowsOne};
 ghost use Rattle.layouts.specs.Answers.{Gives};
@@ -8,33 +8,35 @@ ghost use Rattle.tls_records.specs.Record.{IsInFront};
 use layouts::{ErrorKind, IResult, block, number2, refused};
 use tls_base::{TlsRecordType, TlsVersion};
 
-/// The most bytes that a record's fragment may have here, of TLS and of DTLS, encrypted or not: 2^14 + 256 (RFC 8446,
-/// section 5.2, for encrypted records).
+/// The maximum length of a record's fragment here, in bytes, for TLS and DTLS, encrypted or not:
+/// 2^14 + 256 (RFC 8446, section 5.2, for encrypted records).
 ///
-/// Other limits are stated in RFC 5246, section 6.2, and RFC 6347, section 4.1: 2^14 for a record that isn't encrypted,
-/// and 2^14 + 2048 for one that is. So a record of TLS 1.2 of 16641 to 18432 bytes, which encryption may make, is refused
-/// here, and one of 16385 to 16640 that isn't encrypted is read.
+/// RFC 5246, section 6.2, and RFC 6347, section 4.1, have other limits: 2^14 for a record that
+/// isn't encrypted, and 2^14 + 2048 for one that is. So a record of TLS 1.2 of 16641 to 18432
+/// bytes, which encryption may produce, is refused here, and an unencrypted one of 16385 to 16640
+/// bytes is accepted.
 pub const MAX_RECORD_LEN: u16 = 16640;
 
-/// The most bytes that the fragment of an encrypted record may have up to TLS 1.2, and in DTLS: 2^14 + 2048 (RFC 5246, section 6.2.3).
-/// No reader of records takes more than [`MAX_RECORD_LEN`]; what joins the messages of a stream does.
+/// The maximum length in bytes of an encrypted record's fragment up to TLS 1.2, and in DTLS: 2^14 +
+/// 2048 (RFC 5246, section 6.2.3). No reader of records accepts more than [`MAX_RECORD_LEN`]; the
+/// reassembly of a stream's messages does.
 pub const MAX_ENCRYPTED_LEN: u16 = 18_432;
 
 /// The header of a record (RFC 5246, section 6.2.1), 5 bytes.
 #[derive(Clone, Copy, Debug, PartialEq)]
 pub struct TlsRecordHeader {
-    /// What the fragment holds.
+    /// The type of the fragment's content.
     pub record_type: TlsRecordType,
-    /// The version that the sender speaks, or a lower one that it may put here.
+    /// The version that the sender uses, or a lower one that it may put here.
     pub version: TlsVersion,
     /// The length of the fragment that follows, in bytes.
     pub len: u16,
 }
 
-/// A record whose fragment isn't read, encrypted or not.
+/// A record whose fragment isn't parsed, encrypted or not.
 #[derive(Clone, Debug, PartialEq, Drop)]
 pub struct TlsRawRecord<'a> {
-    /// What stands in front of the fragment.
+    /// The header of the record.
     pub hdr: TlsRecordHeader,
     /// The fragment, `hdr.len` bytes.
     pub bytes: &'a [u8],
@@ -43,14 +45,14 @@ pub struct TlsRawRecord<'a> {
 /// The fragment of an encrypted record.
 #[derive(Clone, Debug, PartialEq, Drop)]
 pub struct TlsEncryptedContent<'a> {
-    /// The encrypted bytes, with all that the cipher adds to them.
+    /// The encrypted bytes, with all that the cipher adds.
     pub blob: &'a [u8],
 }
 
 /// An encrypted record (RFC 5246, section 6.2.3).
 #[derive(Clone, Debug, PartialEq, Drop)]
 pub struct TlsEncrypted<'a> {
-    /// What stands in front of the fragment.
+    /// The header of the record.
     pub hdr: TlsRecordHeader,
     /// The fragment, `hdr.len` bytes.
     pub msg: TlsEncryptedContent<'a>,
@@ -59,7 +61,7 @@ pub struct TlsEncrypted<'a> {
 impl TlsRecordHeader {
     /// Reads 1 byte of type, 2 of version and 2 of length, all big-endian.
     ///
-    /// `Incomplete` of the count that is missing of the first number that isn't whole.
+    /// `Incomplete` with the bytes missing from the first incomplete field.
     #[tactic(auto, using(layouts::proofs::OneAnswerLemmas::read_allowed), unfolding(crate::specs::Record::record_header))]
     pub fn parse(i: &[u8]) -> IResult<&[u8], Self>
         ensures { Gives view_header record_header i.now result }
@@ -76,7 +78,7 @@ impl TlsRecordHeader {
     }
 }
 
-/// Reads the header of a record: the same as [`TlsRecordHeader::parse`].
+/// Reads the header of a record, as [`TlsRecordHeader::parse`].
 #[tactic(auto, using(layouts::proofs::OneAnswerLemmas::read_allowed, layouts::proofs::OneAnswerLemmas::one_answer))]
 pub fn parse_tls_record_header(i: &[u8]) -> IResult<&[u8], TlsRecordHeader>
     ensures gives { Gives view_header record_header i.now result }
@@ -85,17 +87,17 @@ pub fn parse_tls_record_header(i: &[u8]) -> IResult<&[u8], TlsRecordHeader>
     TlsRecordHeader::parse(i)
 }
 
-/// Reads a record (RFC 5246, section 6.2.1) and leaves its fragment as it stands.
+/// Reads a record (RFC 5246, section 6.2.1) without parsing its fragment.
 ///
-/// - What [`parse_tls_record_header`] refuses.
-/// - `Error` of kind `TooLarge` where the length in the header is above [`MAX_RECORD_LEN`], in a record of any version, even
-///   if the fragment isn't there yet.
-/// - `Incomplete` of the count of bytes that are missing of the fragment.
+/// - The refusals of [`parse_tls_record_header`].
+/// - `Error` of kind `TooLarge` if the length in the header is above [`MAX_RECORD_LEN`], in a
+///   record of any version, even if the fragment isn't there yet.
+/// - `Incomplete` with the number of bytes missing from the fragment.
 #[tactic(auto, using(layouts::proofs::OneAnswerLemmas::read_allowed, layouts::proofs::OneAnswerLemmas::one_answer), unfolding(crate::specs::Record::raw_record))]
 pub fn parse_tls_raw_record(i: &[u8]) -> IResult<&[u8], TlsRawRecord>
     ensures gives { Gives view_raw_record raw_record i.now result }
     ensures only_one { AllowsOne raw_record i.now }
-    // The record's bytes stand in front, and the rest is what follows them.
+    // The input begins with the record's bytes, and the rest follows them.
     ensures in_front { IfOk result (λ x. IsInFront (view_raw_record x.1) i.now x.0.now) }
 {
     let (i, hdr) = parse_tls_record_header(i)?;
@@ -106,8 +108,8 @@ pub fn parse_tls_raw_record(i: &[u8]) -> IResult<&[u8], TlsRawRecord>
     Ok((i, TlsRawRecord { hdr, bytes }))
 }
 
-/// Reads an encrypted record (RFC 5246, section 6.2.3), of whatever type: as [`parse_tls_raw_record`], and it refuses
-/// what that refuses. Nothing is decrypted.
+/// Reads an encrypted record (RFC 5246, section 6.2.3) of any type, as [`parse_tls_raw_record`],
+/// with its refusals. Decrypts nothing.
 #[tactic(auto, using(layouts::proofs::OneAnswerLemmas::read_allowed, layouts::proofs::OneAnswerLemmas::one_answer))]
 pub fn parse_tls_encrypted(i: &[u8]) -> IResult<&[u8], TlsEncrypted>
     ensures gives { Gives view_encrypted raw_record i.now result }

@@ -1,12 +1,15 @@
-//! Writing messages and records, in memory of their own or to a writer.
+//! Writes messages and records, to a vector or to a `Write`.
 //!
-//! Each call judges all that it is given first, without memory, and then builds the text in one piece of memory. One that
-//! writes hands that to the writer, which it doesn't flush: of a flush behind the last write no clause tells.
+//! Each call first checks all that it is given without allocating, then builds the encoding in one
+//! allocation. A call with a `Write` hands the encoding to it and doesn't flush; no clause can
+//! state that there is no flush after the last write.
 //!
-//! - `NotYetImplemented` where the writer doesn't know the kind of a message, and `BadLength` where a length doesn't fit its
-//!   field. The writer isn't called. Of several messages the first that is refused decides.
-//! - `OutOfMemory` where memory for the text runs out. The writer isn't called.
-//! - `Io` where a write fails, also where it is interrupted, or takes nothing. How much went out is unknown.
+//! - `NotYetImplemented` if the writer doesn't know the kind of a message, and `BadLength` if a
+//!   length doesn't fit its field. The `Write` isn't called. Of several messages the first that is
+//!   refused decides.
+//! - `OutOfMemory` if the encoding can't be allocated. The `Write` isn't called.
+//! - `Io` if a write fails (also if it is interrupted), or takes no bytes. How much was written is
+//!   unknown.
 ghost use Rattle.std.specs.Prelude.{◌≡◌, IfOk, ⊤};
 ghost use Rattle.std.specs.Result.{result_map_both};
 ghost use Rattle.layouts.specs.Bytes.{Bytes};
@@ -36,23 +39,24 @@ use tls_hs::{TlsMessage, TlsMessageHandshake};
 mod builder;
 mod judge;
 
-/// A value that can be written into memory of its own.
+/// A value that can be written to a vector.
 pub trait Serialize {
-    /// It can be written.
+    /// The value can be written.
     ghost Fits: { Self → Type 0 };
 
-    /// Why it can't be written.
+    /// Why the value can't be written.
     ghost Refused: { Self → Cause → Type 0 };
 
-    /// The bytes that it is written as.
+    /// The encoding of the value.
     ghost text: { Self → Bytes };
 
-    /// The bytes that the value is written as. It never answers `Io`.
+    /// Returns the encoding of the value. Never refuses with `Io`.
     fn serialize(&self, alloc: Global) -> Result<Vec<u8>, GenError>
-        ensures { Builds (Fits self.now) (Refused self.now) (text self.now) (result_map_both (λ v. v.items) (λ e. e) result) };
+        ensures { Builds (Fits self.now) (Refused self.now) (text self.now)
+            (result_map_both (λ v. v.items) (λ e. e) result) };
 }
 
-/// A handshake message's text.
+/// Returns the encoding of a handshake message.
 fn handshake_bytes(alloc: Global, m: &TlsMessageHandshake) -> Result<Vec<u8>, GenError>
     ensures builds { BuildsHandshake (view_handshake m.now) (result_map_both (λ v. v.items) (λ e. e) result) }
     ensures range { IfOk result (λ _. InRangeHandshake (view_handshake m.now)) }
@@ -63,7 +67,7 @@ fn handshake_bytes(alloc: Global, m: &TlsMessageHandshake) -> Result<Vec<u8>, Ge
     Ok(out)
 }
 
-/// A message's text.
+/// Returns the encoding of a message.
 fn message_bytes(alloc: Global, m: &TlsMessage) -> Result<Vec<u8>, GenError>
     ensures { BuildsMessage (view_message m.now) (result_map_both (λ v. v.items) (λ e. e) result) }
 {
@@ -73,7 +77,7 @@ fn message_bytes(alloc: Global, m: &TlsMessage) -> Result<Vec<u8>, GenError>
     Ok(out)
 }
 
-/// A record's text.
+/// Returns the encoding of a record.
 #[tactic(auto, unfolding(crate::specs::RecordText::plaintext_text))]
 fn plaintext_bytes(alloc: Global, p: &TlsPlaintext) -> Result<Vec<u8>, GenError>
     ensures builds { BuildsPlaintext (view_plaintext p.now) (result_map_both (λ v. v.items) (λ e. e) result) }
@@ -95,17 +99,18 @@ impl<'a> Serialize for TlsMessageHandshake<'a> {
 
     ghost text = { λ m. handshake_text (view_handshake m) };
 
-    /// The whole message.
+    /// Returns the encoding of the whole message.
     ///
-    /// - `NotYetImplemented` where it is of another kind than HelloRequest, ClientHello, ServerHello,
+    /// - `NotYetImplemented` if it is of another kind than HelloRequest, ClientHello, ServerHello,
     ///   ServerHelloV13Draft18, ClientKeyExchange or Finished.
-    /// - `BadLength` where a length doesn't fit its field, as the kind's own call says.
-    /// - `OutOfMemory` where memory for the text runs out.
+    /// - `BadLength` if a length doesn't fit its field; the writer of each kind lists which.
+    /// - `OutOfMemory` if the encoding can't be allocated.
     ///
-    /// It is read back by [`tls_hs::parse_tls_message_handshake`], where a ServerHello has a version from 0x0300 to 0x0303, and
-    /// that of draft 18 of TLS 1.3 has 0x7f12.
+    /// [`tls_hs::parse_tls_message_handshake`] reads it back, if a ServerHello has a version from
+    /// 0x0300 to 0x0303, and that of draft 18 of TLS 1.3 has 0x7f12.
     fn serialize(&self, alloc: Global) -> Result<Vec<u8>, GenError>
-        ensures text { BuildsHandshake (view_handshake self.now) (result_map_both (λ v. v.items) (λ e. e) result) }
+        ensures text { BuildsHandshake (view_handshake self.now)
+            (result_map_both (λ v. v.items) (λ e. e) result) }
         ensures read_back { IfOk result (λ v. HandshakeReadsBack (view_handshake self.now) v.items) }
     {
         handshake_bytes(alloc, self)
@@ -119,7 +124,7 @@ impl<'a> Serialize for TlsMessage<'a> {
 
     ghost text = { λ m. message_text (view_message m) };
 
-    /// The bytes that [`gen_tls_message`] writes; it refuses what that refuses.
+    /// Returns the bytes that [`gen_tls_message`] writes, with its refusals.
     fn serialize(&self, alloc: Global) -> Result<Vec<u8>, GenError> {
         message_bytes(alloc, self)
     }
@@ -132,17 +137,20 @@ impl<'a> Serialize for TlsPlaintext<'a> {
 
     ghost text = { λ p. plaintext_text (view_plaintext p) };
 
-    /// The bytes that [`gen_tls_plaintext`] writes; it refuses what that refuses, and they are read back as is said there.
+    /// Returns the bytes that [`gen_tls_plaintext`] writes, with its refusals. They read back as
+    /// described there.
     #[tactic(auto, using(crate::proofs::RecordTextLemmas::built_reads))]
     fn serialize(&self, alloc: Global) -> Result<Vec<u8>, GenError>
-        ensures builds { BuildsPlaintext (view_plaintext self.now) (result_map_both (λ v. v.items) (λ e. e) result) }
+        ensures builds { BuildsPlaintext (view_plaintext self.now)
+            (result_map_both (λ v. v.items) (λ e. e) result) }
         ensures read_back { IfOk result (λ v. PlaintextReadsBack (view_plaintext self.now) v.items) }
     {
         plaintext_bytes(alloc, self)
     }
 }
 
-/// Writes a ChangeCipherSpec (RFC 5246, section 7.1): the byte 1. It never answers `NotYetImplemented` or `BadLength`.
+/// Writes a ChangeCipherSpec (RFC 5246, section 7.1): the byte 1. Never refuses with
+/// `NotYetImplemented` or `BadLength`.
 pub fn gen_tls_changecipherspec<W: Write>(alloc: Global, w: &mut W) -> Result<(), GenError>
     ensures { Writes ⊤ (λ _. ⊥) (message_text ChangeCipherSpec) W.contents w.old w.new result }
 {
@@ -150,11 +158,12 @@ pub fn gen_tls_changecipherspec<W: Write>(alloc: Global, w: &mut W) -> Result<()
     write_whole(w, &text)
 }
 
-/// Writes a message of a record: a handshake message (RFC 5246, section 7.4), or a ChangeCipherSpec (section 7.1).
+/// Writes a message of a record: a handshake message (RFC 5246, section 7.4), or a ChangeCipherSpec
+/// (section 7.1).
 ///
-/// - `NotYetImplemented` where it is another message, or a handshake message of another kind than HelloRequest, ClientHello,
-///   ServerHello, ServerHelloV13Draft18, ClientKeyExchange or Finished.
-/// - `BadLength` where a length doesn't fit its field, as the kind's own call says.
+/// - `NotYetImplemented` if it is another message, or a handshake message of another kind than
+///   HelloRequest, ClientHello, ServerHello, ServerHelloV13Draft18, ClientKeyExchange or Finished.
+/// - `BadLength` if a length doesn't fit its field; the writer of each kind lists which.
 pub fn gen_tls_message<W: Write>(alloc: Global, m: &TlsMessage, w: &mut W) -> Result<(), GenError>
     ensures { WritesMessage (view_message m.now) W.contents w.old w.new result }
 {
@@ -162,15 +171,17 @@ pub fn gen_tls_message<W: Write>(alloc: Global, m: &TlsMessage, w: &mut W) -> Re
     write_whole(w, &text)
 }
 
-/// Writes a record (RFC 5246, section 6.2.1): its type, its version, the length of its fragment in 2 bytes, big-endian, and
-/// its messages. `hdr.len` isn't looked at.
+/// Writes a record (RFC 5246, section 6.2.1): its type, its version, the length of its fragment in
+/// 2 bytes, big-endian, and its messages. `hdr.len` is ignored.
 ///
-/// What the first message refuses that can't be written, as [`gen_tls_message`] says; `BadLength` where all can, and have
-/// more than 65535 bytes together.
+/// Returns the refusal of the first message that can't be written, as [`gen_tls_message`];
+/// `BadLength` if all can, but are longer than 65535 bytes together.
 ///
-/// It is read back by [`crate::parse_tls_plaintext`] where it has at least one message, its messages have the record's type,
-/// each ServerHello has a version from 0x0300 to 0x0303 (that of draft 18 of TLS 1.3: 0x7f12), and its fragment has at most
-/// [`crate::MAX_RECORD_LEN`] bytes.
+/// [`crate::parse_tls_plaintext`] reads the record back if all of this holds:
+///
+/// - it has at least one message, and its messages have the record's type;
+/// - each ServerHello has a version from 0x0300 to 0x0303, that of draft 18 of TLS 1.3 has 0x7f12;
+/// - its fragment has at most [`crate::MAX_RECORD_LEN`] bytes.
 #[tactic(auto, using(crate::proofs::RecordTextLemmas::written_reads))]
 pub fn gen_tls_plaintext<W: Write>(
     alloc: Global,
@@ -178,7 +189,8 @@ pub fn gen_tls_plaintext<W: Write>(
     w: &mut W,
 ) -> Result<(), GenError>
     ensures writes { WritesPlaintext (view_plaintext p.now) W.contents w.old w.new result }
-    ensures read_back { IfOk result (λ _. PlaintextReadsBack (view_plaintext p.now) (plaintext_text (view_plaintext p.now))) }
+    ensures read_back { IfOk result
+        (λ _. PlaintextReadsBack (view_plaintext p.now) (plaintext_text (view_plaintext p.now))) }
 {
     let text = plaintext_bytes(alloc, p)?;
     write_whole(w, &text)

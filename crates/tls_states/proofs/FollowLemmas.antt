@@ -1,4 +1,5 @@
--- What each state still waits for, by a word that leads to it, and what a symbol does to that.
+-- What each state still waits for, by a word that leads to it, and what a symbol changes about
+-- that.
 use Rattle.std.proofs.Common.{◌≡◌, List, [], ◌∷◌, filter, Bool, true, false, cond, not, ◌&&◌, ◌||◌, refl, ap}
 use Rattle.std.specs.List.{list_all}
 use Rattle.tls_words.specs.Words.{Pattern, all, chain, without_after, Pattern-discrete}
@@ -32,7 +33,8 @@ use Rattle.tls_states.specs.declared.state.TlsState.{TlsState}
 use Rattle.tls_states.specs.declared.state.TlsState.TheVariants as state
 use Rattle.tls_states.proofs.SymbolLemmas.{same_symbol, symbols, passes}
 
--- A word that leads to a state, and to one that waits for nothing a word that no handshake begins with.
+-- A word that leads to each state; for a state that waits for nothing, a word that no handshake
+-- begins with.
 abbrev after_hello : Word → Word
 after_hello w = symbol ClientHello ToServer ∷ symbol ServerHello FromServer ∷ w
 
@@ -51,31 +53,40 @@ road state.ServerHello = after_hello []
 road state.Certificate = after_certificate []
 road state.CertificateSt = after_certificate (symbol CertificateStatus FromServer ∷ [])
 road state.ServerKeyExchange = after_certificate (symbol ServerKeyExchange FromServer ∷ [])
-road state.ServerHelloDone = after_certificate (symbol ServerKeyExchange FromServer ∷ symbol ServerDone FromServer ∷ [])
-road state.ClientKeyExchange = after_certificate (symbol ServerDone FromServer ∷ symbol ClientKeyExchange ToServer ∷ [])
-road state.ClientChangeCipherSpec = symbol ClientHello ToServer ∷ symbol ServerHelloV13Draft18 FromServer ∷ []
+road state.ServerHelloDone =
+    after_certificate (symbol ServerKeyExchange FromServer ∷ symbol ServerDone FromServer ∷ [])
+road state.ClientKeyExchange =
+    after_certificate (symbol ServerDone FromServer ∷ symbol ClientKeyExchange ToServer ∷ [])
+road state.ClientChangeCipherSpec =
+    symbol ClientHello ToServer ∷ symbol ServerHelloV13Draft18 FromServer ∷ []
 road state.CRCertRequest = after_request []
 road state.CRHelloDone = after_request (symbol ServerDone FromServer ∷ [])
 road state.CRCert = after_request (symbol ServerDone FromServer ∷ symbol Certificate ToServer ∷ [])
 road state.CRClientKeyExchange = after_request
-    (symbol ServerDone FromServer ∷ symbol Certificate ToServer ∷ symbol ClientKeyExchange ToServer ∷ [])
-road state.CRCertVerify = after_certificate (symbol ServerDone FromServer ∷ symbol ClientKeyExchange ToServer ∷ [])
+    (symbol ServerDone FromServer ∷ symbol Certificate ToServer ∷ symbol ClientKeyExchange
+    ToServer ∷ [])
+road state.CRCertVerify =
+    after_certificate (symbol ServerDone FromServer ∷ symbol ClientKeyExchange ToServer ∷ [])
 road state.NoCertSKE = after_hello (symbol ServerKeyExchange FromServer ∷ [])
-road state.NoCertHelloDone = after_hello (symbol ServerKeyExchange FromServer ∷ symbol ServerDone FromServer ∷ [])
-road state.NoCertCKE = after_certificate (symbol ServerDone FromServer ∷ symbol ClientKeyExchange ToServer ∷ [])
+road state.NoCertHelloDone =
+    after_hello (symbol ServerKeyExchange FromServer ∷ symbol ServerDone FromServer ∷ [])
+road state.NoCertCKE =
+    after_certificate (symbol ServerDone FromServer ∷ symbol ClientKeyExchange ToServer ∷ [])
 road state.PskHelloDone = after_certificate (symbol ServerDone FromServer ∷ [])
-road state.PskCKE = after_certificate (symbol ServerDone FromServer ∷ symbol ClientKeyExchange ToServer ∷ [])
+road state.PskCKE =
+    after_certificate (symbol ServerDone FromServer ∷ symbol ClientKeyExchange ToServer ∷ [])
 road state.SessionEncrypted =
-    symbol ClientHello ToServer ∷ symbol ServerHelloV13Draft18 FromServer ∷ symbol ChangeCipherSpec FromServer ∷ []
+    symbol ClientHello ToServer ∷ symbol ServerHelloV13Draft18 FromServer ∷ symbol ChangeCipherSpec
+    FromServer ∷ []
 road state.Alert = symbol Other ToServer ∷ []
 road state.Finished = symbol Other ToServer ∷ []
 road state.Invalid = symbol Other ToServer ∷ []
 
--- What a run at q still waits for: the rest of a handshake, and then any word.
+-- What a run in q still waits for: the rest of a handshake, and then any word.
 abbrev pub waits : TlsState → Pattern Symbol
 waits q = behind_all same_symbol (chain handshake all) (road q)
 
--- May a run be at q, where a ClientHello stood before or not.
+-- Whether a run can be in q, if a ClientHello came before or not.
 abbrev pub fits : TlsState → Bool → Bool
 fits state.None before = not before
 fits state.Alert before = false
@@ -84,16 +95,17 @@ fits state.Finished before = true
 fits state.Invalid before = true
 fits q before = before
 
--- Noise: an alert of severity 1, or a HelloRequest behind a ClientHello.
+-- Noise: an alert of severity 1, or a HelloRequest after a ClientHello.
 abbrev pub is_noise : Bool → Symbol → Bool
 is_noise before l = is_warning l || (before && is_hello_request l)
 
--- Whether a ClientHello stood before what follows l.
+-- Whether a ClientHello came before the symbol after l.
 abbrev pub turn : Bool → Symbol → Bool
 turn before l = before || is_client_hello l
 
 clean_after_hello : (w : Word)
-    → without_after is_noise turn true w ≡ filter (λ x. not (is_hello_request x)) (filter (λ x. not (is_warning x)) w)
+    → without_after is_noise turn true w ≡ filter (λ x. not (is_hello_request x))
+    (filter (λ x. not (is_warning x)) w)
 clean_after_hello [] = refl
 clean_after_hello (symbol Warning d ∷ w) = clean_after_hello w
 clean_after_hello (symbol HelloRequest d ∷ w) = clean_after_hello w
@@ -103,7 +115,8 @@ pub clean_is : (w : Word) → without_after is_noise turn false w ≡ clean w
 clean_is [] = refl
 clean_is (symbol Warning d ∷ w) = clean_is w
 clean_is (symbol ClientHello d ∷ w) = ap (λ x. symbol ClientHello d ∷ x) (clean_after_hello w)
-clean_is (symbol ClientHelloWithId d ∷ w) = ap (λ x. symbol ClientHelloWithId d ∷ x) (clean_after_hello w)
+clean_is (symbol ClientHelloWithId d ∷ w) =
+    ap (λ x. symbol ClientHelloWithId d ∷ x) (clean_after_hello w)
 clean_is (symbol k d ∷ w) = ap (λ x. symbol k d ∷ x) (clean_is w)
 
 abbrev is_finished : TlsState → Bool
@@ -114,7 +127,7 @@ abbrev is_fatal : Symbol → Bool
 is_fatal (symbol Fatal d) = true
 is_fatal _ = false
 
--- What a message does to what is waited for, as a test, which all symbols pass at all states.
+-- What a message changes about what is waited for, as a test that all symbols pass in all states.
 abbrev waits_next : Pattern Symbol → Bool → Symbol → Pattern Symbol
 waits_next x before l = cond (is_noise before l) x (behind same_symbol x l)
 
@@ -130,7 +143,8 @@ next_test q x before l =
 abbrev tests_at : TlsState → Bool → Bool
 tests_at q before = list_all (next_test q (waits q) before) symbols
 
-tests_pass : (q : TlsState) → (not (fits q false) || tests_at q false) && (not (fits q true) || tests_at q true) ≡ true
+tests_pass : (q : TlsState) → (not (fits q false) || tests_at q false)
+    && (not (fits q true) || tests_at q true) ≡ true
 tests_pass = elim [ state.None ↦ refl | _ ↦ refl ]
 
 follows_if : (a b : Bool) → (not a || b) ≡ true → a ≡ true → b ≡ true
@@ -138,12 +152,14 @@ follows_if true b h e = h
 follows_if false b h e = cc
 
 tests_pass_at : (q : TlsState) (before : Bool) → (not (fits q before) || tests_at q before) ≡ true
-tests_pass_at q false = (both_and (not (fits q false) || tests_at q false) (not (fits q true) || tests_at q true)
+tests_pass_at q false =
+    (both_and (not (fits q false) || tests_at q false) (not (fits q true) || tests_at q true)
     (tests_pass q)).0
-tests_pass_at q true = (both_and (not (fits q false) || tests_at q false) (not (fits q true) || tests_at q true)
+tests_pass_at q true =
+    (both_and (not (fits q false) || tests_at q false) (not (fits q true) || tests_at q true)
     (tests_pass q)).1
 
--- Which states and memories go together.
+-- Which states and memories belong together.
 abbrev pub Fits : TlsState → Bool → Type 0
 Fits q before = fits q before ≡ true
 
@@ -157,14 +173,18 @@ module _ (q : TlsState) (before : Bool) (l : Symbol) (h : Fits q before) where
   pub next_fits : Fits (next q l) (turn before l)
   next_fits = next_passes.0
 
-  pub next_waits : waits (next q l) ≡ cond (is_noise before l) (waits q) (behind same_symbol (waits q) l)
-  next_waits = yes_is (same_pattern (waits (next q l)) (waits_next (waits q) before l)) (both_and _ _ next_passes.1).0
+  pub next_waits : waits (next q l) ≡ cond (is_noise before l) (waits q)
+      (behind same_symbol (waits q) l)
+  next_waits = yes_is (same_pattern (waits (next q l)) (waits_next (waits q) before l))
+      (both_and _ _ next_passes.1).0
 
   only_fatal : is_finished (next q l) ≡ true → is_fatal l ≡ true
   only_fatal = follows_if (is_finished (next q l)) (is_fatal l)
-      (both_and (is_yes (same_pattern (waits (next q l)) (waits_next (waits q) before l))) _ next_passes.1).1
+      (both_and (is_yes (same_pattern (waits (next q l)) (waits_next (waits q) before l))) _
+      next_passes.1).1
 
-pub run_fits : (q : TlsState) (before : Bool) (w : Word) → Fits q before → (after : Bool) × Fits (run q w) after
+pub run_fits : (q : TlsState) (before : Bool) (w : Word) → Fits q before
+    → (after : Bool) × Fits (run q w) after
 run_fits q before [] h = (before, h)
 run_fits q before (l ∷ w) h = run_fits (next q l) (turn before l) w (next_fits q before l h)
 
@@ -172,6 +192,7 @@ fatal_symbol : (l : Symbol) → is_fatal l ≡ true → (d : Direction) × (l �
 fatal_symbol (symbol Fatal d) h = (d, refl)
 fatal_symbol _ h = cc
 
-pub finished_by_fatal : (q : TlsState) (before : Bool) (l : Symbol) → Fits q before → next q l ≡ state.Finished
+pub finished_by_fatal : (q : TlsState) (before : Bool) (l : Symbol) → Fits q before
+    → next q l ≡ state.Finished
     → (d : Direction) × (l ≡ symbol Fatal d)
 finished_by_fatal q before l h e = fatal_symbol l (only_fatal q before l h (ap is_finished e))

@@ -39,21 +39,27 @@ use Rattle.tls_states.specs.contracts.symbol.Kind.{the_type as kinds}
 use Rattle.tls_states.specs.contracts.symbol.Direction.{the_type as directions}
 use denote.Enum.Bare.{sameb, true_same}
 
--- No state, kind and direction stand in two rows.
+-- No two rows have the same state, kind and direction.
 abbrev is_like : Row → Row → Bool
-is_like r s = sameb states r.state s.state && (sameb kinds r.kind s.kind && sameb directions r.direction s.direction)
+is_like r s = sameb states r.state s.state
+    && (sameb kinds r.kind s.kind && sameb directions r.direction s.direction)
 
-alike : (r s : Row) → r.state ≡ s.state → r.kind ≡ s.kind → r.direction ≡ s.direction → is_like r s ≡ true
+alike : (r s : Row) → r.state ≡ s.state → r.kind ≡ s.kind → r.direction ≡ s.direction
+    → is_like r s ≡ true
 alike r s e f g = and_both _ _ (true_same states r.state s.state e)
-    (and_both _ _ (true_same kinds r.kind s.kind f) (true_same directions r.direction s.direction g))
+    (and_both _ _ (true_same kinds r.kind s.kind f)
+    (true_same directions r.direction s.direction g))
 
 pub rows_are_one_each : IsOneRowEach ROWS
 rows_are_one_each i j r s at_i at_j e f g =
-    one_place is_like ROWS refl i j r s at_i at_j (alike r s e f g) (alike s r (sym e) (sym f) (sym g))
+    one_place is_like ROWS refl i j r s at_i at_j (alike r s e f g)
+    (alike s r (sym e) (sym f) (sym g))
 
 -- All states, each once.
-same_place : (i j : ℕ) (q : TlsState) → slice_get STATES i ≡ Some q → slice_get STATES j ≡ Some q → i ≡ j
-same_place i j q at_i at_j = one_place (sameb states) STATES refl i j q q at_i at_j (true_same states q q refl)
+same_place : (i j : ℕ) (q : TlsState) → slice_get STATES i ≡ Some q
+    → slice_get STATES j ≡ Some q → i ≡ j
+same_place i j q at_i at_j =
+    one_place (sameb states) STATES refl i j q q at_i at_j (true_same states q q refl)
     (true_same states q q refl)
 
 pub each_once : IsOncePlaced STATES
@@ -88,7 +94,7 @@ all_states = elim [
   | state.Invalid ↦ (24, lit< tt, refl)
 ]
 
--- A symbol does what its row says, or else what a rule does.
+-- A symbol has the effect of its row, or else of a rule.
 answered : Option TlsState → Result TlsState StateChangeError → Result TlsState StateChangeError
 answered (Some q) r = Ok q
 answered None r = r
@@ -109,16 +115,19 @@ step_by_table = elim [
   ]
 ]
 
-stepped : (q : TlsState) (k : Kind) (d : Direction) (next : Option TlsState) (r : Result TlsState StateChangeError)
+stepped : (q : TlsState) (k : Kind) (d : Direction) (next : Option TlsState)
+    (r : Result TlsState StateChangeError)
     → next ≡ next_after ROWS q k d → r ≡ answered next (rule q k) → r ≡ step q (symbol k d)
 stepped q k d next r n is = is ∙ ap (λ x. answered x (rule q k)) n ∙ step_by_table q k d
 
-pub stepped_by_row : (q : TlsState) (k : Kind) (d : Direction) (next : TlsState) → Some next ≡ next_after ROWS q k d
+pub stepped_by_row : (q : TlsState) (k : Kind) (d : Direction) (next : TlsState)
+    → Some next ≡ next_after ROWS q k d
     → Ok next ≡ step q (symbol k d)
 unfolding answered
 stepped_by_row q k d next n = stepped q k d (Some next) (Ok next) n refl
 
-pub stepped_by_rule : (q : TlsState) (k : Kind) (d : Direction) (r : Result TlsState StateChangeError)
+pub stepped_by_rule : (q : TlsState) (k : Kind) (d : Direction)
+    (r : Result TlsState StateChangeError)
     → None ≡ next_after ROWS q k d → r ≡ rule q k → r ≡ step q (symbol k d)
 unfolding answered
 stepped_by_rule q k d r n is = stepped q k d None r n is

@@ -1,4 +1,4 @@
--- Symbols are the same or not, which computes; and all of them.
+-- Computed equality of symbols, and the list of all symbols.
 use Rattle.std.proofs.Common.{◌≡◌, List, [], ◌∷◌, ◌++◌, map, Option, None, Some, Bool, true, false, refl}
 use Rattle.std.specs.List.{list_all}
 use Rattle.std.specs.Prelude.{is_some, option_map}
@@ -72,7 +72,7 @@ listed (symbol k d) = all_in k d
 pub passes : (f : Symbol → Bool) (l : Symbol) → list_all f symbols ≡ true → f l ≡ true
 passes f l t = passes_in same_symbol f symbols l t (listed l)
 
--- A view of an id is there where the id is.
+-- A view of an optional value is present if the value is.
 pub viewed_is_some : {A B : Type 0} (f : A → B) (o : Option A) → is_some (option_map f o) ≡ is_some o
 viewed_is_some f None = refl
 viewed_is_some f (Some x) = refl

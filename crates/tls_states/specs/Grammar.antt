@@ -1,5 +1,5 @@
--- The grammar of handshakes, by the message flows of RFC 5246, section 7.3. A conversation is followed up to the
--- server's ChangeCipherSpec, behind which all is encrypted.
+-- The grammar of handshakes, by the message flows of RFC 5246, section 7.3. A conversation is
+-- followed up to the server's ChangeCipherSpec, after which all is encrypted.
 use Rattle.std.specs.Prelude.{[], ◌∷◌, Bool, true, false, not, if◌then◌else◌, filter}
 use Rattle.tls_states.specs.Symbols.{Symbol, symbol, Word}
 use Rattle.tls_words.specs.Words.{Pattern, one, ◌then◌, ◌or◌, maybe, many}
@@ -33,17 +33,20 @@ server k = one (symbol k FromServer)
 abbrev pub any : Kind → Pattern Symbol
 any k = client k or server k
 
--- The end of the server's hello, and the client's answer without a certificate.
+-- The end of the server's first messages, and the client's answer without a certificate.
 abbrev pub without_client_certificate : Pattern Symbol
-without_client_certificate = server ServerDone then client ClientKeyExchange then any ChangeCipherSpec
+without_client_certificate = server ServerDone then client ClientKeyExchange then
+    any ChangeCipherSpec
 
--- The same where the server asks for a certificate: the client sends one, and may prove that it owns it.
+-- The end of the server's first messages with a request for a certificate: the client sends one,
+-- and may prove that it owns it.
 abbrev pub with_client_certificate : Pattern Symbol
 with_client_certificate =
     server CertificateRequest then server ServerDone
-    then client Certificate then client ClientKeyExchange then maybe (any CertificateVerify) then any ChangeCipherSpec
+    then client Certificate then client ClientKeyExchange then maybe (any CertificateVerify) then
+    any ChangeCipherSpec
 
--- The server's key exchange, before it perhaps the state of its certificate (RFC 6066, section 8).
+-- The server's key exchange, optionally after the status of its certificate (RFC 6066, section 8).
 abbrev pub key_exchange : Pattern Symbol
 key_exchange = maybe (server CertificateStatus) then server ServerKeyExchange
 
@@ -54,16 +57,17 @@ after_certificate =
     or key_exchange then without_client_certificate
     or without_client_certificate
 
--- What follows the ServerHello of a new session: a certificate, or keys alone.
+-- What follows the ServerHello of a new session: a certificate, or a key exchange alone.
 abbrev pub new_session : Pattern Symbol
-new_session = server Certificate then after_certificate or server ServerKeyExchange then without_client_certificate
+new_session = server Certificate then after_certificate or server ServerKeyExchange then
+    without_client_certificate
 
--- The first figure of section 7.3, where the client names no session.
+-- The first figure of section 7.3, in which the client offers no session.
 abbrev pub full_handshake : Pattern Symbol
 full_handshake = client ClientHello then server ServerHello then new_session
 
--- The second figure, where the client names a session: it may change its cipher at once, and the session is resumed, or
--- the server goes on with its certificate as for a new one.
+-- The second figure, in which the client offers a session: it may change its cipher at once. Either
+-- the session is resumed, or the server continues with its certificate as for a new one.
 abbrev pub resumed : Pattern Symbol
 resumed = any ChangeCipherSpec
 
@@ -72,20 +76,21 @@ not_resumed = server Certificate then after_certificate
 
 abbrev pub resumption : Pattern Symbol
 resumption =
-    client ClientHelloWithId then many (client ChangeCipherSpec) then server ServerHello then (resumed or not_resumed)
+    client ClientHelloWithId then many (client ChangeCipherSpec) then server ServerHello then
+    (resumed or not_resumed)
 
 -- Draft 18 of TLS 1.3, section 2, up to the first encrypted message.
 abbrev pub draft_18 : Pattern Symbol
 draft_18 = client ClientHello then server ServerHelloV13Draft18
 
--- The tickets that the server hands out (RFC 5077, section 3.1), and its ChangeCipherSpec.
+-- The server's tickets (RFC 5077, section 3.1), and its ChangeCipherSpec.
 abbrev pub servers_change : Pattern Symbol
 servers_change = many (server NewSessionTicket) then server ChangeCipherSpec
 
 abbrev pub handshake : Pattern Symbol
 handshake = (full_handshake or resumption or draft_18) then servers_change
 
--- Noise: alerts of severity 1, and HelloRequests behind the first ClientHello (section 7.4.1.1).
+-- Noise: alerts of severity 1, and HelloRequests after the first ClientHello (section 7.4.1.1).
 abbrev pub is_warning : Symbol → Bool
 is_warning (symbol Warning d) = true
 is_warning _ = false

@@ -1,11 +1,12 @@
--- The states' names.
+-- Names of the states.
 use Rattle.std.specs.Prelude.{◌≡◌, ℕ, List, codes, slice_get, Some}
 use Rattle.tls_states.specs.declared.state.TlsState.{TlsState}
 use Rattle.tls_states.specs.declared.state.TlsState.TheVariants as states
 
--- No state stands at two places.
+-- No state is at two positions.
 abbrev pub IsOncePlaced : List TlsState → Type 0
-IsOncePlaced qs = (i j : ℕ) (q : TlsState) → slice_get qs i ≡ Some q → slice_get qs j ≡ Some q → i ≡ j
+IsOncePlaced qs = (i j : ℕ) (q : TlsState) → slice_get qs i ≡ Some q
+    → slice_get qs j ≡ Some q → i ≡ j
 
 -- The name of a state is that of its variant.
 abbrev pub state_name : TlsState → List ℕ

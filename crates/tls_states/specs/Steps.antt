@@ -10,12 +10,14 @@ use Rattle.tls_states.specs.declared.state.TlsState.TheVariants as state
 use Rattle.tls_states.specs.declared.state.StateChangeError.{StateChangeError}
 use Rattle.tls_states.specs.declared.state.StateChangeError.TheVariants.{InvalidTransition}
 
--- The state after a symbol: the code's table told a second time, with d for either direction.
+-- The state after a symbol. This is the code's table, written a second time, with d for either
+-- direction.
 abbrev pub step : TlsState → Symbol → Result TlsState StateChangeError
 step state.None (symbol kind.ClientHello ToServer) = Ok state.ClientHello
 step state.None (symbol kind.ClientHelloWithId ToServer) = Ok state.AskResumeSession
 step state.ClientHello (symbol kind.ServerHello FromServer) = Ok state.ServerHello
-step state.ClientHello (symbol kind.ServerHelloV13Draft18 FromServer) = Ok state.ClientChangeCipherSpec
+step state.ClientHello (symbol kind.ServerHelloV13Draft18 FromServer) =
+    Ok state.ClientChangeCipherSpec
 step state.AskResumeSession (symbol kind.ChangeCipherSpec ToServer) = Ok state.AskResumeSession
 step state.AskResumeSession (symbol kind.ServerHello FromServer) = Ok state.ResumeSession
 step state.ResumeSession (symbol kind.Certificate FromServer) = Ok state.Certificate
@@ -42,8 +44,10 @@ step state.ClientKeyExchange (symbol kind.ChangeCipherSpec d) = Ok state.ClientC
 step state.CRCertVerify (symbol kind.ChangeCipherSpec d) = Ok state.ClientChangeCipherSpec
 step state.NoCertCKE (symbol kind.ChangeCipherSpec d) = Ok state.ClientChangeCipherSpec
 step state.PskCKE (symbol kind.ChangeCipherSpec d) = Ok state.ClientChangeCipherSpec
-step state.ClientChangeCipherSpec (symbol kind.NewSessionTicket FromServer) = Ok state.ClientChangeCipherSpec
-step state.ClientChangeCipherSpec (symbol kind.ChangeCipherSpec FromServer) = Ok state.SessionEncrypted
+step state.ClientChangeCipherSpec (symbol kind.NewSessionTicket FromServer) =
+    Ok state.ClientChangeCipherSpec
+step state.ClientChangeCipherSpec (symbol kind.ChangeCipherSpec FromServer) =
+    Ok state.SessionEncrypted
 step state.Invalid l = Ok state.Invalid
 step state.SessionEncrypted l = Ok state.SessionEncrypted
 step state.Finished l = Ok state.Invalid
@@ -53,7 +57,7 @@ step q (symbol kind.Warning d) = Ok q
 step q (symbol kind.Fatal d) = Ok state.Finished
 step q l = Err InvalidTransition
 
--- What a kind of message does where the table has no row for it: the last lines of step.
+-- The effect of a kind of message if the table has no row for it: the last lines of step.
 abbrev pub rule : TlsState → Kind → Result TlsState StateChangeError
 rule state.Invalid k = Ok state.Invalid
 rule state.SessionEncrypted k = Ok state.SessionEncrypted
@@ -76,7 +80,8 @@ next q l = or_invalid (step q l)
 abbrev pub run : TlsState → Word → TlsState
 run q w = words.run next q w
 
--- A step was taken: where it leads, and what is answered.
-abbrev pub IsUpdate : Result TlsState StateChangeError → TlsState → Result Unit StateChangeError → Type 0
+-- A step was taken: the state that it leads to, and the result of the call.
+abbrev pub IsUpdate : Result TlsState StateChangeError → TlsState
+    → Result Unit StateChangeError → Type 0
 IsUpdate (Ok q) end answer = (end ≡ q) × (answer ≡ Ok tt)
 IsUpdate (Err e) end answer = (end ≡ state.Invalid) × (answer ≡ Err e)

@@ -10,15 +10,15 @@ use Rattle.tls_states.specs.declared.symbol.Kind.TheVariants as kind
 use Rattle.tls_states.specs.declared.symbol.Direction.{Direction}
 use Rattle.tls_states.specs.declared.symbol.Direction.TheVariants.{ToServer, FromServer}
 
--- What the rules of a conversation see of a message.
+-- The part of a message that the rules of a conversation use.
 pub data Symbol : Type 0 where
   symbol : Kind → Direction → Symbol
 
 abbrev pub Word : Type 0
 Word = List Symbol
 
--- The kind of a HandshakeType (RFC 5246, section 7.4; RFC 5077, section 3.3; RFC 6066, section 8): of a ClientHello that of one without a session
--- id.
+-- The kind of a HandshakeType (RFC 5246, section 7.4; RFC 5077, section 3.3; RFC 6066, section 8).
+-- A ClientHello counts as one without a session id.
 abbrev pub kind_of_type : ℕ → Kind
 kind_of_type n =
     if n == 0 then kind.HelloRequest
@@ -34,11 +34,12 @@ kind_of_type n =
     else if n == 22 then kind.CertificateStatus
     else kind.Other
 
--- With a session id or without one.
+-- The kind of a ClientHello, with or without a session id.
 abbrev pub kind_of_hello : Bool → Kind
 kind_of_hello has_id = if has_id then kind.ClientHelloWithId else kind.ClientHello
 
--- That of its type, but for the ServerHello of draft 18 of TLS 1.3 (draft-ietf-tls-tls13-18, section 4.1.3).
+-- The kind of the message's type, except for the ServerHello of draft 18 of TLS 1.3
+-- (draft-ietf-tls-tls13-18, section 4.1.3).
 abbrev pub kind_by_variant : handshakes.Handshake → Kind
 kind_by_variant (handshakes.ServerHelloV13Draft18 hello) = kind.ServerHelloV13Draft18
 kind_by_variant m = kind_of_type (msg_type_of m)
@@ -47,7 +48,7 @@ abbrev pub kind_of_handshake : handshakes.Handshake → Kind
 kind_of_handshake (handshakes.ClientHello hello) = kind_of_hello (is_some hello.session_id)
 kind_of_handshake m = kind_by_variant m
 
--- Severity 1 is a warning.
+-- The kind of a message. An alert of severity 1 is a warning.
 abbrev pub kind_of_message : messages.Message → Kind
 kind_of_message (messages.Handshake m) = kind_of_handshake m
 kind_of_message messages.ChangeCipherSpec = kind.ChangeCipherSpec
@@ -58,17 +59,17 @@ abbrev pub direction : Bool → Direction
 direction true = ToServer
 direction false = FromServer
 
--- The symbol of a message that was read from bytes, apart from where it lies in memory, and whether it goes to the server.
+-- The symbol of a message's value and its direction.
 abbrev pub symbol_of_viewed : messages.Message → Bool → Symbol
 symbol_of_viewed m to_server = symbol (kind_of_message m) (direction to_server)
 
 abbrev pub symbol_of : TlsMessage → Bool → Symbol
 symbol_of m to_server = symbol_of_viewed (messages.view_message m) to_server
 
--- A conversation: each message, and whether it goes to the server.
+-- The word of a conversation: each message, and whether it goes to the server.
 abbrev pub word : List (TlsMessage × Bool) → Word
 word messages = map (λ m. symbol_of m.0 m.1) messages
 
--- The same of messages that are borrowed.
+-- The word of a conversation of borrowed messages.
 abbrev pub borrowed_word : List (Bor TlsMessage × Bool) → Word
 borrowed_word messages = map (λ m. symbol_of m.0.now m.1) messages

@@ -1,4 +1,4 @@
--- What a table of transitions answers.
+-- Look-ups in a table of transitions.
 use Rattle.std.specs.Prelude.{◌≡◌, ℕ, List, [], ◌∷◌, Option, Some, None, ◌&&◌, if◌then◌else◌, slice_get}
 use Rattle.tls_states.specs.declared.state.TlsState.{TlsState}
 use Rattle.tls_states.specs.declared.symbol.Kind.{Kind}
@@ -19,9 +19,10 @@ next_in (r ∷ rows) k d =
 abbrev pub next_after : List Row → TlsState → Kind → Direction → Option TlsState
 next_after [] q k d = None
 next_after (r ∷ rows) q k d = if sameb states r.state q &&
-    (sameb kinds r.kind k && sameb directions r.direction d) then Some r.next else next_after rows q k d
+    (sameb kinds r.kind k && sameb directions r.direction d) then
+    Some r.next else next_after rows q k d
 
--- No state, kind and direction stand in two rows.
+-- No two rows have the same state, kind and direction.
 abbrev pub IsOneRowEach : List Row → Type 0
 IsOneRowEach rows =
     (i j : ℕ) (r s : Row) → slice_get rows i ≡ Some r → slice_get rows j ≡ Some s

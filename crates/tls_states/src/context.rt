@@ -1,4 +1,4 @@
-//! A conversation that is followed.
+//! The state of a conversation, updated by its messages.
 ghost use Rattle.std.specs.Prelude.{◌≡◌, ◌↔◌, ◌⊎◌, Ok};
 ghost use Rattle.tls_states.specs.Conversations.{HasHandshake, IsNoHandshake};
 ghost use Rattle.tls_states.specs.Symbols.{borrowed_word, symbol_of, word};
@@ -11,7 +11,7 @@ use crate::transition::tls_state_transition;
 use std::marker::Model;
 use tls_hs::TlsMessage;
 
-/// A conversation that is followed, from its first message on: it keeps the state after the last one.
+/// Follows a conversation from its first message on: keeps the state after the last one.
 #[derive(Drop)]
 pub struct ParseContext {
     state: TlsState,
@@ -24,7 +24,7 @@ impl Model for ParseContext {
 }
 
 impl ParseContext {
-    /// A conversation without a message, in [`TlsState::None`].
+    /// Returns the context of a conversation without messages, in [`TlsState::None`].
     pub fn new() -> ParseContext
         ensures { result ≡ state.None }
     {
@@ -33,21 +33,22 @@ impl ParseContext {
         }
     }
 
-    /// The state after the messages so far.
+    /// Returns the state after the messages so far.
     pub fn state(&self) -> TlsState
         ensures { result ≡ self.now }
     {
         self.state
     }
 
-    /// Follows one message: it takes the state that [`tls_state_transition`] answers, or answers its error and is
-    /// [`TlsState::Invalid`] from then on.
+    /// Follows one message: takes the state that [`tls_state_transition`] returns, or returns its
+    /// error and is in [`TlsState::Invalid`] from then on.
     ///
-    /// So [`TlsState::SessionEncrypted`] and `Invalid` stay, without an error, and after [`TlsState::Finished`] comes
-    /// `Invalid`.
+    /// So [`TlsState::SessionEncrypted`] and `Invalid` are kept, without an error, and after
+    /// [`TlsState::Finished`] comes `Invalid`.
     pub fn update(&mut self, msg: &TlsMessage<'_>, to_server: bool) -> Result<(), StateChangeError>
         ensures step { IsUpdate (step self.old (symbol_of msg.now to_server)) self.new result }
-        ensures encrypted_kept { self.old ≡ state.SessionEncrypted → (self.new ≡ state.SessionEncrypted) × (result ≡ Ok tt) }
+        ensures encrypted_kept { self.old ≡ state.SessionEncrypted
+            → (self.new ≡ state.SessionEncrypted) × (result ≡ Ok tt) }
         ensures invalid_kept { self.old ≡ state.Invalid → (self.new ≡ state.Invalid) × (result ≡ Ok tt) }
         ensures nothing_follows { self.old ≡ state.Finished → (self.new ≡ state.Invalid) × (result ≡ Ok tt) }
     {
@@ -63,18 +64,23 @@ impl ParseContext {
         }
     }
 
-    /// Follows each message in turn, past errors; `true` beside a message says that it goes to the server. The outcome
-    /// is in [`ParseContext::state`].
+    /// Follows each message in turn, past errors. `true` beside a message means that it goes to the
+    /// server. The outcome is in [`ParseContext::state`].
     ///
-    /// Of a new context it is told by the grammar of handshakes, `specs/Grammar.antt`, and without states: it is
-    /// [`TlsState::SessionEncrypted`] exactly where the messages begin with a handshake of it, in which warnings, and
-    /// HelloRequests behind the ClientHello, may stand anywhere. It is [`TlsState::Invalid`] exactly where they don't,
-    /// can't become one by further messages, and aren't the beginning of one and then a fatal alert as the last message.
-    /// A message behind that alert makes it `Invalid`.
+    /// For a new context, the grammar of handshakes in `specs/Grammar.antt`, which has no states,
+    /// decides the outcome:
+    ///
+    /// - [`TlsState::SessionEncrypted`] exactly if the messages begin with a handshake of the
+    ///   grammar. Warnings, and HelloRequests after the ClientHello, may come anywhere in it.
+    /// - [`TlsState::Invalid`] exactly if they don't begin with a handshake, and no further
+    ///   messages could complete them to one, and no fatal alert, as the last message, broke one
+    ///   off. A message after that alert makes it `Invalid`.
     pub fn run(&mut self, messages: &[(TlsMessage<'_>, bool)])
         ensures by_steps { self.new ≡ run_of self.old (word messages.now) }
-        ensures encrypted { self.old ≡ state.None → (self.new ≡ state.SessionEncrypted) ↔ HasHandshake (word messages.now) }
-        ensures invalid { self.old ≡ state.None → (self.new ≡ state.Invalid) ↔ IsNoHandshake (word messages.now) }
+        ensures encrypted { self.old ≡ state.None → (self.new ≡ state.SessionEncrypted)
+            ↔ HasHandshake (word messages.now) }
+        ensures invalid { self.old ≡ state.None → (self.new ≡ state.Invalid)
+            ↔ IsNoHandshake (word messages.now) }
     {
         for i in 0..messages.len() {
             let (message, to_server) = &messages[i];
@@ -82,11 +88,14 @@ impl ParseContext {
         }
     }
 
-    /// The same for messages that the caller holds elsewhere, so that none has to be moved into the list.
+    /// Follows each borrowed message in turn, as [`ParseContext::run`]: the caller needn't move its
+    /// messages into a list.
     pub fn run_borrowed(&mut self, messages: &[(&TlsMessage<'_>, bool)])
         ensures by_steps { self.new ≡ run_of self.old (borrowed_word messages.now) }
-        ensures encrypted { self.old ≡ state.None → (self.new ≡ state.SessionEncrypted) ↔ HasHandshake (borrowed_word messages.now) }
-        ensures invalid { self.old ≡ state.None → (self.new ≡ state.Invalid) ↔ IsNoHandshake (borrowed_word messages.now) }
+        ensures encrypted { self.old ≡ state.None → (self.new ≡ state.SessionEncrypted)
+            ↔ HasHandshake (borrowed_word messages.now) }
+        ensures invalid { self.old ≡ state.None → (self.new ≡ state.Invalid)
+            ↔ IsNoHandshake (borrowed_word messages.now) }
     {
         for i in 0..messages.len() {
             let (message, to_server) = &messages[i];

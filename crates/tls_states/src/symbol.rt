@@ -1,4 +1,5 @@
-//! What the rules of a conversation see of a message: its kind and its direction.
+//! The symbol of a message: its kind and its direction, which are all that the rules of a
+//! conversation use.
 ghost use Rattle.std.specs.Prelude.{◌≡◌, Some, slice_get};
 ghost use Rattle.tls_hs.specs.Handshake.{view_handshake};
 ghost use Rattle.tls_hs.specs.Message.{view_message};
@@ -7,13 +8,13 @@ ghost use Rattle.tls_states.specs.Symbols.{kind_by_variant, kind_of_handshake, k
 use tls_base::TlsAlertSeverity;
 use tls_hs::{TlsMessage, TlsMessageHandshake};
 
-/// A kind of message. The kinds that no rule tells apart are one.
+/// The kind of a message. Kinds that no rule distinguishes are one.
 #[derive(Clone, Copy, PartialEq)]
 pub(crate) enum Kind {
     HelloRequest,
-    /// Without a session id.
+    /// A ClientHello without a session id.
     ClientHello,
-    /// With a session id.
+    /// A ClientHello with a session id.
     ClientHelloWithId,
     ServerHello,
     ServerHelloV13Draft18,
@@ -34,7 +35,7 @@ pub(crate) enum Kind {
     Other,
 }
 
-/// Which side a message goes to.
+/// The side that a message goes to.
 #[derive(Clone, Copy, PartialEq)]
 pub(crate) enum Direction {
     FromServer,
@@ -42,7 +43,7 @@ pub(crate) enum Direction {
 }
 
 impl Direction {
-    /// The direction of a message that goes to the server, or doesn't.
+    /// Returns the direction of a message that goes to the server, or to the client.
     #[inline]
     pub(crate) fn of(to_server: bool) -> Direction
         ensures { result ≡ direction to_server }
@@ -55,7 +56,8 @@ impl Direction {
     }
 }
 
-/// The kinds of handshake messages, each at the place of its variant, and last that of any other. A look-up here is faster than a jump by the variant.
+/// The kind of each variant of handshake messages, by its position; the last is that of any other.
+/// A look-up here is faster than a jump by variant.
 static BY_VARIANT: [Kind; 17] = [
     Kind::HelloRequest,
     Kind::ClientHello,
@@ -76,7 +78,8 @@ static BY_VARIANT: [Kind; 17] = [
     Kind::Other,
 ];
 
-/// The place of a message's variant among the variants: that of its tag, so that the compiler computes nothing.
+/// Returns the position of a message's variant. It is the variant's tag, so the compiler computes
+/// nothing.
 #[inline]
 fn place_of_variant(message: &TlsMessageHandshake<'_>) -> usize
     ensures { slice_get BY_VARIANT result ≡ Some (kind_by_variant (view_handshake message.now)) }
@@ -103,7 +106,8 @@ fn place_of_variant(message: &TlsMessageHandshake<'_>) -> usize
 }
 
 impl Kind {
-    /// The kind of a handshake message by its variant alone: that of a ClientHello without a session id for each.
+    /// Returns the kind of a handshake message by its variant alone: any ClientHello counts as one
+    /// without a session id.
     #[inline]
     fn by_variant(message: &TlsMessageHandshake<'_>) -> Kind
         ensures { result ≡ kind_by_variant (view_handshake message.now) }
@@ -111,7 +115,8 @@ impl Kind {
         BY_VARIANT[place_of_variant(message)]
     }
 
-    /// The kind of a handshake message. The session id is looked at apart, so that the rest is a look-up of the variant.
+    /// Returns the kind of a handshake message. The session id is checked separately, so that the
+    /// rest is a look-up by variant.
     #[tactic(auto, using(crate::proofs::SymbolLemmas::viewed_is_some))]
     #[inline]
     fn of_handshake(message: &TlsMessageHandshake<'_>) -> Kind
@@ -125,7 +130,7 @@ impl Kind {
         Kind::by_variant(message)
     }
 
-    /// The kind of a message.
+    /// Returns the kind of a message.
     #[inline]
     pub(crate) fn of(message: &TlsMessage<'_>) -> Kind
         ensures { result ≡ kind_of_message (view_message message.now) }

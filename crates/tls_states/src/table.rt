@@ -5,7 +5,7 @@ ghost use Rattle.tls_states.specs.Table.{IsOneRowEach, next_in as next_of, next_
 use crate::state::TlsState;
 use crate::symbol::{Direction, Kind};
 
-/// In `state`, a message of `kind` in `direction` leads to `next`.
+/// A transition: in `state`, a message of `kind` in `direction` leads to `next`.
 #[derive(Clone, Copy)]
 pub(crate) struct Row {
     pub(crate) state: TlsState,
@@ -14,8 +14,8 @@ pub(crate) struct Row {
     pub(crate) next: TlsState,
 }
 
-/// All transitions that don't follow from the rules of [`crate::tls_state_transition`], the states in the order of their
-/// declaration, told once: it hands them to the macro that it is passed, behind the words that follow the macro's name.
+/// All transitions that don't follow from the rules of [`crate::tls_state_transition`], by state,
+/// in the order of declaration. Passes them to the macro `$then`, after the given words.
 macro_rules! transitions {
     ($then:ident $($words:tt)*) => {
         $then! {
@@ -105,7 +105,7 @@ macro_rules! transitions {
     };
 }
 
-/// One row.
+/// Expands to one row.
 macro_rules! row {
     ($state:ident $kind:ident $direction:ident $next:ident) => {
         Row {
@@ -117,48 +117,52 @@ macro_rules! row {
     };
 }
 
-/// The rows in one array.
+/// Expands to an array of the rows.
 macro_rules! rows {
     ([] $($state:ident { $($kind:ident $direction:ident => $next:ident;)* })*) => {
         [$($(row!($state $kind $direction $next),)*)*]
     };
 }
 
-/// 1 for each row.
+/// Expands to 1 for each row.
 macro_rules! one {
     ($kind:ident) => {
         1
     };
 }
 
-/// How many rows there are.
+/// Expands to the number of rows.
 macro_rules! count {
     ([] $($state:ident { $($kind:ident $direction:ident => $next:ident;)* })*) => {
         0 $($(+ one!($kind))*)*
     };
 }
 
-/// For each state an arm that searches its rows, of which the compiler makes comparisons with constants.
+/// Expands to a match with an arm for each state, which searches its rows. The compiler turns it
+/// into comparisons with constants.
 macro_rules! search {
-    ([$at:ident $sought:ident $to:ident] $($state:ident { $($kind:ident $direction:ident => $next:ident;)* })*) => {
+    ([$at:ident $sought:ident $to:ident]
+        $($state:ident { $($kind:ident $direction:ident => $next:ident;)* })*) => {
         match $at {
-            $(TlsState::$state => next_in(&[$(row!($state $kind $direction $next)),*], $sought, $to),)*
-            TlsState::SessionEncrypted | TlsState::Alert | TlsState::Finished | TlsState::Invalid => None,
+            $(TlsState::$state =>
+                next_in(&[$(row!($state $kind $direction $next)),*], $sought, $to),)*
+            TlsState::SessionEncrypted | TlsState::Alert | TlsState::Finished
+                | TlsState::Invalid => None,
         }
     };
 }
 
 const COUNT: usize = transitions!(count);
 
-/// The table. It is no `const`, which each look-up would build again.
+/// The table. A `const` would be built again for each look-up.
 static ROWS: [Row; COUNT] = transitions!(rows);
 
-/// No state, kind and direction stand in two rows.
+/// No two rows have the same state, kind and direction.
 fn rows_are_distinct()
     ensures { IsOneRowEach ROWS }
 {}
 
-/// Where the first of `rows` with this kind and direction leads.
+/// Returns where the first of `rows` with this kind and direction leads.
 #[inline]
 fn next_in(rows: &[Row], kind: Kind, direction: Direction) -> Option<TlsState>
     ensures { result ≡ next_of rows.now kind direction }
@@ -171,7 +175,7 @@ fn next_in(rows: &[Row], kind: Kind, direction: Direction) -> Option<TlsState>
     None
 }
 
-/// Where the table's row of this state, kind and direction leads.
+/// Returns where the table's row with this state, kind and direction leads.
 #[inline]
 pub(crate) fn next_after(state: TlsState, kind: Kind, direction: Direction) -> Option<TlsState>
     ensures { result ≡ next_after_of ROWS state kind direction }

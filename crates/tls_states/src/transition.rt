@@ -8,7 +8,7 @@ use crate::symbol::{Direction, Kind};
 use crate::table::next_after;
 use tls_hs::TlsMessage;
 
-/// What a message of `kind` does in `state` where the table has no row for it.
+/// Returns the effect of a message of `kind` in `state` if the table has no row for it.
 fn by_rule(state: TlsState, kind: Kind) -> Result<TlsState, StateChangeError>
     ensures { result ≡ rule state kind }
 {
@@ -22,7 +22,7 @@ fn by_rule(state: TlsState, kind: Kind) -> Result<TlsState, StateChangeError>
     }
 }
 
-/// The state after a symbol.
+/// Returns the state after a symbol.
 #[inline]
 fn next_state(
     state: TlsState,
@@ -37,16 +37,19 @@ fn next_state(
     }
 }
 
-/// The state after a message (RFC 5246, section 7.3), where `to_server` says that it goes from the client to the server.
+/// Returns the state after a message (RFC 5246, section 7.3). `to_server` means that it goes from
+/// the client to the server.
 ///
-/// - A message that the state waits for, as [`TlsState`] tells, leads to the state that its row of the table names.
-/// - [`TlsState::Invalid`] and [`TlsState::SessionEncrypted`] are kept by every message, and [`TlsState::Finished`] leads
-///   to `Invalid`.
-/// - In the other states a HelloRequest keeps the state, save in [`TlsState::None`], where it is refused; an alert of
-///   severity 1 keeps it, and any other alert leads to `Finished`.
+/// - A message that the state waits for, as [`TlsState`] describes, leads to the state in its row
+///   of the table.
+/// - Every message keeps [`TlsState::Invalid`] and [`TlsState::SessionEncrypted`], and
+///   [`TlsState::Finished`] leads to `Invalid`.
+/// - In other states, a HelloRequest keeps the state, except in [`TlsState::None`], where it is
+///   refused. An alert of severity 1 keeps the state, and any other alert leads to `Finished`.
 ///
-/// `InvalidTransition` where no row and no rule has the message. Of a message only its kind is looked at, of a ClientHello
-/// also whether it has a session id, and of an alert its severity. No memory is taken.
+/// `InvalidTransition` if no row and no rule has the message. Only the kind of a message matters,
+/// for a ClientHello also whether it has a session id, and for an alert its severity. Allocates
+/// nothing.
 pub fn tls_state_transition(
     state: TlsState,
     msg: &TlsMessage<'_>,

@@ -1,4 +1,4 @@
--- Conversations, by the pieces of both sides.
+-- Conversations, given the pieces of both sides.
 use Rattle.std.proofs.Common.{
   ◌≡◌,
   ℕ,
@@ -66,7 +66,7 @@ use Rattle.tls_stream.specs.FlowEvents.{chooses_tls13, event_of}
 use Rattle.tls_stream.specs.declared.conversation.Conversation.{Conversation}
 use Rattle.tls_stream.specs.declared.ear.Ear.{Ear}
 
--- What a side says is followed.
+-- The flow follows what a side says.
 flow_said : (c d : Conversation) (s : Side) (vs : List Said) → Says c s vs d
     → d.flow ≡ run follow c.flow (map (event_of s) vs)
 flow_said c d s [] h = ap (λ (x : Conversation). x.flow) h.1
@@ -83,8 +83,9 @@ flow_heard c d (p ∷ ps) es h =
     ∙ sym (run_on follow c.flow (map (event_of p.0) h.2) h.3)
     ∙ ap (run follow c.flow) (sym h.4)
 
--- One piece more.
-pub one_more : (c d e : Conversation) (ps : List (Side × Bytes)) (es : List Event) (s : Side) (p : Bytes)
+-- One more piece.
+pub one_more : (c d e : Conversation) (ps : List (Side × Bytes)) (es : List Event) (s : Side)
+    (p : Bytes)
     → Hears c ps es d → IsHeard d s p e
     → (fs : List Event) × Hears c (ps ++ (s, p) ∷ []) fs e
 one_more c d e [] es s p h last = (
@@ -95,7 +96,8 @@ one_more c d e (q ∷ ps) es s p h last =
     let k = one_more h.1 d e ps h.3 s p h.7 last in
     (map (event_of q.0) h.2 ++ k.0, (h.0, h.1, h.2, k.0, refl, h.5, h.6, k.1))
 
-pub outcome_is : (c d : Conversation) (limit : ℕ) (ps : List (Side × Bytes)) (es : List Event) → IsBegun limit c
+pub outcome_is : (c d : Conversation) (limit : ℕ) (ps : List (Side × Bytes)) (es : List Event)
+    → IsBegun limit c
     → Hears c ps es d
     → IsOutcomeOf (outcome_at d.flow.state) limit ps
 outcome_is c d limit ps es begun h = (
@@ -105,14 +107,17 @@ outcome_is c d limit ps es begun h = (
       (outcome_at d.flow.state)).0 refl,
 )
 
--- An event is taken off a side and followed.
-each_told : (c d : Conversation) (e : Event) → IsFollowed c e d → (s : Side) → IsToldIf (tells c e) (ear c s) (ear d s)
+-- An event is taken from a side and followed.
+each_told : (c d : Conversation) (e : Event) → IsFollowed c e d → (s : Side)
+    → IsToldIf (tells c e) (ear c s) (ear d s)
 each_told c d e f ToServer = f.client
 each_told c d e f FromServer = f.server
 
 pub behind_is : (c m d : Conversation) (s : Side) (v : Said) (e : Event) (t : Bool)
-    → Some v ≡ front_of (ear c s) → e ≡ event_of s v → IsTaken (front_of (ear c s)) (ear c s) t (ear m s)
-    → ear m (other s) ≡ ear c (other s) → m.is_tls13 ≡ c.is_tls13 → m.flow ≡ c.flow → IsFollowed m e d
+    → Some v ≡ front_of (ear c s) → e ≡ event_of s v
+    → IsTaken (front_of (ear c s)) (ear c s) t (ear m s)
+    → ear m (other s) ≡ ear c (other s) → m.is_tls13 ≡ c.is_tls13 → m.flow ≡ c.flow
+    → IsFollowed m e d
     → IsTakenBy (front_of (ear c s)) c s true d
 behind_is c m d s v e t front is off same tls flow f =
     let tells_same : tells m e ≡ tells c (event_of s v)
@@ -120,69 +125,87 @@ behind_is c m d s v e t front is off same tls flow f =
     ∙ ap (λ (x : Event). not c.is_tls13 && chooses_tls13 x.symbol.kind x.symbol.direction) is in
     let told : (r : Side) → IsToldIf (tells c (event_of s v)) (ear m r) (ear d r)
     = λ r. subst (λ t. IsToldIf t (ear m r) (ear d r)) tells_same (each_told m d e f r) in
-    let first : IsTaken (Some v) (ear c s) t (ear m s) = subst (λ o. IsTaken o (ear c s) t (ear m s)) (sym front) off in
+    let first : IsTaken (Some v) (ear c s) t (ear m s) =
+    subst (λ o. IsTaken o (ear c s) t (ear m s)) (sym front) off in
     subst (λ o. IsTakenBy o c s true d) front (
       refl,
       record {
         side = (ear m s, first.1, told s);
-        other = subst (λ x. IsToldIf (tells c (event_of s v)) x (ear d (other s))) same (told (other s));
+        other = subst (λ x. IsToldIf (tells c (event_of s v)) x (ear d (other s))) same
+            (told (other s));
         is_tls13 = f.is_tls13 ∙ ap (λ b. b || tells m e) tls ∙ ap (λ b. c.is_tls13 || b) tells_same;
         flow = f.flow ∙ ap (λ x. follow x e) flow ∙ ap (follow c.flow) is;
       },
     )
 
-pub at_client : (c m d : Conversation) (s : Side) (v : Said) (e : Event) (t : Bool) (n : Ear) → s ≡ ToServer
+pub at_client : (c m d : Conversation) (s : Side) (v : Said) (e : Event) (t : Bool) (n : Ear)
+    → s ≡ ToServer
     → m ≡ record c { client = n }
-    → Some v ≡ front_of (ear c s) → e ≡ event_of s v → IsTaken (front_of c.client) c.client t n → IsFollowed m e d
+    → Some v ≡ front_of (ear c s) → e ≡ event_of s v → IsTaken (front_of c.client) c.client t n
+    → IsFollowed m e d
     → IsTakenBy (front_of (ear c s)) c s true d
 at_client c m d s v e t n at is front e_is off f =
-    subst (λ s. Some v ≡ front_of (ear c s) → e ≡ event_of s v → IsTakenBy (front_of (ear c s)) c s true d) (sym at)
+    subst (λ s. Some v ≡ front_of (ear c s) → e ≡ event_of s v
+    → IsTakenBy (front_of (ear c s)) c s true d) (sym at)
     (λ front e_is. behind_is c m d ToServer v e t front e_is
-    (subst (λ x. IsTaken (front_of c.client) c.client t x) (sym (ap (λ (x : Conversation). x.client) is)) off)
+    (subst (λ x. IsTaken (front_of c.client) c.client t x)
+    (sym (ap (λ (x : Conversation). x.client) is)) off)
     (ap (λ (x : Conversation). x.server) is) (ap (λ (x : Conversation). x.is_tls13) is)
     (ap (λ (x : Conversation). x.flow) is) f)
     front e_is
 
-pub at_server : (c m d : Conversation) (s : Side) (v : Said) (e : Event) (t : Bool) (n : Ear) → s ≡ FromServer
+pub at_server : (c m d : Conversation) (s : Side) (v : Said) (e : Event) (t : Bool) (n : Ear)
+    → s ≡ FromServer
     → m ≡ record c { server = n }
-    → Some v ≡ front_of (ear c s) → e ≡ event_of s v → IsTaken (front_of c.server) c.server t n → IsFollowed m e d
+    → Some v ≡ front_of (ear c s) → e ≡ event_of s v → IsTaken (front_of c.server) c.server t n
+    → IsFollowed m e d
     → IsTakenBy (front_of (ear c s)) c s true d
 at_server c m d s v e t n at is front e_is off f =
-    subst (λ s. Some v ≡ front_of (ear c s) → e ≡ event_of s v → IsTakenBy (front_of (ear c s)) c s true d) (sym at)
+    subst (λ s. Some v ≡ front_of (ear c s) → e ≡ event_of s v
+    → IsTakenBy (front_of (ear c s)) c s true d) (sym at)
     (λ front e_is. behind_is c m d FromServer v e t front e_is
-    (subst (λ x. IsTaken (front_of c.server) c.server t x) (sym (ap (λ (x : Conversation). x.server) is)) off)
+    (subst (λ x. IsTaken (front_of c.server) c.server t x)
+    (sym (ap (λ (x : Conversation). x.server) is)) off)
     (ap (λ (x : Conversation). x.client) is) (ap (λ (x : Conversation). x.is_tls13) is)
     (ap (λ (x : Conversation). x.flow) is) f)
     front e_is
 
--- What stands in front of a side was taken off, and its event followed.
+-- A side's next event was taken and followed.
 pub client_taken : (c m d : Conversation) (s : Side) (e : Event) (t : Bool) (n : Ear) → s ≡ ToServer
-    → m ≡ record c { client = n } → IsTaken (front_of c.client) c.client t n → t ≡ true → IsFollowed m e d
+    → m ≡ record c { client = n } → IsTaken (front_of c.client) c.client t n → t ≡ true
+    → IsFollowed m e d
     → IsEventOf e s (front_of (ear c s)) → IsTakenBy (front_of (ear c s)) c s true d
 client_taken c m d s e t n at is off took f same =
-    subst (λ s. IsEventOf e s (front_of (ear c s)) → IsTakenBy (front_of (ear c s)) c s true d) (sym at)
+    subst (λ s. IsEventOf e s (front_of (ear c s)) → IsTakenBy (front_of (ear c s)) c s true d)
+    (sym at)
     (by (front_of c.client) refl off) same
   where
     by : (o : Option Said) → front_of c.client ≡ o → IsTaken o c.client t n
         → IsEventOf e ToServer (front_of c.client) → IsTakenBy (front_of c.client) c ToServer true d
     by None front none same = let bad : true ≡ false = sym took ∙ none.0 in absurd cc
     by (Some v) front some same =
-        at_client c m d ToServer v e t n refl is (sym front) (subst (IsEventOf e ToServer) front same) off f
+        at_client c m d ToServer v e t n refl is (sym front)
+        (subst (IsEventOf e ToServer) front same) off f
 
-pub server_taken : (c m d : Conversation) (s : Side) (e : Event) (t : Bool) (n : Ear) → s ≡ FromServer
-    → m ≡ record c { server = n } → IsTaken (front_of c.server) c.server t n → t ≡ true → IsFollowed m e d
+pub server_taken : (c m d : Conversation) (s : Side) (e : Event) (t : Bool) (n : Ear)
+    → s ≡ FromServer
+    → m ≡ record c { server = n } → IsTaken (front_of c.server) c.server t n → t ≡ true
+    → IsFollowed m e d
     → IsEventOf e s (front_of (ear c s)) → IsTakenBy (front_of (ear c s)) c s true d
 server_taken c m d s e t n at is off took f same =
-    subst (λ s. IsEventOf e s (front_of (ear c s)) → IsTakenBy (front_of (ear c s)) c s true d) (sym at)
+    subst (λ s. IsEventOf e s (front_of (ear c s)) → IsTakenBy (front_of (ear c s)) c s true d)
+    (sym at)
     (by (front_of c.server) refl off) same
   where
     by : (o : Option Said) → front_of c.server ≡ o → IsTaken o c.server t n
-        → IsEventOf e FromServer (front_of c.server) → IsTakenBy (front_of c.server) c FromServer true d
+        → IsEventOf e FromServer (front_of c.server)
+        → IsTakenBy (front_of c.server) c FromServer true d
     by None front none same = let bad : true ≡ false = sym took ∙ none.0 in absurd cc
     by (Some v) front some same =
-        at_server c m d FromServer v e t n refl is (sym front) (subst (IsEventOf e FromServer) front same) off f
+        at_server c m d FromServer v e t n refl is (sym front)
+        (subst (IsEventOf e FromServer) front same) off f
 
--- Nothing stands there.
+-- The side has no next event.
 pub client_silent : (c m : Conversation) (s : Side) (t : Bool) (n : Ear) → s ≡ ToServer
     → m ≡ record c { client = n } → IsTaken (front_of c.client) c.client t n → t ≡ false
     → IsTakenBy (front_of (ear c s)) c s false m
@@ -203,7 +226,7 @@ server_silent c m s t n at is off none =
     by None off = (refl, is ∙ ap (λ x. record c { server = x }) off.1)
     by (Some v) off = let bad : true ≡ false = sym off.0 ∙ none in absurd cc
 
--- All that a side says is taken off, one after the other: what it says then, it said behind what was taken.
+-- A side's events are taken one by one: what it says after them, it said before them too.
 pub record IsOn (c : Conversation) (s : Side) (m : Conversation) : Type 0 where
   pub ready : IsReady (ear m s)
   pub on : (vs : List Said) (d : Conversation) → Says m s vs d → (us : List Said) × Says c s us d
@@ -222,38 +245,44 @@ on_more c m n s t on took taken ready = go (front_of (ear m s)) taken
   where
     go : (o : Option Said) → IsTakenBy o m s t n → IsOn c s n
     go None taken = let e : true ≡ false = sym took ∙ taken.0 in absurd cc
-    go (Some v) taken = record { ready = ready on.ready; on = λ vs d h. on.on (v ∷ vs) d (n, taken.1, h) }
+    go (Some v) taken =
+        record { ready = ready on.ready; on = λ vs d h. on.on (v ∷ vs) d (n, taken.1, h) }
 
 pub on_done : (c m n : Conversation) (s : Side) (t : Bool) → IsOn c s m → t ≡ false
     → IsTakenBy (front_of (ear m s)) m s t n
     → (vs : List Said) × Says c s vs n
 on_done c m n s t on none taken = go (front_of (ear m s)) refl taken
   where
-    go : (o : Option Said) → front_of (ear m s) ≡ o → IsTakenBy o m s t n → (vs : List Said) × Says c s vs n
+    go : (o : Option Said) → front_of (ear m s) ≡ o → IsTakenBy o m s t n
+        → (vs : List Said) × Says c s vs n
     go None is taken =
         on.on [] n (none_first (says (ear m s) []) (on.ready ∙ is), taken.1)
     go (Some v) is taken = let e : true ≡ false = sym taken.0 ∙ none in absurd cc
 
--- Where TLS 1.3 was told, an event is one less.
-same_count : (c : Conversation) (e : Event) (a b : Ear) → c.is_tls13 ≡ true → IsToldIf (tells c e) a b
+-- Once TLS 1.3 is chosen, taking an event leaves one fewer.
+same_count : (c : Conversation) (e : Event) (a b : Ear) → c.is_tls13 ≡ true
+    → IsToldIf (tells c e) a b
     → says a [] ≡ says b []
 same_count c e a b told same =
-    (subst (λ t. IsToldIf t a b) (ap (λ x. not x && chooses_tls13 e.symbol.kind e.symbol.direction) told) same) []
+    (subst (λ t. IsToldIf t a b)
+    (ap (λ x. not x && chooses_tls13 e.symbol.kind e.symbol.direction) told) same) []
 
 pub fewer : (m n : Conversation) (s : Side) (t : Bool) → m.is_tls13 ≡ true → t ≡ true
     → IsTakenBy (front_of (ear m s)) m s t n
     → length (says (ear n s) []) < length (says (ear m s) [])
 fewer m n s t told took taken = go (front_of (ear m s)) taken
   where
-    go : (o : Option Said) → IsTakenBy o m s t n → length (says (ear n s) []) < length (says (ear m s) [])
+    go : (o : Option Said) → IsTakenBy o m s t n
+        → length (says (ear n s) []) < length (says (ear m s) [])
     go None taken = let e : true ≡ false = sym took ∙ taken.0 in absurd cc
     go (Some v) taken =
         let e = taken.1.side.0 in
         let one : says (ear m s) [] ≡ v ∷ says e [] = taken.1.side.1 [] in
-        let same : says e [] ≡ says (ear n s) [] = same_count m (event_of s v) e (ear n s) told taken.1.side.2 in
+        let same : says e [] ≡ says (ear n s) [] =
+        same_count m (event_of s v) e (ear n s) told taken.1.side.2 in
         omega (arith, ap length one, ap length same)
 
--- Before, an event is one less or TLS 1.3 is told by it.
+-- Before that, taking an event leaves one fewer, or it chooses TLS 1.3.
 abbrev pub left_untold : Conversation → Side → ℕ
 left_untold c s = cond c.is_tls13 0 (suc (length (says (ear c s) [])))
 
@@ -265,15 +294,20 @@ fewer_untold m n s t untold took taken = go (front_of (ear m s)) taken
     by : (v : Said) (b : Bool) → tells m (event_of s v) ≡ b → IsBehind m s v n
         → left_untold n s < suc (length (says (ear m s) []))
     by v true at behind =
-        let told : n.is_tls13 ≡ true = behind.is_tls13 ∙ ap (λ b. m.is_tls13 || b) at ∙ ap (λ b. b || true) untold in
-        subst (λ b. cond b 0 (suc (length (says (ear n s) []))) < suc (length (says (ear m s) []))) (sym told)
+        let told : n.is_tls13 ≡ true = behind.is_tls13 ∙ ap (λ b. m.is_tls13 || b) at
+        ∙ ap (λ b. b || true) untold in
+        subst (λ b. cond b 0 (suc (length (says (ear n s) []))) < suc (length (says (ear m s) [])))
+        (sym told)
         (omega arith)
     by v false at behind =
         let e = behind.side.0 in
         let one : says (ear m s) [] ≡ v ∷ says e [] = behind.side.1 [] in
-        let same : says e [] ≡ says (ear n s) [] = (subst (λ b. IsToldIf b e (ear n s)) at behind.side.2) [] in
-        let still : n.is_tls13 ≡ false = behind.is_tls13 ∙ ap (λ b. m.is_tls13 || b) at ∙ ap (λ b. b || false) untold in
-        subst (λ b. cond b 0 (suc (length (says (ear n s) []))) < suc (length (says (ear m s) []))) (sym still)
+        let same : says e [] ≡ says (ear n s) [] =
+        (subst (λ b. IsToldIf b e (ear n s)) at behind.side.2) [] in
+        let still : n.is_tls13 ≡ false = behind.is_tls13 ∙ ap (λ b. m.is_tls13 || b) at
+        ∙ ap (λ b. b || false) untold in
+        subst (λ b. cond b 0 (suc (length (says (ear n s) []))) < suc (length (says (ear m s) [])))
+        (sym still)
         (omega (arith, ap length one, ap length same))
 
     go : (o : Option Said) → IsTakenBy o m s t n → left_untold n s < left_untold m s
@@ -282,38 +316,46 @@ fewer_untold m n s t untold took taken = go (front_of (ear m s)) taken
         subst (λ b. left_untold n s < cond b 0 (suc (length (says (ear m s) [])))) (sym untold)
         (by v (tells m (event_of s v)) refl taken.1)
 
-still_by : (o : Option Said) (m n : Conversation) (s : Side) (t : Bool) → m.is_tls13 ≡ true → IsTakenBy o m s t n
+still_by : (o : Option Said) (m n : Conversation) (s : Side) (t : Bool) → m.is_tls13 ≡ true
+    → IsTakenBy o m s t n
     → n.is_tls13 ≡ true
 still_by None m n s t told taken = ap (λ (x : Conversation). x.is_tls13) taken.1 ∙ told
 still_by (Some v) m n s t told taken = taken.1.is_tls13 ∙ ap (λ b. b || tells m (event_of s v)) told
 
-pub still_told : (m n : Conversation) (s : Side) (t : Bool) → m.is_tls13 ≡ true → IsTakenBy (front_of (ear m s)) m s t n
+pub still_told : (m n : Conversation) (s : Side) (t : Bool) → m.is_tls13 ≡ true
+    → IsTakenBy (front_of (ear m s)) m s t n
     → n.is_tls13 ≡ true
 still_told m n s t told taken = still_by (front_of (ear m s)) m n s t told taken
 
--- These pieces were heard from the beginning.
+-- These pieces arrived from the beginning.
 abbrev pub AreHeard : ℕ → List (Side × Bytes) → Conversation → Type 0
 AreHeard limit ps d = (c : Conversation) × (es : List Event) × IsBegun limit c × Hears c ps es d
 
 pub none_heard : (limit : ℕ) (c : Conversation) → IsBegun limit c → AreHeard limit [] c
 none_heard limit c begun = (c, [], begun, (refl, refl))
 
-pub piece_heard : (limit : ℕ) (pieces : List (Side × Bor (List ℕ))) (i : ℕ) (q : Side × Bor (List ℕ))
+pub piece_heard : (limit : ℕ) (pieces : List (Side × Bor (List ℕ))) (i : ℕ)
+    (q : Side × Bor (List ℕ))
     (d e : Conversation) → i < length pieces
-    → AreHeard limit (views (take i pieces)) d → IsHeard d (get_or pieces i q).0 (get_or pieces i q).1.now e
+    → AreHeard limit (views (take i pieces)) d
+    → IsHeard d (get_or pieces i q).0 (get_or pieces i q).1.now e
     → AreHeard limit (views (take (i + 1) pieces)) e
 piece_heard limit pieces i q d e within heard last =
-    let k = one_more heard.0 d e (views (take i pieces)) heard.1 (get_or pieces i q).0 (get_or pieces i q).1.now heard.3
+    let k = one_more heard.0 d e (views (take i pieces)) heard.1 (get_or pieces i q).0
+    (get_or pieces i q).1.now heard.3
     last in
     let one : i + 1 ≡ suc i = omega arith in
     let next : views (take (i + 1) pieces)
     ≡ views (take i pieces) ++ ((get_or pieces i q).0, (get_or pieces i q).1.now) ∷ []
     = ap (λ k. views (take k pieces)) one ∙ ap views (take-suc pieces i q within)
-    ∙ map-append (λ (p : Side × Bor (List ℕ)). (p.0, p.1.now)) (take i pieces) (get_or pieces i q ∷ []) in
+    ∙ map-append (λ (p : Side × Bor (List ℕ)). (p.0, p.1.now)) (take i pieces)
+    (get_or pieces i q ∷ []) in
     (heard.0, k.0, heard.2, subst (λ ps. Hears heard.0 ps k.0 e) (sym next) k.1)
 
-pub all_heard : (limit : ℕ) (pieces : List (Side × Bor (List ℕ))) (i : ℕ) (d : Conversation) → length pieces ≤ i
-    → AreHeard limit (views (take i pieces)) d → IsOutcomeOf (outcome_at d.flow.state) limit (views pieces)
+pub all_heard : (limit : ℕ) (pieces : List (Side × Bor (List ℕ))) (i : ℕ) (d : Conversation)
+    → length pieces ≤ i
+    → AreHeard limit (views (take i pieces)) d
+    → IsOutcomeOf (outcome_at d.flow.state) limit (views pieces)
 all_heard limit pieces i d all heard =
     subst (λ ps. IsOutcomeOf (outcome_at d.flow.state) limit (views ps)) (take_all i pieces all)
     (outcome_is heard.0 d limit (views (take i pieces)) heard.1 heard.2 heard.3)

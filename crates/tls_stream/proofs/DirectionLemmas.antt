@@ -1,4 +1,4 @@
--- What a direction says, and where it ends.
+-- The events of a direction, up to its fault.
 use Rattle.std.proofs.Common.{
   ◌≡◌,
   List,
@@ -41,7 +41,7 @@ use Rattle.tls_stream.proofs.StreamLemmas as streams
 abbrev with_stream : Direction → Stream → Direction
 with_stream d s = record d { stream = s }
 
--- What is fed in two pieces.
+-- Feeding two pieces.
 pub fed_twice : (d : Direction) (s t : Bytes) → fed (fed d s) t ≡ fed d (s ++ t)
 fed_twice d s t = ap (with_stream d) (go d.fault)
   where
@@ -62,18 +62,23 @@ fed_is : (d : Direction) (ps : List Bytes) → fed_all d ps ≡ fed d (concat ps
 fed_is d [] = sym (fed_nothing d)
 fed_is d (p ∷ ps) = fed_is (fed d p) ps ∙ fed_twice d p (concat ps)
 
-pub fed_joined : (d : Direction) (ps qs : List Bytes) → concat ps ≡ concat qs → fed_all d ps ≡ fed_all d qs
+pub fed_joined : (d : Direction) (ps qs : List Bytes) → concat ps ≡ concat qs
+    → fed_all d ps ≡ fed_all d qs
 fed_joined d ps qs same = fed_is d ps ∙ ap (fed d) same ∙ sym (fed_is d qs)
 
--- By whether it was found to be at fault.
-pub events_at_fault : (d : Direction) (f : Fault) (s : Bytes) → d.fault ≡ Some f → events (fed d s) ≡ Failed f ∷ []
-events_at_fault d f s e = ap (λ (o : Option Fault). events (record { stream = with_more o d.stream s; fault = o })) e
+-- By whether the direction is at fault.
+pub events_at_fault : (d : Direction) (f : Fault) (s : Bytes) → d.fault ≡ Some f
+    → events (fed d s) ≡ Failed f ∷ []
+events_at_fault d f s e =
+    ap (λ (o : Option Fault). events (record { stream = with_more o d.stream s; fault = o })) e
 
 pub events_before : (d : Direction) (s : Bytes) → d.fault ≡ None
     → events (fed d s) ≡ stream.events (stream.fed d.stream s)
-events_before d s e = ap (λ (o : Option Fault). events (record { stream = with_more o d.stream s; fault = o })) e
+events_before d s e =
+    ap (λ (o : Option Fault). events (record { stream = with_more o d.stream s; fault = o })) e
 
-pub same_streams : (d : Direction) (x y : Bytes) → joined_items (items_with d x) ≡ joined_items (items_with d y)
+pub same_streams : (d : Direction) (x y : Bytes)
+    → joined_items (items_with d x) ≡ joined_items (items_with d y)
     → events (fed d x) ≡ events (fed d y)
 same_streams d x y same = go d.fault refl
   where
@@ -81,19 +86,22 @@ same_streams d x y same = go d.fault refl
     go (Some f) e = events_at_fault d f x e ∙ sym (events_at_fault d f y e)
     go None e =
         events_before d x e
-        ∙ same_joined d.stream.limit d.stream.kind d.stream.held.part (items_with d x) (items_with d y) same
+        ∙ same_joined d.stream.limit d.stream.kind d.stream.held.part (items_with d x)
+        (items_with d y) same
         ∙ sym (events_before d y e)
 
--- The event in front is the first of all.
+-- The next event is the first of all.
 pub first_event : (d e : Direction) (v : Event) (s : Bytes) → first d ≡ Some (v, e)
     → events (fed d s) ≡ v ∷ events (fed e s)
 first_event d e v s is = go d.fault refl is
   where
-    one : (a : Option (Event × Stream)) → stream.first d.stream ≡ a → none_behind None a ≡ Some (v, e)
+    one : (a : Option (Event × Stream)) → stream.first d.stream ≡ a
+        → none_behind None a ≡ Some (v, e)
         → stream.events (stream.fed d.stream s) ≡ v ∷ events (fed e s)
     one None f g = absurd cc
     one (Some x) f g =
-        let same : ◌≡◌ {A = Event × Direction} (x.0, record { stream = x.1; fault = None }) (v, e) = cc in
+        let same : ◌≡◌ {A = Event × Direction} (x.0, record { stream = x.1; fault = None }) (v, e) =
+        cc in
         streams.first_event d.stream x.1 x.0 s f
         ∙ ap (λ (p : Event × Direction). p.0 ∷ events (fed p.1 s)) same
 
@@ -105,12 +113,14 @@ first_event d e v s is = go d.fault refl is
 abbrev event_in : Option (Event × Direction) → Option Event
 event_in a = option_map (λ (x : Event × Direction). x.0) a
 
--- What stands in front, where it wasn't found to be at fault.
+-- The next event, if the direction isn't at fault.
 pub front_before : (d : Direction) → d.fault ≡ None
     → option_map (λ (x : Event × Stream). x.0) (stream.first d.stream)
     ≡ option_map (λ (x : Event × Direction). x.0) (first d)
-front_before d e = go (stream.first d.stream) ∙ ap (λ o. event_in (none_behind o (stream.first d.stream))) (sym e)
+front_before d e = go (stream.first d.stream)
+    ∙ ap (λ o. event_in (none_behind o (stream.first d.stream))) (sym e)
   where
-    go : (a : Option (Event × Stream)) → option_map (λ (x : Event × Stream). x.0) a ≡ event_in (none_behind None a)
+    go : (a : Option (Event × Stream))
+        → option_map (λ (x : Event × Stream). x.0) a ≡ event_in (none_behind None a)
     go None = refl
     go (Some x) = refl

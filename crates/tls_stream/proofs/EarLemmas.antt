@@ -40,7 +40,7 @@ speaking d = record { direction = d; standing = Speaks }
 abbrev pub faulty : Direction → Fault → Ear
 faulty d f = record { direction = d; standing = AtFault f }
 
--- Nothing more comes.
+-- Nothing follows.
 pub none_to_come : (d : Direction) → events (fed d []) ≡ events d
 none_to_come d = ap events (fed_nothing d)
 
@@ -63,20 +63,23 @@ ready_some d some = go (first d) refl some
 pub ready_none : (d : Direction) → events d ≡ [] → IsReady (speaking d)
 ready_none d none = go (first d) refl
   where
-    go : (a : Option (Said × Direction)) → first d ≡ a → first_in (events (fed d [])) ≡ option_map (λ x. x.0) a
+    go : (a : Option (Said × Direction)) → first d ≡ a
+        → first_in (events (fed d [])) ≡ option_map (λ x. x.0) a
     go None is = ap first_in (none_to_come d ∙ none)
     go (Some x) is =
-        let e : x.0 ∷ events (fed x.1 []) ≡ [] = sym (first_event d x.1 x.0 [] is) ∙ none_to_come d ∙ none in
+        let e : x.0 ∷ events (fed x.1 []) ≡ [] = sym (first_event d x.1 x.0 [] is)
+        ∙ none_to_come d ∙ none in
         absurd cc
 
--- A further piece.
+-- Another piece.
 pub fed_more : (d : Direction) (p t : Bytes) → events (fed d (p ++ t)) ≡ events (fed (fed d p) t)
 fed_more d p t = ap events (sym (fed_twice d p t))
 
-pub fed_is : (d n : Direction) (p : Bytes) (e : Ear) → n ≡ fed d p → SaysAs (speaking n) e → IsFed (speaking d) p e
+pub fed_is : (d n : Direction) (p : Bytes) (e : Ear) → n ≡ fed d p → SaysAs (speaking n) e
+    → IsFed (speaking d) p e
 fed_is d n p e is same t = fed_more d p t ∙ ap (λ m. events (fed m t)) (sym is) ∙ same t
 
--- What stands in front is taken off.
+-- The next event is taken.
 pub taken_is : (d n : Direction) (e : Ear) → FirstTaken (first d) d true n → SaysAs (speaking n) e
     → IsTaken (front_of (speaking d)) (speaking d) true e
 taken_is d n e off same = go (first d) refl off
@@ -99,13 +102,16 @@ none_taken d n off = go (first d) off
     go None off = (refl, ap speaking off.1)
     go (Some x) off = let t : false ≡ true = off.0 in absurd cc
 
--- By how the side stands.
+-- By the side's standing.
 pub ready_by : (s : Standing) (d : Direction) (b : Bool) → s ≡ Speaks → IsMadeReady d (Ok b)
     → IsReady (record { direction = d; standing = s })
-ready_by s d true is h = subst (λ s. IsReady (record { direction = d; standing = s })) (sym is) (ready_some d h)
-ready_by s d false is h = subst (λ s. IsReady (record { direction = d; standing = s })) (sym is) (ready_none d h)
+ready_by s d true is h =
+    subst (λ s. IsReady (record { direction = d; standing = s })) (sym is) (ready_some d h)
+ready_by s d false is h =
+    subst (λ s. IsReady (record { direction = d; standing = s })) (sym is) (ready_none d h)
 
-pub ready_silent : (s : Standing) (d : Direction) → (s ≡ Speaks → ⊥) → IsReady (record { direction = d; standing = s })
+pub ready_silent : (s : Standing) (d : Direction) → (s ≡ Speaks → ⊥)
+    → IsReady (record { direction = d; standing = s })
 ready_silent Speaks d other = absurd (other refl)
 ready_silent (AtFault f) d other = refl
 ready_silent Over d other = refl
@@ -113,18 +119,23 @@ ready_silent Over d other = refl
 pub taken_by : (s : Standing) (d n : Direction) (e : Ear) (t : Bool) → s ≡ Speaks → t ≡ true
     → FirstTaken (first d) d t n
     → SaysAs (record { direction = n; standing = s }) e
-    → IsTaken (front_of (record { direction = d; standing = s })) (record { direction = d; standing = s }) t e
+    → IsTaken (front_of (record { direction = d; standing = s }))
+    (record { direction = d; standing = s }) t e
 taken_by s d n e t is took off same =
     let at : IsTaken (front_of (speaking d)) (speaking d) true e
     = taken_is d n e (subst (λ t. FirstTaken (first d) d t n) took off)
     (subst (λ s. SaysAs (record { direction = n; standing = s }) e) is same) in
-    subst (λ t. IsTaken (front_of (record { direction = d; standing = s })) (record { direction = d; standing = s }) t
+    subst (λ t. IsTaken (front_of (record { direction = d; standing = s }))
+    (record { direction = d; standing = s }) t
     e) (sym took)
-    (subst (λ s. IsTaken (front_of (record { direction = d; standing = s })) (record { direction = d; standing = s })
+    (subst (λ s. IsTaken (front_of (record { direction = d; standing = s }))
+    (record { direction = d; standing = s })
     true e) (sym is) at)
 
-pub kept_ready : (s : Standing) (d n : Direction) (t : Bool) → t ≡ false → FirstTaken (first d) d t n
-    → IsReady (record { direction = d; standing = s }) → IsReady (record { direction = n; standing = s })
+pub kept_ready : (s : Standing) (d n : Direction) (t : Bool) → t ≡ false
+    → FirstTaken (first d) d t n
+    → IsReady (record { direction = d; standing = s })
+    → IsReady (record { direction = n; standing = s })
 kept_ready s d n t none off ready =
     subst (λ m. IsReady (record { direction = m; standing = s }))
     (sym (is (first d) (subst (λ t. FirstTaken (first d) d t n) none off))) ready

@@ -59,21 +59,22 @@ above f b l =
     ap (λ t. t && nat_lt f.limit (body_length f b)) (le-leb f.header (length b) l.has_header)
     ∙ lt-ltb f.limit (body_length f b) l.above
 
--- A length that is too large ends all.
+-- A length that is too large ends everything.
 pub large_or : (f : Shape) (b : Bytes) (others : List Event) → IsTooLarge f b
     → too_large_or f b others ≡ Failed fault.TooLarge ∷ []
 large_or f b others l = ap (λ t. cond t (Failed fault.TooLarge ∷ []) others) (above f b l)
 
 pub large_closed : (f : Shape) (b : Bytes) (others : List Event) → 0 < f.header → IsTooLarge f b
     → closed f b others ≡ Failed fault.TooLarge ∷ []
-large_closed f [] others some l = let h : f.header ≤ 0 = l.has_header in absurd (omega (arith, some, h))
+large_closed f [] others some l = let h : f.header ≤ 0 = l.has_header in
+    absurd (omega (arith, some, h))
 large_closed f (c ∷ b) others some l = large_or f (c ∷ b) (Failed fault.Interrupted ∷ []) l
 
 module _ (limit kind : ℕ) where
   abbrev shape : Shape
   shape = messages_of limit kind
 
-  -- A message goes off the part.
+  -- A message is taken off the part.
   said_then : (X : Bytes → List Event) (b : Bytes) (x : Bytes × Bytes) → front shape b ≡ Some x
       → said limit kind b ++ X (open_part limit kind b)
       ≡ event_of kind x.0 ∷ (said limit kind x.1 ++ X (open_part limit kind x.1))
@@ -88,17 +89,20 @@ module _ (limit kind : ℕ) where
   message_first b x e (Fragment k f ∷ is) =
       go (k == kind) (message_first (b ++ f) (x.0, x.1 ++ f) (front_stays shape b f x e) is)
     where
-      go : (t : Bool) → events_of limit kind (b ++ f) is ≡ event_of kind x.0 ∷ events_of limit kind (x.1 ++ f) is
+      go : (t : Bool)
+          → events_of limit kind (b ++ f) is ≡ event_of kind x.0 ∷ events_of limit kind (x.1 ++ f) is
           → cond t (events_of limit kind (b ++ f) is)
           (said limit kind b ++ closed shape (open_part limit kind b) (events_of limit k f is))
           ≡ event_of kind x.0 ∷ cond t (events_of limit kind (x.1 ++ f) is)
           (said limit kind x.1 ++ closed shape (open_part limit kind x.1) (events_of limit k f is))
       go true again = again
       go false again = said_then (λ l. closed shape l (events_of limit k f is)) b x e
-  message_first b x e (Alone a ∷ is) = said_then (λ l. closed shape l (a ∷ events_of limit kind [] is)) b x e
-  message_first b x e (Broken k ∷ is) = said_then (λ l. too_large_or shape l (Failed (fault.Refused k) ∷ [])) b x e
+  message_first b x e (Alone a ∷ is) =
+      said_then (λ l. closed shape l (a ∷ events_of limit kind [] is)) b x e
+  message_first b x e (Broken k ∷ is) =
+      said_then (λ l. too_large_or shape l (Failed (fault.Refused k) ∷ [])) b x e
 
-  -- No message stands in front of the part.
+  -- The part starts with no message.
   pub none_then : (X : Bytes → List Event) (b : Bytes) → front shape b ≡ None
       → said limit kind b ++ X (open_part limit kind b) ≡ X b
   none_then X b e =
@@ -107,8 +111,10 @@ module _ (limit kind : ℕ) where
 
   pub large_first : (b : Bytes) → IsTooLarge shape b → (is : List Item)
       → events_of limit kind b is ≡ Failed fault.TooLarge ∷ []
-  large_first b l [] = none_then (λ l. too_large_or shape l []) b (none_large shape b l) ∙ large_or shape b [] l
-  large_first b l (Fragment k f ∷ is) = go (k == kind) (large_first (b ++ f) (large_longer shape b f l) is)
+  large_first b l [] = none_then (λ l. too_large_or shape l []) b (none_large shape b l)
+      ∙ large_or shape b [] l
+  large_first b l (Fragment k f ∷ is) =
+      go (k == kind) (large_first (b ++ f) (large_longer shape b f l) is)
     where
       go : (t : Bool) → events_of limit kind (b ++ f) is ≡ Failed fault.TooLarge ∷ []
           → cond t (events_of limit kind (b ++ f) is)
@@ -125,7 +131,7 @@ module _ (limit kind : ℕ) where
       none_then (λ l. too_large_or shape l (Failed (fault.Refused k) ∷ [])) b (none_large shape b l)
       ∙ large_or shape b (Failed (fault.Refused k) ∷ []) l
 
--- A fragment is one with others of its type behind it.
+-- A fragment joins with following ones of its type.
 onto_same : (limit kind k : ℕ) (b f : Bytes) (is : List Item)
     → events_of limit kind b (onto_fragment k f is) ≡ events_of limit kind b (Fragment k f ∷ is)
 onto_same limit kind k b f [] = refl
@@ -163,16 +169,21 @@ joined_same limit kind b [] = refl
 joined_same limit kind b (Fragment k f ∷ is) =
     onto_same limit kind k b f (joined_items is)
     ∙ ap (λ es. cond (k == kind) es (said limit kind b
-    ++ closed (messages_of limit kind) (open_part limit kind b) (events_of limit k f (joined_items is))))
+    ++ closed (messages_of limit kind) (open_part limit kind b)
+    (events_of limit k f (joined_items is))))
     (joined_same limit kind (b ++ f) is)
     ∙ ap (λ es. cond (k == kind) (events_of limit kind (b ++ f) is)
-    (said limit kind b ++ closed (messages_of limit kind) (open_part limit kind b) es)) (joined_same limit k f is)
+    (said limit kind b ++ closed (messages_of limit kind) (open_part limit kind b) es)) (joined_same
+    limit k f is)
 joined_same limit kind b (Alone a ∷ is) =
-    ap (λ es. said limit kind b ++ closed (messages_of limit kind) (open_part limit kind b) (a ∷ es))
+    ap (λ es. said limit kind b ++ closed (messages_of limit kind)
+    (open_part limit kind b) (a ∷ es))
     (joined_same limit kind [] is)
 joined_same limit kind b (Broken e ∷ is) = refl
 
-pub same_joined : (limit kind : ℕ) (part : Bytes) (is js : List Item) → joined_items is ≡ joined_items js
+pub same_joined : (limit kind : ℕ) (part : Bytes) (is js : List Item)
+    → joined_items is ≡ joined_items js
     → events_of limit kind part is ≡ events_of limit kind part js
 same_joined limit kind part is js same =
-    sym (joined_same limit kind part is) ∙ ap (events_of limit kind part) same ∙ joined_same limit kind part js
+    sym (joined_same limit kind part is) ∙ ap (events_of limit kind part) same
+    ∙ joined_same limit kind part js

@@ -1,4 +1,4 @@
--- The frame that stands in front.
+-- The first frame of some bytes.
 use Rattle.std.proofs.Common.{
   ◌≡◌,
   ◌↔◌,
@@ -45,20 +45,22 @@ use Rattle.tls_stream.specs.Frames.{
 abbrev pub in_two : Shape → Bytes → Bytes × Bytes
 in_two f b = (take (size f b) b, drop (size f b) b)
 
--- What stands in front of some bytes.
+-- The cases of some bytes' first frame.
 pub data Stands (f : Shape) (b : Bytes) : Type 0 where
   Large : IsTooLarge f b → front f b ≡ None → Stands f b
   Part : NeedsMore f b → front f b ≡ None → Stands f b
   One : IsWhole f b → body_length f b ≤ f.limit → front f b ≡ Some (in_two f b) → Stands f b
 
 front_is : (f : Shape) (b : Bytes) (t s : Bool) → nat_le (size f b) (length b) ≡ t
-    → nat_le (body_length f b) f.limit ≡ s → front f b ≡ cond t (cond s (Some (in_two f b)) None) None
+    → nat_le (body_length f b) f.limit ≡ s
+    → front f b ≡ cond t (cond s (Some (in_two f b)) None) None
 unfolding front
 front_is f b t s e g =
     ap (λ t. cond t (cond (nat_le (body_length f b) f.limit) (Some (in_two f b)) None) None) e
     ∙ ap (λ s. cond t (cond s (Some (in_two f b)) None) None) g
 
-not_whole : (f : Shape) (b : Bytes) (t : Bool) → length b < size f b → cond t (Some (in_two f b)) None ≡ None → Unit {0}
+not_whole : (f : Shape) (b : Bytes) (t : Bool) → length b < size f b
+    → cond t (Some (in_two f b)) None ≡ None → Unit {0}
 not_whole f b t h e = tt
 
 pub stands : (f : Shape) (b : Bytes) → Stands f b
@@ -70,25 +72,30 @@ stands f b = go (nat_le (size f b) (length b)) (nat_le (body_length f b) f.limit
     go true true h e g k = One (leb-true _ _ e) (leb-true _ _ g) (front_is f b true true e g)
     go true false h e g k =
         let enough : size f b ≤ length b = leb-true _ _ e in
-        Large (record { has_header = omega (arith, enough); above = leb-false _ _ g }) (front_is f b true false e g)
+        Large (record { has_header = omega (arith, enough); above = leb-false _ _ g })
+        (front_is f b true false e g)
     go false true h e g k =
         let small : body_length f b ≤ f.limit = leb-true _ _ g in
         let short : length b < size f b = leb-false _ _ e in
-        Part (λ w. omega (arith, w, short), λ w. omega (arith, w.above, small)) (front_is f b false true e g)
-    go false false true e g k = Large (record { has_header = leb-true _ _ k; above = leb-false _ _ g })
+        Part (λ w. omega (arith, w, short), λ w. omega (arith, w.above, small))
+        (front_is f b false true e g)
+    go false false true e g k =
+        Large (record { has_header = leb-true _ _ k; above = leb-false _ _ g })
         (front_is f b false false e g)
     go false false false e g k =
         let short : length b < f.header = leb-false _ _ k in
-        Part (λ w. omega (arith, w, short), λ w. omega (arith, w.has_header, short)) (front_is f b false false e g)
+        Part (λ w. omega (arith, w, short), λ w. omega (arith, w.has_header, short))
+        (front_is f b false false e g)
 
--- What is there of a frame that is in front.
+-- What is known of a first frame.
 pub record IsFirst (f : Shape) (b x r : Bytes) : Type 0 where
   pub is_whole : size f b ≤ length b
   pub is_small : body_length f b ≤ f.limit
   pub frame_is : x ≡ take (size f b) b
   pub rest_is : r ≡ drop (size f b) b
 
-pub first_in : (f : Shape) (b : Bytes) (x : Bytes × Bytes) → front f b ≡ Some x → IsFirst f b x.0 x.1
+pub first_in : (f : Shape) (b : Bytes) (x : Bytes × Bytes) → front f b ≡ Some x
+    → IsFirst f b x.0 x.1
 first_in f b x e = go (stands f b)
   where
     go : Stands f b → IsFirst f b x.0 x.1
@@ -96,9 +103,16 @@ first_in f b x e = go (stands f b)
     go (Part w g) = let h = sym g ∙ e in absurd cc
     go (One w s g) =
         let same : ◌≡◌ {A = Bytes × Bytes} x (in_two f b) = let h = sym e ∙ g in cc in
-        record { is_whole = w; is_small = s; frame_is = ap (λ x. x.0) same; rest_is = ap (λ x. x.1) same }
+        record {
+          is_whole = w;
+          is_small = s;
+          frame_is = ap (λ x. x.0) same;
+          rest_is =
+              ap (λ x. x.1) same;
+        }
 
-pub whole_front : (f : Shape) (b : Bytes) → IsWhole f b → body_length f b ≤ f.limit → front f b ≡ Some (in_two f b)
+pub whole_front : (f : Shape) (b : Bytes) → IsWhole f b → body_length f b ≤ f.limit
+    → front f b ≡ Some (in_two f b)
 whole_front f b w s = go (stands f b)
   where
     go : Stands f b → front f b ≡ Some (in_two f b)
@@ -122,11 +136,12 @@ none_part f b n = go (stands f b)
     go (Part n g) = g
     go (One w s g) = absurd (n w)
 
--- The frame and the rest are the bytes.
+-- The frame followed by the rest is the bytes.
 pub front_joins : (f : Shape) (b : Bytes) (x : Bytes × Bytes) → front f b ≡ Some x → x.0 ++ x.1 ≡ b
 front_joins f b x e =
     let i = first_in f b x e in
-    ap (λ y. y ++ x.1) i.frame_is ∙ ap (λ r. take (size f b) b ++ r) i.rest_is ∙ take-append-drop (size f b) b
+    ap (λ y. y ++ x.1) i.frame_is ∙ ap (λ r. take (size f b) b ++ r) i.rest_is
+    ∙ take-append-drop (size f b) b
 
 pub front_fewer : (f : Shape) (b : Bytes) (x : Bytes × Bytes) → 0 < f.header → front f b ≡ Some x
     → length x.1 < length b
@@ -134,8 +149,9 @@ front_fewer f b x takes e =
     let i = first_in f b x e in
     omega (arith, takes, i.is_whole, ap length i.rest_is, length-drop (size f b) b)
 
--- Further bytes change no header that is there.
-pub same_body : (f : Shape) (b s : Bytes) → f.header ≤ length b → body_length f (b ++ s) ≡ body_length f b
+-- More bytes don't change a whole header.
+pub same_body : (f : Shape) (b s : Bytes) → f.header ≤ length b
+    → body_length f (b ++ s) ≡ body_length f b
 same_body f b s h = ap f.body_in (take-append-le f.header b s h)
 
 pub large_longer : (f : Shape) (b s : Bytes) → IsTooLarge f b → IsTooLarge f (b ++ s)
@@ -159,8 +175,9 @@ front_stays f b s x e =
     ∙ ap (λ y. Some (y, drop n (b ++ s))) (take-append-le n b s enough ∙ sym i.frame_is)
     ∙ ap (λ r. Some (x.0, r)) (drop-append-le n b s enough ∙ ap (λ r. r ++ s) (sym i.rest_is))
 
--- What calls say of the front.
-pub what_is_too_large : (f : Shape) (b : Bytes) → f.header ≤ length b → (f.limit < body_length f b) ↔ IsTooLarge f b
+-- What the calls on the first frame answer.
+pub what_is_too_large : (f : Shape) (b : Bytes) → f.header ≤ length b → (f.limit < body_length f b)
+    ↔ IsTooLarge f b
 what_is_too_large f b h = (λ a. record { has_header = h; above = a }, λ l. l.above)
 
 pub not_large : (f : Shape) (b : Bytes) → length b < f.header → IsTooLarge f b → ⊥
@@ -177,7 +194,8 @@ pub bytes_large : (f : Shape) (b : Bytes) → f.header ≤ length b → f.limit 
     → frame_of (front f b) ≡ None
 bytes_large f b h l = ap frame_of (none_large f b (record { has_header = h; above = l }))
 
-pub bytes_part : (f : Shape) (b : Bytes) → f.header ≤ length b → length b - f.header < body_length f b
+pub bytes_part : (f : Shape) (b : Bytes) → f.header ≤ length b
+    → length b - f.header < body_length f b
     → frame_of (front f b) ≡ None
 bytes_part f b h l = ap frame_of (none_part f b (λ w. omega (arith, w, h, l)))
 
@@ -188,12 +206,14 @@ pub taken_off : (f : Shape) (b y : Bytes) → Some y ≡ frame_of (front f b)
     → FrontTaken (front f b) b true (drop (length y) b)
 taken_off f b y is = go (front f b) refl is
   where
-    go : (a : Option (Bytes × Bytes)) → front f b ≡ a → Some y ≡ frame_of a → FrontTaken a b true (drop (length y) b)
+    go : (a : Option (Bytes × Bytes)) → front f b ≡ a → Some y ≡ frame_of a
+        → FrontTaken a b true (drop (length y) b)
     go None e s = absurd cc
     go (Some x) e s =
         let same : y ≡ x.0 = cc in
         let all = front_joins f b x e in
-        let rest : drop (length y) b ≡ x.1 = ap (λ y. drop (length y) b) same ∙ ap (λ b. drop (length x.0) b) (sym all)
+        let rest : drop (length y) b ≡ x.1 = ap (λ y. drop (length y) b) same
+        ∙ ap (λ b. drop (length x.0) b) (sym all)
         ∙ drop-append_seam x.0 x.1 in
         (refl, rest, sym all ∙ ap (λ r. x.0 ++ r) (sym rest))
 
@@ -206,14 +226,15 @@ shorter_frame f b y is = go (front f b) refl is
         let same : y ≡ x.0 = cc in
         omega (arith, ap length same, ap length (front_joins f b x e), length-append x.0 x.1)
 
-pub none_off : (f : Shape) (b : Bytes) → None ≡ frame_of (front f b) → FrontTaken (front f b) b false b
+pub none_off : (f : Shape) (b : Bytes) → None ≡ frame_of (front f b)
+    → FrontTaken (front f b) b false b
 none_off f b is = go (front f b) is
   where
     go : (a : Option (Bytes × Bytes)) → None ≡ frame_of a → FrontTaken a b false b
     go None s = (refl, refl)
     go (Some x) s = absurd cc
 
--- Where a frame stands.
+-- When there is a first frame.
 pub some_front : (f : Shape) (b : Bytes) → IsSome (front f b) ↔ (IsWhole f b × (IsTooLarge f b → ⊥))
 some_front f b = go (stands f b)
   where

@@ -1,4 +1,4 @@
--- Bytes that are moved within one buffer.
+-- Moving bytes within one buffer.
 use Rattle.std.proofs.Common.{◌≡◌, ℕ, ◌+◌, ◌-◌, ◌≤◌, List, ◌++◌, [], length, take, drop, refl, sym, ◌∙◌, ap, arith}
 use Rattle.std.specs.List.{copy_within}
 use Rattle.std.proofs.Math.Seq.{drop-append_seam, paste, take-add, take-length}
@@ -18,7 +18,8 @@ use Rattle.tls_stream.specs.Held.{Held}
 
 pub both : {a b c d : Bytes} → a ≡ b → c ≡ d
     → ◌≡◌ {A = Held} (record { part = a; unread = c }) (record { part = b; unread = d })
-both {b = b} {c = c} e f = ap (λ x. record { part = x; unread = c }) e ∙ ap (λ x. record { part = b; unread = x }) f
+both {b = b} {c = c} e f = ap (λ x. record { part = x; unread = c }) e
+    ∙ ap (λ x. record { part = b; unread = x }) f
 
 part_moved : (b s : Bytes) (p e n : ℕ) → p ≤ e → e ≤ length b → n ≤ length s
     → take (e + n - p) (drop p (paste b e s n)) ≡ take (e - p) (drop p b) ++ take n s
@@ -32,13 +33,15 @@ part_moved b s p e n low high few =
     ∙ ap (λ k. drop p (take k b) ++ take n s) first
     ∙ ap (λ x. x ++ take n s) (drop-take p (e - p) b)
 
--- A fragment of n bytes behind the header at u is moved to the end e of the part from p on.
+-- The n bytes of the fragment after the header at u are moved to the end e of the part, which
+-- starts at p.
 pub joined_part : (b : Bytes) (p e u n : ℕ) → p ≤ e → e ≤ u → 5 + n ≤ length (drop u b)
     → take (e + n - p) (drop p (copy_within b (u + 5) (u + 5 + n) e)) ≡ take (e - p) (drop p b)
     ++ take n (drop 5 (drop u b))
 joined_part b p e u n low mid within =
     let count : u + 5 + n - (u + 5) ≡ n = omega arith in
-    let enough : n ≤ length (drop (u + 5) b) = omega (arith, within, length-drop u b, length-drop (u + 5) b) in
+    let enough : n ≤ length (drop (u + 5) b) =
+    omega (arith, within, length-drop u b, length-drop (u + 5) b) in
     let high : e ≤ length b = omega (arith, mid, within, length-drop u b) in
     ap (λ k. take (e + n - p) (drop p (paste b e (drop (u + 5) b) k))) count
     ∙ part_moved b (drop (u + 5) b) p e n low high enough
@@ -63,9 +66,10 @@ joined_unread b e u n mid within =
     same : u + 5 + n ≡ u + (5 + n)
     same = omega arith
 
--- A fragment stays where it is where nothing is open.
+-- The fragment isn't moved if no message is open.
 pub stays_part : (b : Bytes) (p e u n : ℕ) → p ≡ e
-    → take (u + 5 + n - (u + 5)) (drop (u + 5) b) ≡ take (e - p) (drop p b) ++ take n (drop 5 (drop u b))
+    → take (u + 5 + n - (u + 5)) (drop (u + 5) b) ≡ take (e - p) (drop p b) ++ take n
+    (drop 5 (drop u b))
 stays_part b p e u n same =
     let count : u + 5 + n - (u + 5) ≡ n = omega arith in
     let none : e - p ≡ 0 = omega arith in
@@ -77,9 +81,10 @@ pub stays_unread : (b : Bytes) (u n : ℕ) → drop (u + 5 + n) b ≡ drop (5 + 
 stays_unread b u n = let same : u + 5 + n ≡ u + (5 + n) =
     omega arith in ap (λ k. drop k b) same ∙ sym (drop-drop (5 + n) u b)
 
--- What is held, moved to the beginning.
+-- The buffered bytes, moved to the beginning.
 moved : (b : Bytes) (p k u m : ℕ) → p + k ≤ u → u + m ≡ length b
-    → take (k + m) (paste (paste b 0 (drop p b) k) k (drop u (paste b 0 (drop p b) k)) m) ≡ take k (drop p b)
+    → take (k + m) (paste (paste b 0 (drop p b) k) k (drop u (paste b 0 (drop p b) k)) m) ≡ take
+    k (drop p b)
     ++ drop u b
 moved b p k u m low all =
     let s = drop p b in
@@ -87,20 +92,23 @@ moved b p k u m low all =
     let one = paste b 0 s k in
     let same : length one ≡ length b = length-paste b 0 s k (omega (arith, low, all)) few in
     let at : k ≡ 0 + k = omega arith in
-    let first : take k one ≡ take k s = ap (λ i. take i one) at ∙ take-paste b 0 s k (omega arith) few in
+    let first : take k one ≡ take k s = ap (λ i. take i one) at
+    ∙ take-paste b 0 s k (omega arith) few in
     let far : u ≡ (0 + k) + (u - k) = omega (arith, low) in
     let others : drop u one ≡ drop u b =
     ap (λ i. drop i one) far ∙ sym (drop-drop (u - k) (0 + k) one)
     ∙ ap (drop (u - k)) (drop-paste b 0 s k (omega arith) few) ∙ drop-drop (u - k) (0 + k) b
     ∙ ap (λ i. drop i b) (sym far) in
     let rest : m ≡ length (drop u b) = omega (arith, all, length-drop u b) in
-    take-paste one k (drop u one) m (omega (arith, same, low, all)) (omega (arith, rest, ap length others))
+    take-paste one k (drop u one) m (omega (arith, same, low, all))
+    (omega (arith, rest, ap length others))
     ∙ ap (λ x. x ++ take m (drop u one)) first
     ∙ ap (λ x. take k s ++ take m x) others
     ∙ ap (λ i. take k s ++ take i (drop u b)) rest
     ∙ ap (λ x. take k s ++ x) (take-length (drop u b))
 
-pub part_taken : (b : Bytes) (p e n : ℕ) → p ≤ e → n ≤ length (take (e - p) (drop p b)) → e ≤ length b
+pub part_taken : (b : Bytes) (p e n : ℕ) → p ≤ e → n ≤ length (take (e - p) (drop p b))
+    → e ≤ length b
     → take (e - (p + n)) (drop (p + n) b) ≡ drop n (take (e - p) (drop p b))
 part_taken b p e n low few high =
     let size : length (take (e - p) (drop p b)) ≡ e - p =
@@ -110,15 +118,18 @@ part_taken b p e n low few high =
     ∙ sym (drop-take n (e - (p + n)) (drop p b))
     ∙ ap (λ k. drop n (take k (drop p b))) (sym all)
 
--- Moved there, these are what was held.
-pub moved_part : (b c : Bytes) (p k u : ℕ) → k ≤ length (drop p b) → c ≡ take k (drop p b) ++ drop u b
+-- After the move the bytes are the same.
+pub moved_part : (b c : Bytes) (p k u : ℕ) → k ≤ length (drop p b)
+    → c ≡ take k (drop p b) ++ drop u b
     → take k (drop 0 c) ≡ take k (drop p b)
 moved_part b c p k u few is =
     ap (λ c. take k c) is
-    ∙ take-append-le k (take k (drop p b)) (drop u b) (omega (arith, length-take-le k (drop p b) few))
+    ∙ take-append-le k (take k (drop p b)) (drop u b)
+    (omega (arith, length-take-le k (drop p b) few))
     ∙ take-take k k (drop p b) (omega arith)
 
-pub moved_unread : (b c : Bytes) (p k u : ℕ) → k ≤ length (drop p b) → c ≡ take k (drop p b) ++ drop u b
+pub moved_unread : (b c : Bytes) (p k u : ℕ) → k ≤ length (drop p b)
+    → c ≡ take k (drop p b) ++ drop u b
     → drop k c ≡ drop u b
 moved_unread b c p k u few is =
     ap (drop k) is
@@ -126,7 +137,8 @@ moved_unread b c p k u few is =
     ∙ drop-append_seam (take k (drop p b)) (drop u b)
 
 pub room : (b c1 c2 c : Bytes) (p e u n : ℕ) → p ≤ e → e ≤ u → u ≤ length b → n ≡ length b
-    → c1 ≡ copy_within b p e 0 → c2 ≡ copy_within c1 u (length c1) (e - p) → c ≡ take (e - p + (n - u)) c2
+    → c1 ≡ copy_within b p e 0 → c2 ≡ copy_within c1 u (length c1) (e - p)
+    → c ≡ take (e - p + (n - u)) c2
     → c ≡ take (e - p) (drop p b) ++ drop u b
 room b c1 c2 c p e u n low mid high all first second third =
     let k = e - p in
@@ -140,8 +152,7 @@ room b c1 c2 c p e u n low mid high all first second third =
     ∙ ap (λ x. paste x k (drop u x) (n - u)) first)
     ∙ moved b p k u (n - u) (omega (arith, low, mid)) (omega (arith, high, all))
 
--- The part is moved in front of the fragment: k bytes of s, to the new_start e, where n bytes behind them are those of
--- b.
+-- The part is moved to the fragment: k bytes of s to the new start e, before n bytes of b.
 pub pushed_part : (b s : Bytes) (e k n : ℕ) → e + k ≤ length b → k ≤ length s
     → take (k + n) (drop e (paste b e s k)) ≡ take k s ++ take n (drop (e + k) b)
 pushed_part b s e k n high few =
@@ -156,7 +167,8 @@ pushed_part b s e k n high few =
     drop-drop k e (paste b e s k) ∙ drop-paste b e s k within few in
     take-add k n c ∙ ap (λ x. x ++ take n (drop k c)) first ∙ ap (λ x. take k s ++ take n x) behind
 
-module _ (b : Bytes) (p e u n : ℕ) (low : p ≤ e) (mid : e ≤ u) (within : 5 + n ≤ length (drop u b)) where
+module _ (b : Bytes) (p e u n : ℕ) (low : p ≤ e) (mid : e ≤ u)
+    (within : 5 + n ≤ length (drop u b)) where
   abbrev open_length : ℕ
   open_length = e - p
 

@@ -1,4 +1,4 @@
--- A message that is handed out is read as where it stood.
+-- A message parses by itself as it does in its stream.
 use Rattle.std.proofs.Common.{
   ◌≡◌,
   ℕ,
@@ -47,10 +47,11 @@ number_then k f b enough = ap (λ a. a and_then λ x. reading (f x.0) x.1)
 
 split_here : (k : ℕ) (b : Bytes) → k ≤ length b → split_at k b ≡ Ok (take k b, drop k b)
 unfolding split_at
-split_here k b h = ap (λ t. cond {A = Answer Bytes} t (Err (Lacks (k - length b))) (Ok (take k b, drop k b)))
+split_here k b h =
+    ap (λ t. cond {A = Answer Bytes} t (Err (Lacks (k - length b))) (Ok (take k b, drop k b)))
     (le-ltb (length b) k h)
 
--- the body's answer, as the message's, and then that rest
+-- the body's answer as the message's, with this rest
 abbrev with_body : Bytes → handshakes.Handshake × Bytes → Answer handshakes.Handshake
 with_body r x = Ok (x.0, r)
 
@@ -86,7 +87,9 @@ unfolding handshake
 read_handshake b h =
     number_then 1 (λ t. chain (number 3) (λ n. chain (window n (handshakes.handshake_body t n))
     (λ m. done (Handshake m)))) b (omega (arith, h))
-    ∙ number_then 3 (λ n. chain (window n (handshakes.handshake_body (kind b) n)) (λ m. done (Handshake m))) (drop 1 b)
+    ∙ number_then 3
+    (λ n. chain (window n (handshakes.handshake_body (kind b) n)) (λ m. done (Handshake m)))
+    (drop 1 b)
     (omega (arith, h, length-drop 1 b))
     ∙ ap (message_in (kind b) (long b))
     (split_here (long b) (behind b) (omega (arith, h, length-drop 1 b, length-drop 3 (drop 1 b))))
@@ -101,18 +104,22 @@ message_is_read limit b y r e =
     let i = first_in (message_frame limit) b (y, r) e in
     let n = long b in
     let whole : size (message_frame limit) b ≤ length b = i.is_whole in
-    let same : size (message_frame limit) b ≡ 4 + n = omega (arith, length_is limit b (omega (arith, whole))) in
+    let same : size (message_frame limit) b ≡ 4 + n =
+    omega (arith, length_is limit b (omega (arith, whole))) in
     let enough : 4 + n ≤ length b = omega (arith, same, whole) in
     let y_is : y ≡ take (4 + n) b = i.frame_is ∙ ap (λ k. take k b) same in
     let r_is : r ≡ drop (4 + n) b = i.rest_is ∙ ap (λ k. drop k b) same in
     read_both b y r n refl enough y_is r_is
   where
-    read_both : (b y r : Bytes) (n : ℕ) → long b ≡ n → 4 + n ≤ length b → y ≡ take (4 + n) b → r ≡ drop (4 + n) b
+    read_both : (b y r : Bytes) (n : ℕ) → long b ≡ n → 4 + n ≤ length b → y ≡ take (4 + n) b
+        → r ≡ drop (4 + n) b
         → reading handshake b ≡ with_rest r (reading handshake y)
     read_both b y r n is enough y_is r_is =
         let w = take n (behind b) in
-        let deep : n ≤ length (behind b) = omega (arith, enough, length-drop 1 b, length-drop 3 (drop 1 b)) in
-        let first : take 1 y ≡ take 1 b = ap (λ y. take 1 y) y_is ∙ take-take 1 (4 + n) b (omega arith) in
+        let deep : n ≤ length (behind b) =
+        omega (arith, enough, length-drop 1 b, length-drop 3 (drop 1 b)) in
+        let first : take 1 y ≡ take 1 b = ap (λ y. take 1 y) y_is
+        ∙ take-take 1 (4 + n) b (omega arith) in
         let one : 4 + n ≡ 1 + (3 + n) = omega arith in
         let past : drop 1 y ≡ take (3 + n) (drop 1 b) =
         ap (λ y. drop 1 y) y_is ∙ ap (λ k. drop 1 (take k b)) one ∙ drop-take 1 (3 + n) b in
@@ -120,31 +127,39 @@ message_is_read limit b y r e =
         ∙ ap number_of (take-take 3 (3 + n) (drop 1 b) (omega arith)) ∙ is in
         let behind_y : behind y ≡ w = ap (λ d. drop 3 d) past ∙ drop-take 3 n (drop 1 b) in
         let body_y : take (long y) (behind y) ≡ w =
-        ap (λ k. take k (behind y)) long_y ∙ ap (λ d. take n d) behind_y ∙ take-take n n (behind b) (le_refl n) in
+        ap (λ k. take k (behind y)) long_y ∙ ap (λ d. take n d) behind_y
+        ∙ take-take n n (behind b) (le_refl n) in
         let none_y : drop (long y) (behind y) ≡ [] =
         ap (λ k. drop k (behind y)) long_y ∙ ap (λ d. drop n d) behind_y
         ∙ ap (λ k. drop k w) (sym (length-take-le n (behind b) deep)) ∙ drop-length w in
         let four : behind b ≡ drop 4 b = drop-drop 3 1 b in
         let rest_b : drop n (behind b) ≡ r = ap (λ d. drop n d) four ∙ drop-drop n 4 b
         ∙ ap (λ k. drop k b) (omega arith) ∙ sym r_is in
-        let all_y : 4 + long y ≤ length y = omega (arith, long_y, ap length y_is, length-take-le (4 + n) b enough) in
-        let of_b : reading handshake b ≡ after r (reading (handshakes.handshake_body (kind b) n) w) =
+        let all_y : 4 + long y ≤ length y =
+        omega (arith, long_y, ap length y_is, length-take-le (4 + n) b enough) in
+        let of_b : reading handshake b ≡ after r
+        (reading (handshakes.handshake_body (kind b) n) w) =
         read_handshake b (omega (arith, is, enough))
-        ∙ ap (λ k. after (drop k (behind b)) (reading (handshakes.handshake_body (kind b) k) (take k (behind b)))) is
+        ∙ ap (λ k. after (drop k (behind b))
+        (reading (handshakes.handshake_body (kind b) k) (take k (behind b)))) is
         ∙ ap (λ s. after s (reading (handshakes.handshake_body (kind b) n) w)) rest_b in
-        let of_y : reading handshake y ≡ after [] (reading (handshakes.handshake_body (kind b) n) w) =
+        let of_y : reading handshake y ≡ after []
+        (reading (handshakes.handshake_body (kind b) n) w) =
         read_handshake y all_y
-        ∙ ap (λ s. after s (reading (handshakes.handshake_body (kind y) (long y)) (take (long y) (behind y)))) none_y
+        ∙ ap (λ s. after s
+        (reading (handshakes.handshake_body (kind y) (long y)) (take (long y) (behind y)))) none_y
         ∙ ap (λ v. after [] (reading (handshakes.handshake_body (kind y) (long y)) v)) body_y
         ∙ ap (λ k. after [] (reading (handshakes.handshake_body (kind y) k) w)) long_y
         ∙ ap (λ k. after [] (reading (handshakes.handshake_body (number_of k) n) w)) first in
-        of_b ∙ rest_after r (reading (handshakes.handshake_body (kind b) n) w) ∙ ap (with_rest r) (sym of_y)
+        of_b ∙ rest_after r (reading (handshakes.handshake_body (kind b) n) w)
+        ∙ ap (with_rest r) (sym of_y)
 
--- Where a message isn't whole, further bytes are asked for.
+-- If a message isn't whole, more bytes are asked for.
 split_short : (k : ℕ) (b : Bytes) → length b < k → split_at k b ≡ Err (Lacks (k - length b))
 unfolding split_at
 split_short k b h =
-    ap (λ t. cond {A = Answer Bytes} t (Err (Lacks (k - length b))) (Ok (take k b, drop k b))) (lt-ltb (length b) k h)
+    ap (λ t. cond {A = Answer Bytes} t (Err (Lacks (k - length b))) (Ok (take k b, drop k b)))
+    (lt-ltb (length b) k h)
 
 abbrev number_in : Answer Bytes → Answer ℕ
 number_in a = a and_then λ x. Ok (number_of x.0, x.1)
@@ -192,12 +207,20 @@ message_waits limit b not = of_type (ltb (length b) 1) refl
     of_body enough false e =
         let all : long b ≤ length (behind b) = ltb-false (length (behind b)) (long b) e in
         let whole : size (message_frame limit) b ≤ length b =
-        omega (arith, length_is limit b enough, all, length-drop 1 b, length-drop 3 (drop 1 b), enough) in
+        omega (
+          arith,
+          length_is limit b enough,
+          all,
+          length-drop 1 b,
+          length-drop 3 (drop 1 b),
+          enough,
+        ) in
         absurd (not whole)
 
     of_length : 1 ≤ length b → (t : Bool) → ltb (length b) 4 ≡ t → Waits b
     of_length one true e = length_short b one (ltb-true (length b) 4 e)
-    of_length one false e = of_body (ltb-false (length b) 4 e) (ltb (length (behind b)) (long b)) refl
+    of_length one false e =
+        of_body (ltb-false (length b) 4 e) (ltb (length (behind b)) (long b)) refl
 
     of_type : (t : Bool) → ltb (length b) 1 ≡ t → Waits b
     of_type true e = type_short b (ltb-true (length b) 1 e)

@@ -1,4 +1,4 @@
--- Which record stands next, and that it is the frame that stands next.
+-- The next record is the next frame.
 use Rattle.std.proofs.Common.{
   ◌≡◌,
   ◌↔◌,
@@ -60,12 +60,14 @@ behind h = chain (test (nat_le h.length max_fragment_length) TooLarge)
 abbrev with_raw : RecordHeader → Answer Bytes → Answer RawRecord
 with_raw h a = a and_then λ f. Ok (raw_of h f.0, f.1)
 
--- What stands behind a header, by its length.
+-- The cases after a header, by its length.
 data Behind (h : RecordHeader) (r : Bytes) : Type 0 where
   Above : max_fragment_length < h.length → reading (behind h) r ≡ Err (Broken TooLarge) → Behind h r
-  Short : h.length ≤ max_fragment_length → length r < h.length → (n : ℕ) → reading (behind h) r ≡ Err (Lacks n)
+  Short : h.length ≤ max_fragment_length → length r < h.length → (n : ℕ)
+      → reading (behind h) r ≡ Err (Lacks n)
       → Behind h r
-  Whole : h.length ≤ max_fragment_length → h.length ≤ length r → (x : RawRecord × Bytes) → x.0.header.length ≡ h.length
+  Whole : h.length ≤ max_fragment_length → h.length ≤ length r → (x : RawRecord × Bytes)
+      → x.0.header.length ≡ h.length
       → reading (behind h) r ≡ Ok x → Behind h r
 
 small_behind : (h : RecordHeader) (r : Bytes) → h.length ≤ max_fragment_length
@@ -78,7 +80,9 @@ small_behind h r small e = go (ltb (length r) h.length) refl e
         (Ok (take h.length r, drop h.length r)))
         → Behind h r
     go true f g = Short small (ltb-true (length r) h.length f) (h.length - length r) g
-    go false f g = Whole small (ltb-false (length r) h.length f) (raw_of h (take h.length r), drop h.length r) refl g
+    go false f g =
+        Whole small (ltb-false (length r) h.length f)
+        (raw_of h (take h.length r), drop h.length r) refl g
 
 behind_header : (h : RecordHeader) (r : Bytes) → Behind h r
 behind_header h r = go (nat_le h.length max_fragment_length) refl refl
@@ -90,19 +94,25 @@ behind_header h r = go (nat_le h.length max_fragment_length) refl refl
     go true f g = small_behind h r (leb-true h.length max_fragment_length f) g
     go false f g = Above (leb-false h.length max_fragment_length f) g
 
--- What stands in front of some bytes.
+-- The cases of some bytes' first record.
 data Stands (b : Bytes) : Type 0 where
   Large : IsTooLarge 5 b → reading raw_record b ≡ Err (Broken TooLarge) → Stands b
   Part : NeedsMore 5 b → (n : ℕ) → reading raw_record b ≡ Err (Lacks n) → Stands b
-  One : IsWhole 5 b → (IsTooLarge 5 b → ⊥) → (x : RawRecord × Bytes) → x.0.header.length ≡ fragment_length 5 b
+  One : IsWhole 5 b → (IsTooLarge 5 b → ⊥) → (x : RawRecord × Bytes)
+      → x.0.header.length ≡ fragment_length 5 b
       → reading raw_record b ≡ Ok x → Stands b
 
-stands_behind : (b : Bytes) (h : RecordHeader) → 5 ≤ length b → reading raw_record b ≡ reading (behind h) (drop 5 b)
+stands_behind : (b : Bytes) (h : RecordHeader) → 5 ≤ length b
+    → reading raw_record b ≡ reading (behind h) (drop 5 b)
     → h.length ≡ fragment_length 5 b → Behind h (drop 5 b) → Stands b
 stands_behind b h enough then n (Above above e) =
-    Large (record { has_header = enough; above = subst (λ k. max_fragment_length < k) n above }) (then ∙ e)
+    Large (record { has_header = enough; above = subst (λ k. max_fragment_length < k) n above })
+    (then ∙ e)
 stands_behind b h enough then n (Short small short k e) =
-    Part (λ w. omega (arith, w.has_fragment, n, short, length-drop 5 b), λ w. omega (arith, w.above, n, small)) k
+    Part (
+      λ w. omega (arith, w.has_fragment, n, short, length-drop 5 b),
+      λ w. omega (arith, w.above, n, small),
+    ) k
     (then ∙ e)
 stands_behind b h enough then n (Whole small long x len e) =
     One (record { has_header = enough; has_fragment = omega (arith, n, long, length-drop 5 b) })
@@ -132,7 +142,8 @@ read_too_large b = go (stands b)
     go (Part w n e) = (λ f. let g = sym e ∙ f in absurd cc, λ v. absurd (w.1 v))
     go (One w not x len e) = (λ f. let g = sym e ∙ f in absurd cc, λ v. absurd (not v))
 
-pub read_incomplete : (b : Bytes) → ((n : ℕ) × (reading raw_record b ≡ Err (Lacks n))) ↔ NeedsMore 5 b
+pub read_incomplete : (b : Bytes) → ((n : ℕ) × (reading raw_record b ≡ Err (Lacks n)))
+    ↔ NeedsMore 5 b
 read_incomplete b = go (stands b)
   where
     go : Stands b → ((n : ℕ) × (reading raw_record b ≡ Err (Lacks n))) ↔ NeedsMore 5 b
@@ -148,7 +159,7 @@ read_whole b = go (stands b)
     go (Part w n e) = (λ f. let g = subst IsOk e f in absurd cc, λ v. absurd (w.0 v.0))
     go (One w not x len e) = (λ f. (w, not), λ v. subst IsOk (sym e) refl)
 
--- The frame that stands next.
+-- The next frame.
 length_is : (b : Bytes) → 5 ≤ length b → body_length record_frame b ≡ fragment_length 5 b
 length_is (a ∷ b ∷ c ∷ d ∷ e ∷ r) h = omega arith
 length_is b h = absurd (omega (arith, h))
@@ -165,15 +176,24 @@ whole_is b = (
 
 pub large_is : (b : Bytes) → frames.IsTooLarge record_frame b ↔ IsTooLarge 5 b
 large_is b = (
-  λ l. record { has_header = l.has_header; above = omega (arith, l.above, length_is b l.has_header) },
-  λ l. record { has_header = l.has_header; above = omega (arith, l.above, length_is b l.has_header) },
+  λ l. record {
+    has_header = l.has_header;
+    above =
+        omega (arith, l.above, length_is b l.has_header);
+  },
+  λ l. record {
+    has_header = l.has_header;
+    above =
+        omega (arith, l.above, length_is b l.has_header);
+  },
 )
 
 one_front : (b : Bytes) (x : RawRecord × Bytes) → IsWhole 5 b → (IsTooLarge 5 b → ⊥)
     → x.0.header.length ≡ fragment_length 5 b → IsInFront x.0 b x.1
     → front record_frame b ≡ Some (record_bytes x.0 b, x.1)
 one_front b x w not len i =
-    let same : size record_frame b ≡ 5 + x.0.header.length = omega (arith, length_is b w.has_header, len) in
+    let same : size record_frame b ≡ 5 + x.0.header.length =
+    omega (arith, length_is b w.has_header, len) in
     let small : body_length record_frame b ≤ 16640 = not_above b w not in
     let f = record_bytes x.0 b in
     let rest : drop (5 + x.0.header.length) b ≡ x.1 =
@@ -183,10 +203,12 @@ one_front b x w not len i =
     ∙ ap (λ k. Some (take k b, drop k b)) same
     ∙ ap (λ r. Some (f, r)) rest
   where
-    not_above : (b : Bytes) → IsWhole 5 b → (IsTooLarge 5 b → ⊥) → body_length record_frame b ≤ 16640
+    not_above : (b : Bytes) → IsWhole 5 b → (IsTooLarge 5 b → ⊥)
+        → body_length record_frame b ≤ 16640
     not_above b w not = go (nat_le (fragment_length 5 b) 16640) refl
       where
-        go : (t : Bool) → nat_le (fragment_length 5 b) 16640 ≡ t → body_length record_frame b ≤ 16640
+        go : (t : Bool) → nat_le (fragment_length 5 b) 16640 ≡ t
+            → body_length record_frame b ≤ 16640
         go true e = omega (arith, length_is b w.has_header, leb-true (fragment_length 5 b) 16640 e)
         go false e = absurd (not (record {
           has_header = w.has_header;
@@ -199,22 +221,29 @@ front_is_read b = go (stands b)
   where
     go : Stands b → front record_frame b ≡ front_of (reading raw_record b) b
     go (Large l e) = none_large record_frame b ((large_is b).1 l) ∙ sym (ap (λ a. front_of a b) e)
-    go (Part n k e) = none_part record_frame b (λ w. n.0 ((whole_is b).0 w)) ∙ sym (ap (λ a. front_of a b) e)
-    go (One w not x len e) = one_front b x w not len (record_in_front b x.1 x.0 e) ∙ sym (ap (λ a. front_of a b) e)
+    go (Part n k e) = none_part record_frame b (λ w. n.0 ((whole_is b).0 w))
+        ∙ sym (ap (λ a. front_of a b) e)
+    go (One w not x len e) = one_front b x w not len (record_in_front b x.1 x.0 e)
+        ∙ sym (ap (λ a. front_of a b) e)
 
--- Where a length is too large, it stays so.
-pub large_stays : (b s : Bytes) → frames.IsTooLarge record_frame b → reading raw_record (b ++ s) ≡ Err (Broken TooLarge)
-large_stays b s large = (read_too_large (b ++ s)).1 ((large_is (b ++ s)).0 (large_longer record_frame b s large))
+-- A length that is too large stays so.
+pub large_stays : (b s : Bytes) → frames.IsTooLarge record_frame b
+    → reading raw_record (b ++ s) ≡ Err (Broken TooLarge)
+large_stays b s large =
+    (read_too_large (b ++ s)).1 ((large_is (b ++ s)).0 (large_longer record_frame b s large))
 
--- A record that is read takes bytes.
-pub record_takes : (b r : Bytes) (v : RawRecord) → reading raw_record b ≡ Ok (v, r) → length r < length b
+-- A parsed record takes at least one byte.
+pub record_takes : (b r : Bytes) (v : RawRecord) → reading raw_record b ≡ Ok (v, r)
+    → length r < length b
 record_takes b r v e = front_fewer record_frame b (record_bytes v b, r) (lit< tt)
     (front_is_read b ∙ ap (λ a. front_of a b) e)
 
--- The same of what a call returned.
-pub front_too_large : {X : Type 0} (view : X → RawRecord) (b : Bytes) (r : Returned X) → Gives view raw_record b r
+-- Whether a call returned that a length is too large.
+pub front_too_large : {X : Type 0} (view : X → RawRecord) (b : Bytes) (r : Returned X)
+    → Gives view raw_record b r
     → IsRefusedAsTooLarge r ↔ IsTooLarge 5 b
-front_too_large view b (Ok x) g = (λ h. absurd h, λ h. let e = sym ((read_too_large b).1 h) ∙ g.read in absurd cc)
+front_too_large view b (Ok x) g =
+    (λ h. absurd h, λ h. let e = sym ((read_too_large b).1 h) ∙ g.read in absurd cc)
 front_too_large view b (Err (failed.Incomplete needed.Unknown)) g = absurd g.answers
 front_too_large view b (Err (failed.Incomplete (needed.Size n))) g =
     (λ h. absurd h, λ h. let e = sym ((read_too_large b).1 h) ∙ g.read in absurd cc)
@@ -226,7 +255,8 @@ front_too_large view b (Err (failed.Error x)) g = (
 front_too_large view b (Err (failed.Failure x)) g = absurd g.answers
 front_too_large view b (Err failed.OutOfMemory) g = absurd g.answers
 
-pub front_incomplete : {X : Type 0} (view : X → RawRecord) (b : Bytes) (r : Returned X) → Gives view raw_record b r
+pub front_incomplete : {X : Type 0} (view : X → RawRecord) (b : Bytes) (r : Returned X)
+    → Gives view raw_record b r
     → IsIncomplete r ↔ NeedsMore 5 b
 front_incomplete view b (Ok x) g = (
   λ h. absurd h,
@@ -234,13 +264,15 @@ front_incomplete view b (Ok x) g = (
       sym k.1 ∙ g.read in absurd cc,
 )
 front_incomplete view b (Err (failed.Incomplete needed.Unknown)) g = absurd g.answers
-front_incomplete view b (Err (failed.Incomplete (needed.Size n))) g = (λ h. (read_incomplete b).0 (n, g.read), λ h. tt)
+front_incomplete view b (Err (failed.Incomplete (needed.Size n))) g =
+    (λ h. (read_incomplete b).0 (n, g.read), λ h. tt)
 front_incomplete view b (Err (failed.Error x)) g =
     (λ h. absurd h, λ h. let k = (read_incomplete b).1 h in let e = sym k.1 ∙ g.read in absurd cc)
 front_incomplete view b (Err (failed.Failure x)) g = absurd g.answers
 front_incomplete view b (Err failed.OutOfMemory) g = absurd g.answers
 
-pub front_whole : {X : Type 0} (view : X → RawRecord) (b : Bytes) (r : Returned X) → Gives view raw_record b r
+pub front_whole : {X : Type 0} (view : X → RawRecord) (b : Bytes) (r : Returned X)
+    → Gives view raw_record b r
     → IsOk r ↔ (IsWhole 5 b × (IsTooLarge 5 b → ⊥))
 front_whole view b (Ok x) g = (λ h. (read_whole b).0 (subst IsOk (sym g.read) refl), λ h. refl)
 front_whole view b (Err (failed.Incomplete needed.Unknown)) g = absurd g.answers

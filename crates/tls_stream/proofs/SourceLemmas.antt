@@ -1,4 +1,4 @@
--- The event that stands in front, by the bytes that it is taken from.
+-- The next event, and the bytes that it is taken from.
 use Rattle.std.proofs.Common.{◌≡◌, ℕ, List, ◌≤◌, Option, Some, None, length, refl, sym, ◌∙◌, ap, subst, drop}
 use Rattle.std.specs.Prelude.{option_map, true, false}
 use Rattle.std.specs.Borrow.{Bor}
@@ -36,7 +36,8 @@ abbrev with_source : Event × Bytes → Event × Source
 with_source x = (x.0, OfRecord x.1)
 
 by_alone : (d : Stream) (e : Event) (s : Source) (a : Option (Event × Bytes)) → alone_record d ≡ a
-    → None ≡ frame_of (front (messages_of d.limit d.kind) d.held.part) → option_map with_source a ≡ Some (e, s)
+    → None ≡ frame_of (front (messages_of d.limit d.kind) d.held.part)
+    → option_map with_source a ≡ Some (e, s)
     → FirstTaken (first d) d true (behind d s) × Fits d s
 by_alone d e s None is none g = absurd cc
 by_alone d e s (Some x) is none g =
@@ -55,7 +56,7 @@ by_frame d e s (Some y) is g =
     (message_taken d y (sym is), message_within d y (sym is))
 by_frame d e s None is g = by_alone d e s (alone_record d) refl (sym is) g
 
--- What stands in front is taken from these bytes.
+-- The next event is taken from these bytes.
 pub source_taken : (d : Stream) (e : Event) (s : Source) → Some (e, s) ≡ first_source d
     → FirstTaken (first d) d true (behind d s)
 source_taken d e s is =
@@ -65,7 +66,8 @@ pub source_fits : (d : Stream) (e : Event) (s : Source) → Some (e, s) ≡ firs
 source_fits d e s is =
     (by_frame d e s (frame_of (front (messages_of d.limit d.kind) d.held.part)) refl (sym is)).1
 
-no_frame : (d : Stream) (a : Option Bytes) → frame_of (front (messages_of d.limit d.kind) d.held.part) ≡ a
+no_frame : (d : Stream) (a : Option Bytes)
+    → frame_of (front (messages_of d.limit d.kind) d.held.part) ≡ a
     → source_by d a ≡ None → FirstTaken (first d) d false d
 no_frame d (Some y) is g = absurd cc
 no_frame d None is g = nothing_taken d (sym is) (no_alone (alone_record d) g)
@@ -75,30 +77,35 @@ no_frame d None is g = nothing_taken d (sym is) (no_alone (alone_record d) g)
     no_alone (Some x) g = absurd cc
 
 pub source_none : (d : Stream) → None ≡ first_source d → FirstTaken (first d) d false d
-source_none d is = no_frame d (frame_of (front (messages_of d.limit d.kind) d.held.part)) refl (sym is)
+source_none d is =
+    no_frame d (frame_of (front (messages_of d.limit d.kind) d.held.part)) refl (sym is)
 
--- It is the event in front.
+-- It is the next event.
 pub source_front : (d : Stream) → option_map (λ (x : Event × Source). x.0) (first_source d)
     ≡ option_map (λ (x : Event × Stream). x.0) (first d)
 source_front d = go (frame_of (front (messages_of d.limit d.kind) d.held.part)) refl
   where
-    same : (a : Option (Event × Bytes)) → option_map (λ (x : Event × Source). x.0) (option_map with_source a)
+    same : (a : Option (Event × Bytes))
+        → option_map (λ (x : Event × Source). x.0) (option_map with_source a)
         ≡ option_map (λ (x : Event × Bytes). x.0) a
     same None = refl
     same (Some x) = refl
 
     go : (a : Option Bytes) → frame_of (front (messages_of d.limit d.kind) d.held.part) ≡ a
-        → option_map (λ (x : Event × Source). x.0) (source_by d a) ≡ option_map (λ (x : Event × Stream). x.0) (first d)
+        → option_map (λ (x : Event × Source). x.0) (source_by d a) ≡ option_map
+        (λ (x : Event × Stream). x.0) (first d)
     go (Some y) is = message_front d y (sym is)
     go None is = same (alone_record d) ∙ sym (alone_first_is d (sym is))
 
--- What a view answered, of the stream that it shows.
-pub message_source : (d v : Stream) (e : Event) (s : rust.Source) (m : Bor (List ℕ)) → s ≡ source.Message m
+-- The answer of a view, for the stream that it shows.
+pub message_source : (d v : Stream) (e : Event) (s : rust.Source) (m : Bor (List ℕ))
+    → s ≡ source.Message m
     → Some (e, view_source s) ≡ first_source v → v ≡ d → Some (e, OfMessage m.now) ≡ first_source d
 message_source d v e s m is at same =
     ap (λ s. Some (e, view_source s)) (sym is) ∙ at ∙ ap first_source same
 
-pub record_source : (d v : Stream) (e : Event) (s : rust.Source) (r : Bor (List ℕ)) → s ≡ source.Record r
+pub record_source : (d v : Stream) (e : Event) (s : rust.Source) (r : Bor (List ℕ))
+    → s ≡ source.Record r
     → Some (e, view_source s) ≡ first_source v → v ≡ d → Some (e, OfRecord r.now) ≡ first_source d
 record_source d v e s r is at same =
     ap (λ s. Some (e, view_source s)) (sym is) ∙ at ∙ ap first_source same

@@ -1,4 +1,4 @@
--- What a direction says next.
+-- The next event of a direction.
 use Rattle.std.proofs.Common.{
   ◌≡◌,
   ◌≢◌,
@@ -110,8 +110,10 @@ not_above f b small = go (is_above f b) refl
         let both = and_parts (nat_le f.header (length b)) (nat_lt f.limit (body_length f b)) e in
         absurd (small (record { has_header = leb-true _ _ both.0; above = ltb-true _ _ both.1 }))
 
-small_or : (f : Shape) (b : Bytes) (others : List Event) → (IsTooLarge f b → ⊥) → too_large_or f b others ≡ others
-small_or f b others small = ap (λ t. cond t (Failed fault.TooLarge ∷ []) others) (not_above f b small)
+small_or : (f : Shape) (b : Bytes) (others : List Event) → (IsTooLarge f b → ⊥)
+    → too_large_or f b others ≡ others
+small_or f b others small =
+    ap (λ t. cond t (Failed fault.TooLarge ∷ []) others) (not_above f b small)
 
 interrupted : (f : Shape) (b : Bytes) (others : List Event) → b ≢ [] → (IsTooLarge f b → ⊥)
     → closed f b others ≡ Failed fault.Interrupted ∷ []
@@ -122,7 +124,7 @@ none_front : (a : Option (Bytes × Bytes)) → frame_of a ≡ None → a ≡ Non
 none_front None e = refl
 none_front (Some x) e = absurd cc
 
--- The frame that a call found, and what stands behind it.
+-- The frame that a call found, and what follows it.
 pub some_front : (f : Shape) (b y : Bytes) → frame_of (front f b) ≡ Some y
     → (x : Bytes × Bytes) × (front f b ≡ Some x) × (x.0 ≡ y)
 some_front f b y e = go (front f b) refl e
@@ -132,16 +134,19 @@ some_front f b y e = go (front f b) refl e
     go None g h = absurd cc
     go (Some x) g h = (x, g, cc)
 
--- By what stands in front, over plain variables.
-module _ (limit kind : ℕ) (st : Standing) (part u : Bytes) (none : front (messages_of limit kind) part ≡ None) where
+-- The cases of the next event, over plain variables.
+module _ (limit kind : ℕ) (st : Standing) (part u : Bytes)
+    (none : front (messages_of limit kind) part ≡ None) where
   abbrev shape : Shape
   shape = messages_of limit kind
 
-  item_first : (x : Bytes × Bytes) (i : Item) (s : Bytes) → front wide_record u ≡ Some x → item_of st x.0 ≡ i
+  item_first : (x : Bytes × Bytes) (i : Item) (s : Bytes) → front wide_record u ≡ Some x
+      → item_of st x.0 ≡ i
       → events_of limit kind part (unread_items st (u ++ s))
       ≡ events_of limit kind part (i ∷ unread_items (after st x.0) (x.1 ++ s))
   item_first x i s e is =
-      ap (events_of limit kind part) (record_first st u s x e ∙ ap (λ i. i ∷ unread_items (after st x.0) (x.1 ++ s)) is)
+      ap (events_of limit kind part)
+      (record_first st u s x e ∙ ap (λ i. i ∷ unread_items (after st x.0) (x.1 ++ s)) is)
 
   pub alone_first : (x : Bytes × Bytes) (a : Event) (s : Bytes) → front wide_record u ≡ Some x
       → item_of st x.0 ≡ Alone a → part ≡ []
@@ -187,7 +192,8 @@ module _ (limit kind : ℕ) (st : Standing) (part u : Bytes) (none : front (mess
   broken_first x k s e is small = item_first x (Broken k) s e is
       ∙ broken_is k (unread_items (after st x.0) (x.1 ++ s)) small
 
-  pub header_refused : (k : ErrorKind) (s : Bytes) → 5 ≤ length u → refused st u ≡ Some k → (IsTooLarge shape part → ⊥)
+  pub header_refused : (k : ErrorKind) (s : Bytes) → 5 ≤ length u → refused st u ≡ Some k
+      → (IsTooLarge shape part → ⊥)
       → events_of limit kind part (unread_items st (u ++ s)) ≡ Failed (fault.Refused k) ∷ []
   header_refused k s enough e small =
       let r = refused_first st u s k enough e in
@@ -207,28 +213,33 @@ module _ (limit kind : ℕ) (st : Standing) (part u : Bytes) (none : front (mess
   join_first x k f s e is may =
       item_first x (Fragment k f) s e is
       ∙ go (k == kind) refl may
-      ∙ ap (λ st. events_of limit k (part ++ f) (unread_items st (x.1 ++ s))) (fragment_is st x.0 k f is).keeps
+      ∙ ap (λ st. events_of limit k (part ++ f) (unread_items st (x.1 ++ s)))
+      (fragment_is st x.0 k f is).keeps
     where
       go : (t : Bool) → k == kind ≡ t → (k ≡ kind) ⊎ (part ≡ [])
           → cond t (events_of limit kind (part ++ f) (unread_items (after st x.0) (x.1 ++ s)))
           (said limit kind part ++ closed shape (open_part limit kind part)
           (events_of limit k f (unread_items (after st x.0) (x.1 ++ s))))
           ≡ events_of limit k (part ++ f) (unread_items (after st x.0) (x.1 ++ s))
-      go true at may = ap (λ j. events_of limit j (part ++ f) (unread_items (after st x.0) (x.1 ++ s)))
+      go true at may =
+          ap (λ j. events_of limit j (part ++ f) (unread_items (after st x.0) (x.1 ++ s)))
           (sym (eqb-true k kind at))
       go false at (inl same) = let e = sym at ∙ eq-eqb k kind same in absurd cc
       go false at (inr empty) =
           none_then limit kind (λ l. closed shape l
           (events_of limit k f (unread_items (after st x.0) (x.1 ++ s)))) part none
-          ∙ ap (λ b. closed shape b (events_of limit k f (unread_items (after st x.0) (x.1 ++ s)))) empty
-          ∙ ap (λ b. events_of limit k (b ++ f) (unread_items (after st x.0) (x.1 ++ s))) (sym empty)
+          ∙ ap (λ b. closed shape b (events_of limit k f (unread_items (after st x.0) (x.1 ++ s))))
+          empty
+          ∙ ap (λ b. events_of limit k (b ++ f) (unread_items (after st x.0) (x.1 ++ s)))
+          (sym empty)
 
--- The event in front is the first of all.
+-- The next event is the first of all.
 pub first_event : (d e : Stream) (v : Event) (s : Bytes) → first d ≡ Some (v, e)
     → events (fed d s) ≡ v ∷ events (fed e s)
 first_event d e v s is = message (front (messages_of d.limit d.kind) d.held.part) refl is
   where
-    by_item : (x : Bytes × Bytes) (b : Bytes) (i : Item) → front (messages_of d.limit d.kind) d.held.part ≡ None
+    by_item : (x : Bytes × Bytes) (b : Bytes) (i : Item)
+        → front (messages_of d.limit d.kind) d.held.part ≡ None
         → front wide_record d.held.unread ≡ Some x → d.held.part ≡ b → item_of (standing d) x.0 ≡ i
         → with_direction d x (alone b i) ≡ Some (v, e) → events (fed d s) ≡ v ∷ events (fed e s)
     by_item x [] (Alone a) none f empty item g =
@@ -240,20 +251,24 @@ first_event d e v s is = message (front (messages_of d.limit d.kind) d.held.part
     by_item x (c ∷ b) i none h empty item g = absurd cc
 
     by_record : (a : Option (Bytes × Bytes)) → front (messages_of d.limit d.kind) d.held.part ≡ None
-        → front wide_record d.held.unread ≡ a → first_record d a ≡ Some (v, e) → events (fed d s) ≡ v ∷ events (fed e s)
+        → front wide_record d.held.unread ≡ a → first_record d a ≡ Some (v, e)
+        → events (fed d s) ≡ v ∷ events (fed e s)
     by_record None none f g = absurd cc
-    by_record (Some x) none f g = by_item x d.held.part (item_of (standing d) x.0) none f refl refl g
+    by_record (Some x) none f g =
+        by_item x d.held.part (item_of (standing d) x.0) none f refl refl g
 
     message : (a : Option (Bytes × Bytes)) → front (messages_of d.limit d.kind) d.held.part ≡ a
         → first_message d a ≡ Some (v, e) → events (fed d s) ≡ v ∷ events (fed e s)
     message (Some x) f g =
         let same : (event_of d.kind x.0, behind_message d x) ≡ (v, e) = cc in
-        message_first d.limit d.kind d.held.part x f (unread_items (standing d) (d.held.unread ++ s))
+        message_first d.limit d.kind d.held.part x f
+        (unread_items (standing d) (d.held.unread ++ s))
         ∙ ap (λ (p : Event × Stream). p.0 ∷ events (fed p.1 s)) same
     message None f g = by_record (front wide_record d.held.unread) f refl g
 
--- What stands in front.
-pub message_ready : (d : Stream) (y : Bytes) → Some y ≡ frame_of (front (messages_of d.limit d.kind) d.held.part)
+-- When there is a next event.
+pub message_ready : (d : Stream) (y : Bytes)
+    → Some y ≡ frame_of (front (messages_of d.limit d.kind) d.held.part)
     → IsSome (first d)
 message_ready d y e =
     let x = some_front (messages_of d.limit d.kind) d.held.part y (sym e) in
@@ -261,31 +276,38 @@ message_ready d y e =
 
 pub large_ready : (d : Stream) → IsTooLarge (messages_of d.limit d.kind) d.held.part
     → SaysOnly d (Failed fault.TooLarge ∷ [])
-large_ready d l s = large_first d.limit d.kind d.held.part l (unread_items (standing d) (d.held.unread ++ s))
+large_ready d l s =
+    large_first d.limit d.kind d.held.part l (unread_items (standing d) (d.held.unread ++ s))
 
 module _ (d : Stream) (none : None ≡ frame_of (front (messages_of d.limit d.kind) d.held.part))
     (small : IsTooLarge (messages_of d.limit d.kind) d.held.part → ⊥) where
   no_message : front (messages_of d.limit d.kind) d.held.part ≡ None
   no_message = none_front (front (messages_of d.limit d.kind) d.held.part) (sym none)
 
-  pub waits_short : None ≡ frame_of (front wide_record d.held.unread) → length d.held.unread < 5 → events d ≡ []
+  pub waits_short : None ≡ frame_of (front wide_record d.held.unread) → length d.held.unread < 5
+      → events d ≡ []
   waits_short e short =
       nothing d.limit d.kind (standing d) d.held.part d.held.unread no_message
-      (none_short (standing d) d.held.unread (none_front (front wide_record d.held.unread) (sym e)) short) small
+      (none_short (standing d) d.held.unread (none_front (front wide_record d.held.unread) (sym e))
+      short) small
 
   pub waits_long : None ≡ frame_of (front wide_record d.held.unread) → 5 ≤ length d.held.unread
       → None ≡ refused (standing d) d.held.unread → events d ≡ []
   waits_long e enough r =
       nothing d.limit d.kind (standing d) d.held.part d.held.unread no_message
-      (none_refused (standing d) d.held.unread (none_front (front wide_record d.held.unread) (sym e)) enough
+      (none_refused (standing d) d.held.unread
+      (none_front (front wide_record d.held.unread) (sym e)) enough
       (sym r)) small
 
-  pub fails_header : (k : ErrorKind) → 5 ≤ length d.held.unread → Some k ≡ refused (standing d) d.held.unread
+  pub fails_header : (k : ErrorKind) → 5 ≤ length d.held.unread
+      → Some k ≡ refused (standing d) d.held.unread
       → SaysOnly d (Failed (fault.Refused k) ∷ [])
-  fails_header k enough r s = header_refused d.limit d.kind (standing d) d.held.part d.held.unread no_message k s enough
+  fails_header k enough r s =
+      header_refused d.limit d.kind (standing d) d.held.part d.held.unread no_message k s enough
       (sym r) small
 
-  pub fails_broken : (y : Bytes) (k : ErrorKind) → Some y ≡ frame_of (front wide_record d.held.unread)
+  pub fails_broken : (y : Bytes) (k : ErrorKind)
+      → Some y ≡ frame_of (front wide_record d.held.unread)
       → Broken k ≡ item_of (standing d) y → SaysOnly d (Failed (fault.Refused k) ∷ [])
   fails_broken y k e is s =
       let x = some_front wide_record d.held.unread y (sym e) in
@@ -303,18 +325,21 @@ module _ (d : Stream) (none : None ≡ frame_of (front (messages_of d.limit d.ki
       (subst (λ i. IsSome (with_direction d x.0 (alone [] i))) (sym item) refl)))
 
   pub fails_alone : (y : Bytes) (a : Event) → Some y ≡ frame_of (front wide_record d.held.unread)
-      → Alone a ≡ item_of (standing d) y → d.held.part ≢ [] → SaysOnly d (Failed fault.Interrupted ∷ [])
+      → Alone a ≡ item_of (standing d) y → d.held.part ≢ []
+      → SaysOnly d (Failed fault.Interrupted ∷ [])
   fails_alone y a e is some s =
       let x = some_front wide_record d.held.unread y (sym e) in
       alone_interrupts d.limit d.kind (standing d) d.held.part d.held.unread no_message x.0 a s x.1
       (ap (item_of (standing d)) x.2 ∙ sym is) some small
 
-  pub fails_fragment : (y : Bytes) (k : ℕ) (f : Bytes) → Some y ≡ frame_of (front wide_record d.held.unread)
+  pub fails_fragment : (y : Bytes) (k : ℕ) (f : Bytes)
+      → Some y ≡ frame_of (front wide_record d.held.unread)
       → Fragment k f ≡ item_of (standing d) y → k ≢ d.kind → d.held.part ≢ []
       → SaysOnly d (Failed fault.Interrupted ∷ [])
   fails_fragment y k f e is other some s =
       let x = some_front wide_record d.held.unread y (sym e) in
-      fragment_interrupts d.limit d.kind (standing d) d.held.part d.held.unread no_message x.0 k f s x.1
+      fragment_interrupts d.limit d.kind (standing d) d.held.part d.held.unread no_message
+      x.0 k f s x.1
       (ap (item_of (standing d)) x.2 ∙ sym is) (differs (k == d.kind) refl) some small
     where
       differs : (t : Bool) → k == d.kind ≡ t → k == d.kind ≡ false
@@ -326,25 +351,31 @@ module _ (d : Stream) (none : None ≡ frame_of (front (messages_of d.limit d.ki
       → (5 + length f ≤ length d.held.unread) × SaysTheSame (joined_to d k (length f)) d
   joins y k f e is may =
       let x = some_front wide_record d.held.unread y (sym e) in
-      let item : item_of (standing d) x.0.0 ≡ Fragment k f = ap (item_of (standing d)) x.2 ∙ sym is in
-      let there = fragment_there d.held.unread x.0 f x.1 (fragment_is (standing d) x.0.0 k f item).bytes_are in (
+      let item : item_of (standing d) x.0.0 ≡ Fragment k f = ap (item_of (standing d)) x.2
+      ∙ sym is in
+      let there = fragment_there d.held.unread x.0 f x.1
+      (fragment_is (standing d) x.0.0 k f item).bytes_are in (
         there.enough,
         λ s.
             ap (λ b. events_of d.limit k (d.held.part ++ b)
             (unread_items (standing d) (drop (5 + length f) d.held.unread ++ s))) there.bytes_are
-            ∙ ap (λ r. events_of d.limit k (d.held.part ++ f) (unread_items (standing d) (r ++ s))) there.rest_is
-            ∙ sym (join_first d.limit d.kind (standing d) d.held.part d.held.unread no_message x.0 k f s x.1 item may),
+            ∙ ap (λ r. events_of d.limit k (d.held.part ++ f) (unread_items (standing d) (r ++ s)))
+            there.rest_is
+            ∙ sym (join_first d.limit d.kind (standing d) d.held.part d.held.unread no_message x.0 k
+            f s x.1 item may),
       )
 
--- What the calls on the front say.
-pub message_front : (d : Stream) (y : Bytes) → Some y ≡ frame_of (front (messages_of d.limit d.kind) d.held.part)
+-- What the calls on the next event answer.
+pub message_front : (d : Stream) (y : Bytes)
+    → Some y ≡ frame_of (front (messages_of d.limit d.kind) d.held.part)
     → Some (event_of d.kind y) ≡ option_map (λ x. x.0) (first d)
 message_front d y e =
     let x = some_front (messages_of d.limit d.kind) d.held.part y (sym e) in
     subst (λ a. Some (event_of d.kind y) ≡ option_map (λ x. x.0) (first_message d a)) (sym x.1)
     (ap (λ y. Some (event_of d.kind y)) (sym x.2))
 
-pub message_taken : (d : Stream) (y : Bytes) → Some y ≡ frame_of (front (messages_of d.limit d.kind) d.held.part)
+pub message_taken : (d : Stream) (y : Bytes)
+    → Some y ≡ frame_of (front (messages_of d.limit d.kind) d.held.part)
     → FirstTaken (first d) d true (behind_message d (y, drop (length y) d.held.part))
 message_taken d y e =
     let x = some_front (messages_of d.limit d.kind) d.held.part y (sym e) in
@@ -352,10 +383,12 @@ message_taken d y e =
     let rest : drop (length y) d.held.part ≡ x.0.1 =
     ap (λ y. drop (length y) d.held.part) (sym x.2) ∙ ap (drop (length x.0.0)) (sym all)
     ∙ drop-append_seam x.0.0 x.0.1 in
-    subst (λ a. FirstTaken (first_message d a) d true (behind_message d (y, drop (length y) d.held.part))) (sym x.1)
+    subst (λ a. FirstTaken (first_message d a) d true
+    (behind_message d (y, drop (length y) d.held.part))) (sym x.1)
     (refl, ap (λ r. record d { held = record { part = r; unread = d.held.unread } }) rest)
 
-pub message_length : (d : Stream) (y : Bytes) → Some y ≡ frame_of (front (messages_of d.limit d.kind) d.held.part)
+pub message_length : (d : Stream) (y : Bytes)
+    → Some y ≡ frame_of (front (messages_of d.limit d.kind) d.held.part)
     → 2 ≤ length y
 message_length d y e =
     let x = some_front (messages_of d.limit d.kind) d.held.part y (sym e) in
@@ -364,10 +397,13 @@ message_length d y e =
   where
     go : (t : Bool) → (cond t (up_to alerts 0) (message_frame d.limit)).header ≤ length
         (some_front (messages_of d.limit d.kind) d.held.part y (sym e)).0.0 → 2 ≤ length y
-    go true h = omega (arith, h, ap length (some_front (messages_of d.limit d.kind) d.held.part y (sym e)).2)
-    go false h = omega (arith, h, ap length (some_front (messages_of d.limit d.kind) d.held.part y (sym e)).2)
+    go true h = omega
+        (arith, h, ap length (some_front (messages_of d.limit d.kind) d.held.part y (sym e)).2)
+    go false h =
+        omega (arith, h, ap length (some_front (messages_of d.limit d.kind) d.held.part y (sym e)).2)
 
-pub message_within : (d : Stream) (y : Bytes) → Some y ≡ frame_of (front (messages_of d.limit d.kind) d.held.part)
+pub message_within : (d : Stream) (y : Bytes)
+    → Some y ≡ frame_of (front (messages_of d.limit d.kind) d.held.part)
     → length y ≤ length d.held.part
 message_within d y e = shorter_frame (messages_of d.limit d.kind) d.held.part y e
 
@@ -379,8 +415,9 @@ record_length u y e =
 pub record_within : (u y : Bytes) → Some y ≡ frame_of (front wide_record u) → length y ≤ length u
 record_within u y e = shorter_frame wide_record u y e
 
--- A record that says something by itself.
-pub alone_none : (d : Stream) → None ≡ frame_of (front wide_record d.held.unread) → None ≡ alone_record d
+-- A record with an event by itself.
+pub alone_none : (d : Stream) → None ≡ frame_of (front wide_record d.held.unread)
+    → None ≡ alone_record d
 alone_none d e = ap (alone_in d) (sym (none_front (front wide_record d.held.unread) (sym e)))
 
 alone_open : (b : Bytes) (i : Item) → b ≢ [] → alone b i ≡ None
@@ -394,7 +431,8 @@ alone_closed d some = go (front wide_record d.held.unread)
     go None = refl
     go (Some x) = ap (with_bytes x.0) (sym (alone_open d.held.part (item_of (standing d) x.0) some))
 
-pub alone_is : (d : Stream) (y : Bytes) (i : Item) → Some y ≡ frame_of (front wide_record d.held.unread)
+pub alone_is : (d : Stream) (y : Bytes) (i : Item)
+    → Some y ≡ frame_of (front wide_record d.held.unread)
     → d.held.part ≡ [] → i ≡ item_of (standing d) y
     → with_bytes y (alone [] i) ≡ alone_record d
 alone_is d y i e empty is =
@@ -404,7 +442,7 @@ alone_is d y i e empty is =
     ∙ ap (λ y. with_bytes y (alone d.held.part (item_of (standing d) y))) (sym x.2)
     ∙ ap (alone_in d) (sym x.1)
 
--- What stands alone is the first, where no message is whole.
+-- An event by itself is the next one if no message is whole.
 same_first : (d : Stream) (a : Option (Bytes × Bytes))
     → option_map (λ (x : Event × Stream). x.0) (first_record d a)
     ≡ option_map (λ (x : Event × Bytes). x.0) (alone_in d a)
@@ -417,45 +455,54 @@ same_first d (Some x) = go (alone d.held.part (item_of (standing d) x.0))
     go (Some e) = refl
 
 pub alone_first_is : (d : Stream) → None ≡ frame_of (front (messages_of d.limit d.kind) d.held.part)
-    → option_map (λ (x : Event × Stream). x.0) (first d) ≡ option_map (λ (x : Event × Bytes). x.0) (alone_record d)
+    → option_map (λ (x : Event × Stream). x.0) (first d) ≡ option_map (λ (x : Event × Bytes). x.0)
+    (alone_record d)
 alone_first_is d none =
     ap (λ a. option_map (λ (x : Event × Stream). x.0) (first_message d a))
     (none_front (front (messages_of d.limit d.kind) d.held.part) (sym none))
     ∙ same_first d (front wide_record d.held.unread)
 
 pub record_taken : (d : Stream) (v : Event) (y : Bytes)
-    → None ≡ frame_of (front (messages_of d.limit d.kind) d.held.part) → pair_of v y ≡ alone_record d
+    → None ≡ frame_of (front (messages_of d.limit d.kind) d.held.part)
+    → pair_of v y ≡ alone_record d
     → FirstTaken (first d) d true (behind_record d (y, drop (length y) d.held.unread))
 record_taken d v y none e =
-    subst (λ a. FirstTaken (first_message d a) d true (behind_record d (y, drop (length y) d.held.unread)))
+    subst (λ a. FirstTaken (first_message d a) d true
+    (behind_record d (y, drop (length y) d.held.unread)))
     (sym (none_front (front (messages_of d.limit d.kind) d.held.part) (sym none)))
     (by_front (front wide_record d.held.unread) refl e)
   where
     by_event : (x : Bytes × Bytes) (o : Option Event) → front wide_record d.held.unread ≡ Some x
         → pair_of v y ≡ with_bytes x.0 o
-        → FirstTaken (with_direction d x o) d true (behind_record d (y, drop (length y) d.held.unread))
+        → FirstTaken (with_direction d x o) d true
+        (behind_record d (y, drop (length y) d.held.unread))
     by_event x None f e = absurd cc
     by_event x (Some w) f e =
         let both : ◌≡◌ {A = Event × Bytes} (v, y) (w, x.0) = cc in
         let same : y ≡ x.0 = ap (λ (p : Event × Bytes). p.1) both in
         let rest : drop (length y) d.held.unread ≡ x.1 =
         ap (λ y. drop (length y) d.held.unread) same
-        ∙ ap (drop (length x.0)) (sym (front_joins wide_record d.held.unread x f)) ∙ drop-append_seam x.0 x.1 in (
+        ∙ ap (drop (length x.0)) (sym (front_joins wide_record d.held.unread x f))
+        ∙ drop-append_seam x.0 x.1 in (
           refl,
           ap (λ y. behind_record d (y, drop (length y) d.held.unread)) same
-              ∙ ap (λ r. behind_record d (x.0, r)) (ap (λ y. drop (length y) d.held.unread) (sym same) ∙ rest),
+              ∙ ap (λ r. behind_record d (x.0, r))
+              (ap (λ y. drop (length y) d.held.unread) (sym same) ∙ rest),
         )
 
-    by_front : (a : Option (Bytes × Bytes)) → front wide_record d.held.unread ≡ a → pair_of v y ≡ alone_in d a
+    by_front : (a : Option (Bytes × Bytes)) → front wide_record d.held.unread ≡ a
+        → pair_of v y ≡ alone_in d a
         → FirstTaken (first_record d a) d true (behind_record d (y, drop (length y) d.held.unread))
     by_front None f e = absurd cc
     by_front (Some x) f e = by_event x (alone d.held.part (item_of (standing d) x.0)) f e
 
 pub nothing_taken : (d : Stream) → None ≡ frame_of (front (messages_of d.limit d.kind) d.held.part)
     → None ≡ alone_record d → FirstTaken (first d) d false d
-nothing_taken d none e = go (first d) (alone_first_is d none ∙ ap (option_map (λ (x : Event × Bytes). x.0)) (sym e))
+nothing_taken d none e =
+    go (first d) (alone_first_is d none ∙ ap (option_map (λ (x : Event × Bytes). x.0)) (sym e))
   where
-    go : (a : Option (Event × Stream)) → option_map (λ (x : Event × Stream). x.0) a ≡ None → FirstTaken a d false d
+    go : (a : Option (Event × Stream)) → option_map (λ (x : Event × Stream). x.0) a ≡ None
+        → FirstTaken a d false d
     go None e = (refl, refl)
     go (Some x) e = absurd cc
 
@@ -469,10 +516,12 @@ record_of_alone d v y e = go (front wide_record d.held.unread) refl e
     by_event x (Some w) f e =
         let both : ◌≡◌ {A = Event × Bytes} (v, y) (w, x.0) = cc in
         let same : y ≡ x.0 = ap (λ (p : Event × Bytes). p.1) both in
-        let is : Some y ≡ frame_of (front wide_record d.held.unread) = ap Some same ∙ ap frame_of (sym f) in
+        let is : Some y ≡ frame_of (front wide_record d.held.unread) =
+        ap Some same ∙ ap frame_of (sym f) in
         (record_length d.held.unread y is, record_within d.held.unread y is)
 
-    go : (a : Option (Bytes × Bytes)) → front wide_record d.held.unread ≡ a → pair_of v y ≡ alone_in d a
+    go : (a : Option (Bytes × Bytes)) → front wide_record d.held.unread ≡ a
+        → pair_of v y ≡ alone_in d a
         → (5 ≤ length y) × (length y ≤ length d.held.unread)
     go None f e = absurd cc
     go (Some x) f e = by_event x (alone d.held.part (item_of (standing d) x.0)) f e

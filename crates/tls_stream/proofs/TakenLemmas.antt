@@ -62,7 +62,7 @@ use Rattle.tls_stream.proofs.ItemLemmas.{none_short}
 use Rattle.tls_stream.proofs.StreamLemmas.{nothing}
 use Rattle.tls_stream.proofs.DirectionLemmas.{fed_nothing, fed_twice, first_event}
 
--- What the event in front is.
+-- What the next event is.
 pub record IsTakenOff (d : Direction) (e : Event) (new : Direction) : Type 0 where
   pub says : (s : Bytes) → events (fed d s) ≡ e ∷ events (fed new s)
 
@@ -73,10 +73,16 @@ taken_off d new t some off = go (first d) refl some off
     go : (a : Option (Event × Direction)) → first d ≡ a → IsSome a → FirstTaken a d t new
         → (e : Event) × (option_map (λ x. x.0) a ≡ Some e) × IsTakenOff d e new
     go None is some off = absurd cc
-    go (Some x) is some off =
-        (x.0, refl, record { says = λ s. first_event d x.1 x.0 s is ∙ ap (λ n. x.0 ∷ events (fed n s)) (sym off.1) })
+    go (Some x) is some off = (
+      x.0,
+      refl,
+      record {
+        says = λ s. first_event d x.1 x.0 s is
+            ∙ ap (λ n. x.0 ∷ events (fed n s)) (sym off.1);
+      },
+    )
 
--- One event more was taken.
+-- One more event was taken.
 one_off : (taken taken' : List Bytes) (d new : Direction) (e : Event) → IsTakenOff d e new
     → taken' ≡ taken ++ message_in e → TakesSame taken d taken' new
 one_off taken taken' d new e off more s =
@@ -102,18 +108,22 @@ none_is (ApplicationData b) h = refl
 none_is (Encrypted b) h = refl
 none_is (Failed f) h = refl
 
-pub message_off : (taken : List (Vec ℕ)) (now : List (Vec ℕ)) (v : Vec ℕ) (m : Bytes) (d new : Direction) (t : Bool)
-    → IsSome (first d) → FirstTaken (first d) d t new → Some m ≡ handshake_in (option_map (λ x. x.0) (first d))
+pub message_off : (taken : List (Vec ℕ)) (now : List (Vec ℕ)) (v : Vec ℕ) (m : Bytes)
+    (d new : Direction) (t : Bool)
+    → IsSome (first d) → FirstTaken (first d) d t new
+    → Some m ≡ handshake_in (option_map (λ x. x.0) (first d))
     → now ≡ taken ++ v ∷ [] → v.items ≡ m
     → TakesSame (elements taken) d (elements now) new
 message_off taken now v m d new t some off front pushed same =
     let x = taken_off d new t some off in
     let is : x.0 ≡ Handshake m = message_is x.0 m (front ∙ ap handshake_in x.1) in
     one_off (elements taken) (elements now) d new x.0 x.2
-    (ap elements pushed ∙ map-append (λ v. v.items) taken (v ∷ []) ∙ ap (λ b. elements taken ++ b ∷ []) same
+    (ap elements pushed ∙ map-append (λ v. v.items) taken (v ∷ [])
+    ∙ ap (λ b. elements taken ++ b ∷ []) same
     ∙ ap (λ e. elements taken ++ message_in e) (sym is))
 
-pub other_off : (taken : List Bytes) (d new : Direction) (t : Bool) → IsSome (first d) → FirstTaken (first d) d t new
+pub other_off : (taken : List Bytes) (d new : Direction) (t : Bool) → IsSome (first d)
+    → FirstTaken (first d) d t new
     → None ≡ handshake_in (option_map (λ x. x.0) (first d)) → TakesSame taken d taken new
 other_off taken d new t some off front =
     let x = taken_off d new t some off in
@@ -127,11 +137,13 @@ fewer_off d new t some off =
     let is = ap length (x.2.says []) in
     omega (arith, is)
 
--- All are taken.
-pub same_ready : (taken : List Bytes) (d new : Direction) → SaysTheSame new d → TakesSame taken d taken new
+-- All events were taken.
+pub same_ready : (taken : List Bytes) (d new : Direction) → SaysTheSame new d
+    → TakesSame taken d taken new
 same_ready taken d new same s = ap (λ es. taken ++ handshakes es) (sym (same s))
 
-pub ended : (taken all : List Bytes) (first_one d new : Direction) (f : Fault) → TakesSame all first_one taken d
+pub ended : (taken all : List Bytes) (first_one d new : Direction) (f : Fault)
+    → TakesSame all first_one taken d
     → SaysTheSame new d → SaysOnly new (Failed f ∷ []) → AreTaken all first_one taken new true
 ended taken all first_one d new f was same only =
     record { same = λ s. was s ∙ same_ready taken d new same s; over = (f, only) }
@@ -142,14 +154,17 @@ waits taken all first_one d new was same none =
     record { same = λ s. was s ∙ same_ready taken d new same s; over = none }
 
 pub none_over : (d : Direction) (t : Bool) → IsOver d t → handshakes (events d) ≡ []
-none_over d true over = ap (λ k. handshakes (events k)) (sym (fed_nothing d)) ∙ ap handshakes (over.1 [])
+none_over d true over = ap (λ k. handshakes (events k)) (sym (fed_nothing d))
+    ∙ ap handshakes (over.1 [])
 none_over d false over = ap handshakes over
 
--- The messages of the bytes x were taken off a new direction, and nothing of what is still to come is lost.
+-- The messages of x were taken from a new direction, and none of those still to come are lost.
 abbrev pub IsSaid : List Bytes → Direction → ℕ → Bytes → Type 0
-IsSaid taken d limit x = (s : Bytes) → handshakes (events (fed (silent limit) (x ++ s))) ≡ with_those_of taken d s
+IsSaid taken d limit x = (s : Bytes)
+    → handshakes (events (fed (silent limit) (x ++ s))) ≡ with_those_of taken d s
 
-pub said_more : (x y : Bytes) (taken taken' : List Bytes) (d fed_d new : Direction) (limit : ℕ) → IsSaid taken d limit x
+pub said_more : (x y : Bytes) (taken taken' : List Bytes) (d fed_d new : Direction) (limit : ℕ)
+    → IsSaid taken d limit x
     → fed_d ≡ fed d y → TakesSame taken fed_d taken' new → IsSaid taken' new limit (x ++ y)
 said_more x y taken taken' d fed_d new limit was feeds takes s =
     ap (λ x. handshakes (events (fed (silent limit) x))) (append_assoc x y s)
@@ -168,22 +183,25 @@ said_all x taken d limit was none =
     ∙ sym (was [])
     ∙ ap (λ x. handshakes (events (fed (silent limit) x))) (append-nil x)
 
--- One piece more of a list of them.
-pub one_piece : (pieces : List (Bor (List ℕ))) (i : ℕ) (p : Bor (List ℕ)) (taken taken' : List Bytes)
+-- One more piece of a list.
+pub one_piece : (pieces : List (Bor (List ℕ))) (i : ℕ) (p : Bor (List ℕ))
+    (taken taken' : List Bytes)
     (d fed_d new : Direction)
     (limit : ℕ) → i < length pieces → IsSaid taken d limit (joined (take i pieces))
     → fed_d ≡ fed d (get_or pieces i p).now
     → TakesSame taken fed_d taken' new → IsSaid taken' new limit (joined (take (i + 1) pieces))
 one_piece pieces i p taken taken' d fed_d new limit h was feeds takes =
     subst (λ x. IsSaid taken' new limit x) (sym (joined_next pieces i p h))
-    (said_more (joined (take i pieces)) (get_or pieces i p).now taken taken' d fed_d new limit was feeds takes)
+    (said_more (joined (take i pieces)) (get_or pieces i p).now taken taken' d fed_d new limit was
+    feeds takes)
 
--- It is at fault: no message follows, whatever is fed.
+-- The direction is at fault: no message follows, whatever is fed.
 pub at_fault : (pieces : List (Bor (List ℕ))) (i : ℕ) (p : Bor (List ℕ)) (taken taken' : List Bytes)
     (d fed_d new : Direction)
     (limit : ℕ) → i < length pieces → IsSaid taken d limit (joined (take i pieces))
     → fed_d ≡ fed d (get_or pieces i p).now
-    → AreTaken taken fed_d taken' new true → taken' ≡ handshakes (events (fed (silent limit) (joined pieces)))
+    → AreTaken taken fed_d taken' new true
+    → taken' ≡ handshakes (events (fed (silent limit) (joined pieces)))
 at_fault pieces i p taken taken' d fed_d new limit h was feeds ends =
     let others = joined (drop (i + 1) pieces) in
     let all : joined pieces ≡ joined (take (i + 1) pieces) ++ others
@@ -194,9 +212,10 @@ at_fault pieces i p taken taken' d fed_d new limit h was feeds ends =
     ∙ sym (one_piece pieces i p taken taken' d fed_d new limit h was feeds ends.same others)
     ∙ ap (λ x. handshakes (events (fed (silent limit) x))) (sym all)
 
--- Nothing is said of no bytes.
+-- No bytes have no frames.
 none_of_none : (f : Shape) → 0 < f.header → front f [] ≡ None
-none_of_none f takes = none_part f [] (λ w. let h : f.header + body_length f [] ≤ 0 = w in omega (arith, h, takes))
+none_of_none f takes =
+    none_part f [] (λ w. let h : f.header + body_length f [] ≤ 0 = w in omega (arith, h, takes))
 
 abbrev fresh : Standing
 fresh = record { is_tls13 = false; has_changed = false }
@@ -205,19 +224,23 @@ pub silence : (limit : ℕ) → events (silent limit) ≡ []
 silence limit =
     nothing limit 22 fresh [] [] (none_of_none (messages_of limit 22) (takes limit 22))
     (none_short fresh [] (none_of_none wide_record (lit< tt)) (lit< tt))
-    (λ l. let h : (messages_of limit 22).header ≤ 0 = l.has_header in omega (arith, h, takes limit 22))
+    (λ l. let h : (messages_of limit 22).header ≤ 0 = l.has_header in
+    omega (arith, h, takes limit 22))
 
 pub begun : (taken : List (Vec ℕ)) (d : Direction) (limit : ℕ) → taken ≡ [] → d ≡ silent limit
     → IsSaid (elements taken) d limit [] × (events d ≡ [])
 begun taken d limit none is = (
-  λ s. sym (ap (λ t. elements t ++ handshakes (events (fed d s))) none ∙ ap (λ d. handshakes (events (fed d s))) is),
+  λ s. sym (ap (λ t. elements t ++ handshakes (events (fed d s))) none
+      ∙ ap (λ d. handshakes (events (fed d s))) is),
   ap events is ∙ silence limit,
 )
 
-pub at_end_all : (pieces : List (Bor (List ℕ))) (i : ℕ) (taken : List Bytes) (d : Direction) (limit : ℕ)
+pub at_end_all : (pieces : List (Bor (List ℕ))) (i : ℕ) (taken : List Bytes) (d : Direction)
+    (limit : ℕ)
     → length pieces ≤ i
     → IsSaid taken d limit (joined (take i pieces)) → events d ≡ []
     → taken ≡ handshakes (events (fed (silent limit) (joined pieces)))
 at_end_all pieces i taken d limit all was none =
-    said_all (joined pieces) taken d limit (subst (λ x. IsSaid taken d limit (joined x)) (take_all i pieces all) was)
+    said_all (joined pieces) taken d limit
+    (subst (λ x. IsSaid taken d limit (joined x)) (take_all i pieces all) was)
     (ap handshakes none)

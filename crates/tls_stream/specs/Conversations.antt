@@ -1,4 +1,4 @@
--- What a conversation says, by the pieces of both sides in their order.
+-- The events of a conversation, given the pieces of both sides in order of arrival.
 use Rattle.std.specs.Prelude.{◌≡◌, ℕ, Bool, true, false, not, ◌&&◌, ◌||◌, Option, Some, None, List, [], ◌∷◌, ◌++◌, map}
 use Rattle.std.specs.Borrow.{Bor}
 use Rattle.layouts.specs.Bytes.{Bytes}
@@ -23,14 +23,14 @@ abbrev pub other : Side → Side
 other ToServer = FromServer
 other FromServer = ToServer
 
--- Nothing was said, and none but what the pieces say is heard.
+-- A new conversation: both sides are empty, and no event was followed.
 pub record IsBegun (limit : ℕ) (c : Conversation) : Type 0 where
   pub client : IsSilent limit c.client
   pub server : IsSilent limit c.server
   pub is_tls13 : c.is_tls13 ≡ false
   pub flow : c.flow ≡ silence
 
--- The event by which both sides come to know that TLS 1.3 is spoken: the first that chooses it.
+-- Whether the event switches both sides to TLS 1.3: it is the first that chooses it.
 abbrev pub tells : Conversation → Event → Bool
 tells c e = not c.is_tls13 && chooses_tls13 e.symbol.kind e.symbol.direction
 
@@ -38,15 +38,15 @@ abbrev pub IsToldIf : Bool → Ear → Ear → Type 0
 IsToldIf true e f = SaysAs (told e) f
 IsToldIf false e f = SaysAs e f
 
--- A side says v first, and d is what the conversation is behind it: v is followed as an event, and where it is the first that
--- chooses TLS 1.3 both sides are told.
+-- Side s says v first, and d is the conversation after it: v was followed, and if it is the first
+-- event that chooses TLS 1.3, both sides were switched.
 pub record IsBehind (c : Conversation) (s : Side) (v : Said) (d : Conversation) : Type 0 where
   pub side : (e : Ear) × IsFirst (ear c s) v e × IsToldIf (tells c (event_of s v)) e (ear d s)
   pub other : IsToldIf (tells c (event_of s v)) (ear c (other s)) (ear d (other s))
   pub is_tls13 : d.is_tls13 ≡ (c.is_tls13 || tells c (event_of s v))
   pub flow : d.flow ≡ follow c.flow (event_of s v)
 
--- An event is followed, and where it is the first that chooses TLS 1.3 both sides are told.
+-- An event was followed. If it is the first that chooses TLS 1.3, both sides were switched.
 pub record IsFollowed (c : Conversation) (e : Event) (d : Conversation) : Type 0 where
   pub client : IsToldIf (tells c e) c.client d.client
   pub server : IsToldIf (tells c e) c.server d.server
@@ -54,35 +54,35 @@ pub record IsFollowed (c : Conversation) (e : Event) (d : Conversation) : Type 0
   pub is_tls13 : d.is_tls13 ≡ (c.is_tls13 || tells c e)
   pub flow : d.flow ≡ follow c.flow e
 
--- A side gets a further piece.
+-- A side got another piece.
 pub record IsFedBy (c : Conversation) (s : Side) (p : Bytes) (d : Conversation) : Type 0 where
   pub side : IsFed (ear c s) p (ear d s)
   pub other : ear d (other s) ≡ ear c (other s)
   pub is_tls13 : d.is_tls13 ≡ c.is_tls13
   pub flow : d.flow ≡ c.flow
 
--- A side says these, one after the other, and then no more for now.
+-- A side says these, in order, and then nothing for now.
 abbrev pub Says : Conversation → Side → List Said → Conversation → Type 0
 Says c s [] d = (says (ear c s) [] ≡ []) × (d ≡ c)
 Says c s (v ∷ vs) d = (m : Conversation) × IsBehind c s v m × Says m s vs d
 
--- A side said these first, the latest of them in front, and d is what the conversation is behind them.
+-- A side said these, the latest first in the list; d is the conversation after them.
 abbrev pub IsPast : Conversation → Side → List Said → Conversation → Type 0
 IsPast c s [] d = d ≡ c
 IsPast c s (v ∷ vs) d = (m : Conversation) × IsPast c s vs m × IsBehind m s v d
 
--- A side gets a further piece, and all is taken that it says by it.
+-- A side got another piece, and all its events were taken.
 abbrev pub IsHeard : Conversation → Side → Bytes → Conversation → Type 0
 IsHeard c s p d = (m : Conversation) × (vs : List Said) × IsFedBy c s p m × Says m s vs d
 
--- The pieces come one after the other, and the sides say by them what is followed as these events.
+-- The pieces arrive in order, and es are the events that the sides say.
 abbrev pub Hears : Conversation → List (Side × Bytes) → List Event → Conversation → Type 0
 Hears c [] es d = (es ≡ []) × (d ≡ c)
 Hears c (p ∷ ps) es d =
     (m n : Conversation) × (vs : List Said) × (fs : List Event) × (es ≡ map (event_of p.0) vs ++ fs)
     × IsFedBy c p.0 p.1 m × Says m p.0 vs n × Hears n ps fs d
 
--- The events of a conversation whose pieces come in this order.
+-- The events of a conversation whose pieces arrive in this order.
 abbrev pub AreEvents : ℕ → List (Side × Bytes) → List Event → Type 0
 AreEvents limit ps es = (c d : Conversation) × IsBegun limit c × Hears c ps es d
 
@@ -93,12 +93,12 @@ views ps = map (λ p. (p.0, p.1.now)) ps
 abbrev pub IsOutcomeOf : Outcome → ℕ → List (Side × Bytes) → Type 0
 IsOutcomeOf o limit ps = (es : List Event) × AreEvents limit ps es × IsOutcome o (symbols_of es)
 
--- What stands in front of a side is taken off.
+-- A side's next event was taken.
 abbrev pub IsTakenBy : Option Said → Conversation → Side → Bool → Conversation → Type 0
 IsTakenBy (Some v) c s taken d = (taken ≡ true) × IsBehind c s v d
 IsTakenBy None c s taken d = (taken ≡ false) × (d ≡ c)
 
--- It is the event of what stands in front, if something does.
+-- The event is that of the side's next, if there is one.
 abbrev pub IsEventOf : Event → Side → Option Said → Type 0
 IsEventOf e s (Some v) = e ≡ event_of s v
 IsEventOf e s None = Unit

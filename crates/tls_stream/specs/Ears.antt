@@ -8,7 +8,7 @@ use Rattle.tls_stream.specs.declared.ear.Ear.{Ear}
 use Rattle.tls_stream.specs.declared.ear.Standing.{Standing}
 use Rattle.tls_stream.specs.declared.ear.Standing.TheVariants.{Speaks, AtFault, Over}
 
--- All that a side says from here on, where these bytes are still to come.
+-- All that a side says from here on, if these bytes follow.
 abbrev pub says_by : Standing → Direction → Bytes → List Said
 says_by Speaks d t = events (fed d t)
 says_by (AtFault f) d t = Failed f ∷ []
@@ -17,23 +17,23 @@ says_by Over d t = []
 abbrev pub says : Ear → Bytes → List Said
 says e t = says_by e.standing e.direction t
 
--- The same, whatever comes.
+-- Both say the same, whatever follows.
 abbrev pub SaysAs : Ear → Ear → Type 0
 SaysAs e f = (t : Bytes) → says e t ≡ says f t
 
--- It says v first, whatever comes, and then what f says.
+-- e says v first and then what f says, whatever follows.
 abbrev pub IsFirst : Ear → Said → Ear → Type 0
 IsFirst e v f = (t : Bytes) → says e t ≡ v ∷ says f t
 
--- A further piece of its stream.
+-- f is e with another piece of its stream.
 abbrev pub IsFed : Ear → Bytes → Ear → Type 0
 IsFed e p f = (t : Bytes) → says e (p ++ t) ≡ says f t
 
--- Of which nothing came.
+-- A side that got no bytes.
 abbrev pub IsSilent : ℕ → Ear → Type 0
 IsSilent limit e = (t : Bytes) → says e t ≡ events (fed (silent limit) t)
 
--- It knows that the conversation speaks TLS 1.3.
+-- The side, switched to TLS 1.3.
 abbrev pub told : Ear → Ear
 told e = record e { direction = told_tls13 e.direction }
 
@@ -42,7 +42,7 @@ front_by Speaks d = option_map (λ x. x.0) (first d)
 front_by (AtFault f) d = Some (Failed f)
 front_by Over d = None
 
--- What stands in front, once it was made ready.
+-- The next event, once the side is ready.
 abbrev pub front_of : Ear → Option Said
 front_of e = front_by e.standing e.direction
 
@@ -50,11 +50,11 @@ abbrev pub first_in : List Said → Option Said
 first_in [] = None
 first_in (v ∷ vs) = Some v
 
--- It is ready: what stands in front is the first that it says.
+-- The side is ready: its next event is the first that it says.
 abbrev pub IsReady : Ear → Type 0
 IsReady e = first_in (says e []) ≡ front_of e
 
--- What stands in front is taken off.
+-- The next event was taken.
 abbrev pub IsTaken : Option Said → Ear → Bool → Ear → Type 0
 IsTaken (Some v) e taken f = (taken ≡ true) × IsFirst e v f
 IsTaken None e taken f = (taken ≡ false) × (f ≡ e)

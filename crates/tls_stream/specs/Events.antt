@@ -1,4 +1,4 @@
--- What a direction of a conversation says, by all its bytes, and where it ends.
+-- The events of a direction, given all its bytes, up to its fault.
 use Rattle.std.specs.Prelude.{
   ◌≡◌,
   ℕ,
@@ -25,7 +25,7 @@ use Rattle.tls_stream.specs.declared.direction.Direction.{Direction}
 use Rattle.tls_stream.specs.declared.stream.Stream.{Stream}
 use Rattle.tls_stream.specs.declared.fault.Fault.{Fault}
 
--- How many bytes a message may have behind its header, where no other limit is asked for.
+-- The default limit for a message's body, in bytes.
 abbrev pub default_limit : ℕ
 default_limit = 131072
 
@@ -36,51 +36,51 @@ silent limit = record { stream = stream.silent limit; fault = None }
 abbrev pub told_tls13 : Direction → Direction
 told_tls13 d = record d { stream = stream.told_tls13 d.stream }
 
--- A fault ends it: nothing else is said.
+-- A fault replaces all other events.
 abbrev pub ended_or : Option Fault → List Event → List Event
 ended_or (Some f) es = Failed f ∷ []
 ended_or None es = es
 
--- All events of a direction that aren't taken yet.
+-- The events of a direction that weren't taken yet.
 abbrev pub events : Direction → List Event
 events d = ended_or d.fault (stream.events d.stream)
 
--- Behind a fault nothing is held.
+-- After a fault no bytes are stored.
 abbrev pub with_more : Option Fault → Stream → Bytes → Stream
 with_more (Some f) d s = d
 with_more None d s = stream.fed d s
 
--- Further bytes of its stream.
+-- More bytes of its stream.
 abbrev pub fed : Direction → Bytes → Direction
 fed d s = record d { stream = with_more d.fault d.stream s }
 
--- Pieces of its stream, one after the other.
+-- Several pieces of its stream, in order.
 abbrev pub fed_all : Direction → List Bytes → Direction
 fed_all d [] = d
 fed_all d (p ∷ ps) = fed_all (fed d p) ps
 
--- What its records are that aren't read, with further bytes.
+-- The content of its unread records, with more bytes.
 abbrev pub items_with : Direction → Bytes → List Item
 items_with d s = stream.unread_items (stream.standing d.stream) (d.stream.held.unread ++ s)
 
--- Behind a fault no event stands.
+-- After a fault there is no next event.
 abbrev pub none_behind : Option Fault → Option (Event × Stream) → Option (Event × Direction)
 none_behind (Some f) a = None
 none_behind None a = option_map (λ x. (x.0, record { stream = x.1; fault = None })) a
 
--- The event that stands in front, and the direction behind it.
+-- The next event, and the direction after it.
 abbrev pub first : Direction → Option (Event × Direction)
 first d = none_behind d.fault (stream.first d.stream)
 
--- Whatever comes, these are the events.
+-- These are the events, whatever follows.
 abbrev pub SaysOnly : Direction → List Event → Type 0
 SaysOnly d es = (s : Bytes) → events (fed d s) ≡ es
 
--- Whatever comes, the events are the same.
+-- Both have the same events, whatever follows.
 abbrev pub SaysTheSame : Direction → Direction → Type 0
 SaysTheSame d e = (s : Bytes) → events (fed d s) ≡ events (fed e s)
 
--- What a direction says once it is made ready.
+-- What the answer of Direction::ready means.
 abbrev pub IsReady : Direction → Result Bool Fault → Type 0
 IsReady d (Ok true) = IsSome (first d)
 IsReady d (Ok false) = events d ≡ []

@@ -1,4 +1,4 @@
--- What a side says, as an event of a flow.
+-- A side's events as input for a flow.
 use Rattle.std.specs.Prelude.{Bool, true, false, Option, None}
 use Rattle.tls_stream.specs.Item.{Event as Said, Handshake, ChangeCipherSpec, Alert, Heartbeat, ApplicationData, Encrypted, Failed, view_event}
 use Rattle.tls_flow.specs.Bytes.{HandshakeMessage, kind_of_message, message_of}
@@ -11,8 +11,8 @@ use Rattle.tls_flow.specs.declared.symbol.Direction.TheVariants.{ToServer, FromS
 use Rattle.tls_stream.specs.declared.said.Said as rust
 use Rattle.tls_stream.specs.declared.said.Said.TheVariants as said
 
--- What is said, as an event, where k is the kind of a handshake message: what is refused isn't known, and application data is encrypted: a
--- handshake has none in the clear.
+-- The flow event, where k is the kind of a handshake message. A fault is an unknown message;
+-- application data counts as encrypted, since a handshake has none in the clear.
 abbrev pub event_with : Side → Said → Kind → Event
 event_with s (Handshake m) k = plain k s
 event_with s ChangeCipherSpec k = plain kind.ChangeCipherSpec s
@@ -22,7 +22,7 @@ event_with s (ApplicationData b) k = plain kind.Encrypted s
 event_with s (Encrypted r) k = plain kind.Encrypted s
 event_with s (Failed f) k = plain kind.Unknown s
 
--- The handshake message that is said, if one is.
+-- The handshake message, if it is one.
 abbrev pub message_in : Said → Option HandshakeMessage
 message_in (Handshake m) = message_of m
 message_in v = None
@@ -37,7 +37,8 @@ abbrev pub view_said : rust.Said → Said
 view_said (said.Event e) = view_event e
 view_said (said.Fault f) = Failed f
 
--- The server chooses TLS 1.3 by its ServerHello, or asks for a second ClientHello, which no other version does.
+-- The server chooses TLS 1.3 with its ServerHello, or asks for a second ClientHello, which no other
+-- version does.
 abbrev pub kind_chooses : Kind → Bool
 kind_chooses kind.ServerHello13 = true
 kind_chooses kind.HelloRetryRequest = true

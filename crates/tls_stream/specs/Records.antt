@@ -9,7 +9,8 @@ use Rattle.tls_records.specs.Record.{RawRecord, record_bytes}
 use Rattle.tls_records.specs.Framing.{max_fragment_length}
 use Rattle.tls_stream.specs.Frames.{Kind, Shape, up_to}
 
--- Records of TLS (RFC 5246, section 6.2): 5 bytes, of which the last 2 are the length of the fragment.
+-- Records of TLS (RFC 5246, section 6.2): a header of 5 bytes, the last 2 of which are the
+-- fragment's length.
 abbrev pub records : Kind
 records = record { header = 5; body_in = λ h. slice_index h 3 * 256 + slice_index h 4 }
 
@@ -19,22 +20,26 @@ record_frame = up_to records max_fragment_length
 
 -- Handshake messages (RFC 5246, section 7.4): 1 byte of type and 3 of the body's length.
 abbrev pub messages : Kind
-messages = record { header = 4; body_in = λ h. (slice_index h 1 * 256 + slice_index h 2) * 256 + slice_index h 3 }
+messages = record {
+  header = 4;
+  body_in =
+      λ h. (slice_index h 1 * 256 + slice_index h 2) * 256 + slice_index h 3;
+}
 
 abbrev pub message_frame : ℕ → Shape
 message_frame limit = up_to messages limit
 
--- The frame in front and what is behind it, where a record is read there.
+-- The first frame and the bytes after it, if a record parses there.
 abbrev pub front_of : Answer RawRecord → Bytes → Option (Bytes × Bytes)
 front_of (Ok x) b = Some (record_bytes x.0 b, x.1)
 front_of (Err e) b = None
 
--- What is returned refuses a length that is too large.
+-- The returned error is that the length is too large.
 abbrev pub IsRefusedAsTooLarge : {X : Type 0} → Returned X → Type 0
 IsRefusedAsTooLarge (Err (failed.Error e)) = e.code ≡ TooLarge
 IsRefusedAsTooLarge r = ⊥
 
--- The same answer, with that rest.
+-- An answer with its rest replaced.
 abbrev pub with_rest : {A : Type 0} → Bytes → Answer A → Answer A
 with_rest r (Ok x) = Ok (x.0, r)
 with_rest r (Err e) = Err e

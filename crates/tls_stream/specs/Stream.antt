@@ -1,5 +1,6 @@
--- What the stream of a direction says, by all its bytes: records, then the messages of their fragments, joined as long
--- as no other record stands between them (RFC 5246, section 6.2.1; RFC 8446, section 5.1).
+-- The events in the stream of a direction, given all its bytes: its records, then the messages of
+-- their fragments, joined as long as no other record comes between them (RFC 5246, section 6.2.1;
+-- RFC 8446, section 5.1).
 use Rattle.std.specs.Prelude.{
   ◌≡◌,
   ℕ,
@@ -60,39 +61,44 @@ use Rattle.tls_stream.specs.declared.fault.Fault.TheVariants as fault
 abbrev pub said : ℕ → ℕ → Bytes → List Event
 said limit kind b = map (event_of kind) (frames (messages_of limit kind) b)
 
--- What they leave: nothing, or a part of a message, perhaps with a length above the limit.
+-- What they leave: nothing, or part of a message, perhaps with a length above the limit.
 abbrev pub open_part : ℕ → ℕ → Bytes → Bytes
 open_part limit kind b = left (messages_of limit kind) b
 
--- Whether the header in front is all there, and says more than the limit.
+-- Whether the first header is whole, and its length above the limit.
 abbrev pub is_above : Shape → Bytes → Bool
 is_above f b = nat_le f.header (length b) && nat_lt f.limit (body_length f b)
 
 abbrev pub too_large_or : Shape → Bytes → List Event → List Event
 too_large_or f b others = cond (is_above f b) (Failed fault.TooLarge ∷ []) others
 
--- Another record stands behind them, and then these events: no message may be open.
+-- Another record follows, and then these events: no message may be open.
 abbrev pub closed : Shape → Bytes → List Event → List Event
 closed f [] others = others
 closed f (b ∷ bs) others = too_large_or f (b ∷ bs) (Failed fault.Interrupted ∷ [])
 
--- The events of fragments of a type that are joined so far, and of what stands behind them.
+-- The events of the fragments of a type joined so far, and of what follows them.
 abbrev pub events_of : ℕ → ℕ → Bytes → List Item → List Event
-events_of limit kind b [] = said limit kind b ++ too_large_or (messages_of limit kind) (open_part limit kind b) []
+events_of limit kind b [] =
+    said limit kind b ++ too_large_or (messages_of limit kind) (open_part limit kind b) []
 events_of limit kind b (Fragment k f ∷ is) =
     cond (k == kind) (events_of limit kind (b ++ f) is)
-    (said limit kind b ++ closed (messages_of limit kind) (open_part limit kind b) (events_of limit k f is))
+    (said limit kind b ++ closed (messages_of limit kind) (open_part limit kind b)
+    (events_of limit k f is))
 events_of limit kind b (Alone e ∷ is) =
-    said limit kind b ++ closed (messages_of limit kind) (open_part limit kind b) (e ∷ events_of limit kind [] is)
+    said limit kind b ++ closed (messages_of limit kind) (open_part limit kind b)
+    (e ∷ events_of limit kind [] is)
 events_of limit kind b (Broken k ∷ is) =
-    said limit kind b ++ too_large_or (messages_of limit kind) (open_part limit kind b) (Failed (fault.Refused k) ∷ [])
+    said limit kind b ++ too_large_or (messages_of limit kind) (open_part limit kind b)
+    (Failed (fault.Refused k) ∷ [])
 
--- A fragment in front of others of its type is one with them.
+-- A fragment joins with a following one of its type.
 abbrev pub onto_fragment : ℕ → Bytes → List Item → List Item
-onto_fragment k f (Fragment j g ∷ is) = cond (j == k) (Fragment k (f ++ g) ∷ is) (Fragment k f ∷ Fragment j g ∷ is)
+onto_fragment k f (Fragment j g ∷ is) =
+    cond (j == k) (Fragment k (f ++ g) ∷ is) (Fragment k f ∷ Fragment j g ∷ is)
 onto_fragment k f is = Fragment k f ∷ is
 
--- The fragments joined, as long as no other record stands between them.
+-- The fragments joined, as long as no other record comes between them.
 abbrev pub joined_items : List Item → List Item
 joined_items [] = []
 joined_items (Fragment k f ∷ is) = onto_fragment k f (joined_items is)
@@ -101,7 +107,7 @@ joined_items (i ∷ is) = i ∷ joined_items is
 abbrev pub standing : Stream → Standing
 standing d = record { is_tls13 = d.is_tls13; has_changed = d.has_changed }
 
--- What the records are that aren't read.
+-- The content of the records that weren't read yet.
 abbrev pub unread_items : Standing → Bytes → List Item
 unread_items s b = items s (frames wide_record b) (left wide_record b)
 
@@ -119,11 +125,11 @@ silent limit = record {
 abbrev pub told_tls13 : Stream → Stream
 told_tls13 d = record d { is_tls13 = true }
 
--- All events that aren't taken yet.
+-- The events that weren't taken yet.
 abbrev pub events : Stream → List Event
 events d = events_of d.limit d.kind d.held.part (unread_items (standing d) d.held.unread)
 
--- Further bytes.
+-- More bytes.
 abbrev pub fed : Stream → Bytes → Stream
 fed d s = record d { held = record { part = d.held.part; unread = d.held.unread ++ s } }
 
@@ -139,16 +145,16 @@ behind_record d x = record d {
 abbrev pub behind_message : Stream → Bytes × Bytes → Stream
 behind_message d x = record d { held = record { part = x.1; unread = d.held.unread } }
 
--- A fragment of that type, of so many bytes, is joined to the part.
+-- A fragment of this type and length is joined to the part.
 abbrev pub joined_to : Stream → ℕ → ℕ → Stream
 joined_to d kind n = record d { held = joined d.held n; kind = kind }
 
--- What a record says by itself, where no message is open.
+-- A record's event by itself, if no message is open.
 abbrev pub alone : Bytes → Item → Option Event
 alone [] (Alone e) = Some e
 alone part i = None
 
--- The same of the record that stands next, with its bytes.
+-- The event by itself of the next record, with the record's bytes.
 abbrev pub alone_in : Stream → Option (Bytes × Bytes) → Option (Event × Bytes)
 alone_in d None = None
 alone_in d (Some x) = option_map (λ e. (e, x.0)) (alone d.held.part (item_of (standing d) x.0))
@@ -158,18 +164,20 @@ alone_record d = alone_in d (front wide_record d.held.unread)
 
 abbrev pub first_record : Stream → Option (Bytes × Bytes) → Option (Event × Stream)
 first_record d None = None
-first_record d (Some x) = option_map (λ e. (e, behind_record d x)) (alone d.held.part (item_of (standing d) x.0))
+first_record d (Some x) =
+    option_map (λ e. (e, behind_record d x)) (alone d.held.part (item_of (standing d) x.0))
 
 abbrev pub first_message : Stream → Option (Bytes × Bytes) → Option (Event × Stream)
 first_message d (Some x) = Some (event_of d.kind x.0, behind_message d x)
 first_message d None = first_record d (front wide_record d.held.unread)
 
--- The event that stands in front, and the stream behind it: a message of the part, or a record that says something by
+-- The next event, and the stream after it: a message of the part, or a record with an event by
 -- itself.
 abbrev pub first : Stream → Option (Event × Stream)
 first d = first_message d (front (messages_of d.limit d.kind) d.held.part)
 
--- The bytes that an event is taken from: a message's, in front of the part, or a record's, in front of what isn't read.
+-- The bytes of an event: a message at the beginning of the part, or a record at the beginning of
+-- the unread stream.
 pub data Source : Type 0 where
   OfMessage : Bytes → Source
   OfRecord : Bytes → Source
@@ -182,41 +190,41 @@ abbrev pub source_by : Stream → Option Bytes → Option (Event × Source)
 source_by d (Some y) = Some (event_of d.kind y, OfMessage y)
 source_by d None = option_map (λ x. (x.0, OfRecord x.1)) (alone_record d)
 
--- The event that stands in front, and its bytes.
+-- The next event, and its bytes.
 abbrev pub first_source : Stream → Option (Event × Source)
 first_source d = source_by d (frame_of (front (messages_of d.limit d.kind) d.held.part))
 
--- The stream behind what is taken from these bytes.
+-- The stream after these bytes are taken.
 abbrev pub behind : Stream → Source → Stream
 behind d (OfMessage y) = behind_message d (y, drop (length y) d.held.part)
 behind d (OfRecord y) = behind_record d (y, drop (length y) d.held.unread)
 
--- The bytes stand where they are taken from.
+-- The bytes are long enough, and lie where they are taken from.
 abbrev pub Fits : Stream → Source → Type 0
 Fits d (OfMessage y) = length y ≤ length d.held.part
 Fits d (OfRecord y) = (5 ≤ length y) × (length y ≤ length d.held.unread)
 
--- Taking it off: true where one stands there; else nothing changes.
+-- The answer when an event is taken: true, or false and no change.
 abbrev pub FirstTaken : {A : Type 0} → Option (Event × A) → A → Bool → A → Type 0
 FirstTaken (Some x) old taken new = (taken ≡ true) × (new ≡ x.1)
 FirstTaken None old taken new = (taken ≡ false) × (new ≡ old)
 
--- Whatever comes, these are the events.
+-- These are the events, whatever follows.
 abbrev pub SaysOnly : Stream → List Event → Type 0
 SaysOnly d es = (s : Bytes) → events (fed d s) ≡ es
 
--- Whatever comes, the events are the same.
+-- Both have the same events, whatever follows.
 abbrev pub SaysTheSame : Stream → Stream → Type 0
 SaysTheSame d e = (s : Bytes) → events (fed d s) ≡ events (fed e s)
 
--- What is to be done next.
+-- What the answer of StreamView::next means.
 abbrev pub IsNext : Stream → Next → Type 0
 IsNext d next.Ready = IsSome (first d)
 IsNext d next.Waits = events d ≡ []
 IsNext d (next.Fails f) = SaysOnly d (Failed f ∷ [])
 IsNext d (next.Joins kind n) = (5 + n ≤ length d.held.unread) × SaysTheSame (joined_to d kind n) d
 
--- What it says once it is made ready.
+-- What the answer of Stream::ready means.
 abbrev pub IsReady : Stream → Result Bool Fault → Type 0
 IsReady d (Ok true) = IsSome (first d)
 IsReady d (Ok false) = events d ≡ []

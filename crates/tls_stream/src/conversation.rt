@@ -1,4 +1,4 @@
-//! Both sides of a conversation, joined.
+//! Both sides of a TLS conversation, joined.
 ghost use Rattle.std.specs.Prelude.{◌≡◌, List, IfOk, IsErr, OnOk};
 ghost use Rattle.std.specs.Option.{option_map};
 ghost use Rattle.tls_stream.specs.Item.{Event as Saying};
@@ -15,7 +15,7 @@ use layouts::OutOfMemory;
 use std::alloc::Global;
 use tls_flow::{Direction, Event, Flow, Outcome};
 
-/// A conversation of TLS, from the pieces of both sides' streams in the order in which they come.
+/// A TLS conversation, fed with the pieces of both sides' streams in order of arrival.
 #[derive(Drop)]
 pub struct Conversation {
     client: Ear,
@@ -25,14 +25,15 @@ pub struct Conversation {
 }
 
 impl Conversation {
-    /// One of which nothing came, with the limit [`DEFAULT_LIMIT`]. It takes no memory.
+    /// An empty conversation with the limit [`DEFAULT_LIMIT`]. It doesn't allocate.
     pub fn new(alloc: Global) -> Conversation
         ensures { IsBegun DEFAULT_LIMIT result }
     {
         Conversation::with_limit(alloc, DEFAULT_LIMIT)
     }
 
-    /// The same, where the body of a handshake message may have at most `limit` bytes.
+    /// An empty conversation whose handshake messages have bodies of at most `limit` bytes. It
+    /// doesn't allocate.
     pub fn with_limit(alloc: Global, limit: usize) -> Conversation
         ensures { IsBegun limit result }
     {
@@ -44,22 +45,22 @@ impl Conversation {
         }
     }
 
-    /// What the events so far came to, and what stopped it.
+    /// The flow of the events so far: the state, and what stopped it.
     pub fn flow(&self) -> &Flow
         ensures { result.now ≡ self.now.flow }
     {
         &self.flow
     }
 
-    /// How the conversation stands.
+    /// The outcome of the events so far.
     pub fn outcome(&self) -> Outcome
         ensures { result ≡ outcome_at self.now.flow.state }
     {
         self.flow.outcome()
     }
 
-    /// Puts a piece of the stream that goes in this direction behind what is held of it. Where that side is at fault it is left
-    /// out. `OutOfMemory` where it could not be held: all is as it was.
+    /// Appends a piece of the stream in this direction. The piece is dropped if that side is at
+    /// fault. `OutOfMemory` if there is no memory for it: then nothing changes.
     pub fn feed(&mut self, side: Direction, piece: &[u8]) -> Result<(), OutOfMemory>
         ensures fed { OnOk result (IsFedBy self.old side piece.now self.new) }
         ensures ready { OnOk result (IsReady (ear_of self.new side)) }
@@ -71,7 +72,8 @@ impl Conversation {
         }
     }
 
-    /// What the side says next: `None` where further bytes are needed, or where it ended by a fault that was taken off.
+    /// The side's next event, or its fault; `None` if more bytes are needed, or if the fault that
+    /// ended the side was taken.
     pub fn front(&self, side: Direction) -> Option<Said<'_>>
         ensures { option_map view_said result ≡ front_of (ear_of self.now side) }
     {
@@ -81,7 +83,7 @@ impl Conversation {
         }
     }
 
-    /// Tells both sides where the event is the first that chooses TLS 1.3, and follows it.
+    /// Follows the event. If it is the first that chooses TLS 1.3, both sides are switched to it.
     fn follow(&mut self, event: Event)
         ensures { IsFollowed self.old event self.new }
     {
@@ -93,12 +95,14 @@ impl Conversation {
         self.flow.update(event);
     }
 
-    /// Takes what the side says next off, and follows it as this event: true. Where nothing stands there nothing changes: false. It is for who
-    /// has made the event already.
+    /// Removes the side's next event and follows `event` in its place, for a caller that has built
+    /// the event already. Returns false, and changes nothing, if there is none.
     ///
-    /// Where it is the first message that chooses TLS 1.3, both sides are read as TLS 1.3 from there on.
+    /// If it is the first message that chooses TLS 1.3, both sides are read as TLS 1.3 from there
+    /// on.
     pub fn take_front_as(&mut self, side: Direction, event: Event) -> bool
-        ensures taken { IsEventOf event side (front_of (ear_of self.old side)) → IsTakenBy (front_of (ear_of self.old side)) self.old side result self.new }
+        ensures taken { IsEventOf event side (front_of (ear_of self.old side))
+            → IsTakenBy (front_of (ear_of self.old side)) self.old side result self.new }
         ensures ready { IsReady (ear_of self.old side) → IsReady (ear_of self.new side) }
     {
         let is_taken = match side {
@@ -112,9 +116,11 @@ impl Conversation {
         true
     }
 
-    /// Takes what the side says next off, and follows it: true. Where nothing stands there nothing changes: false.
+    /// Removes the side's next event and follows it. Returns false, and changes nothing, if there
+    /// is none.
     ///
-    /// Where it is the first message that chooses TLS 1.3, both sides are read as TLS 1.3 from there on.
+    /// If it is the first message that chooses TLS 1.3, both sides are read as TLS 1.3 from there
+    /// on.
     pub fn take_front(&mut self, side: Direction) -> bool
         ensures taken { IsTakenBy (front_of (ear_of self.old side)) self.old side result self.new }
         ensures ready { IsReady (ear_of self.old side) → IsReady (ear_of self.new side) }
@@ -126,7 +132,7 @@ impl Conversation {
         self.take_front_as(side, event)
     }
 
-    /// Takes all that the side says off, one after the other, and follows it.
+    /// Removes and follows every event that the side has.
     fn take_all(&mut self, side: Direction)
         requires { IsReady (ear_of self.old side) }
         ensures { (vs : List Saying) × Says self.old side vs self.new }
@@ -139,9 +145,9 @@ impl Conversation {
         'told: while self.take_front(side) {}
     }
 
-    /// Puts a piece behind what is held of that direction, takes all off that its side says then, and follows it.
+    /// Appends a piece of that direction, then removes and follows every event that the side has.
     ///
-    /// `OutOfMemory` where the piece could not be held: all is as it was.
+    /// `OutOfMemory` if there is no memory for the piece: then nothing changes.
     pub fn hear(&mut self, side: Direction, piece: &[u8]) -> Result<(), OutOfMemory>
         ensures heard { OnOk result (IsHeard self.old side piece.now self.new) }
         ensures memory { IsErr result → self.new ≡ self.old }
@@ -152,10 +158,11 @@ impl Conversation {
     }
 }
 
-/// The outcome of a conversation of which these pieces come in this order, each with the direction that it goes in. The body of
-/// a handshake message may have at most `limit` bytes.
+/// The outcome of a conversation whose pieces arrive in this order, each with its direction. A
+/// handshake message's body may have at most `limit` bytes.
 ///
-/// It is that of the events that both sides say by their bytes. `OutOfMemory` where a piece could not be held.
+/// It is the outcome of the events in both sides' bytes. `OutOfMemory` if there is no memory for a
+/// piece.
 pub fn outcome_of(
     alloc: Global,
     limit: usize,

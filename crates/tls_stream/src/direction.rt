@@ -1,4 +1,4 @@
-//! One direction of a conversation.
+//! One direction of a TLS conversation.
 ghost use Rattle.std.specs.Prelude.{◌≡◌, IsOk, IsSome, is_ok, if◌then◌else◌};
 ghost use Rattle.std.specs.Option.{option_map};
 ghost use Rattle.tls_stream.specs.Stream.{FirstTaken};
@@ -11,29 +11,31 @@ use crate::stream::Stream;
 use layouts::OutOfMemory;
 use std::alloc::Global;
 
-/// The most bytes that the body of a handshake message may have, unless the caller says another number.
+/// The default limit for the body of a handshake message, in bytes.
 pub const DEFAULT_LIMIT: usize = 131_072;
 
-/// One direction of a conversation: the bytes of its stream that are fed and not yet taken off as events.
+/// One direction of a conversation: the bytes of its stream that were fed and not yet taken as
+/// events.
 ///
-/// The events are those of its bytes, however these are cut into pieces, and however messages are cut over records. A handshake
-/// message stands in front once it is whole.
+/// The events depend on the bytes alone, not on how these are cut into pieces or how messages are
+/// cut into records. A handshake message becomes an event once it is whole.
 #[derive(Drop)]
 pub struct Direction {
     stream: Stream,
-    // What ended it.
+    // The fault that ended it.
     fault: Option<Fault>,
 }
 
 impl Direction {
-    /// One of which nothing is known, with a limit of [`DEFAULT_LIMIT`]. It takes no memory.
+    /// An empty direction with the limit [`DEFAULT_LIMIT`]. It doesn't allocate.
     pub fn new(alloc: Global) -> Self
         ensures { result ≡ silent DEFAULT_LIMIT }
     {
         Direction::with_limit(alloc, DEFAULT_LIMIT)
     }
 
-    /// The same, where the body of a handshake message may have at most `limit` bytes.
+    /// An empty direction whose handshake messages have bodies of at most `limit` bytes. It doesn't
+    /// allocate.
     pub fn with_limit(alloc: Global, limit: usize) -> Self
         ensures { result ≡ silent limit }
     {
@@ -43,19 +45,19 @@ impl Direction {
         }
     }
 
-    /// Tells the direction that the conversation speaks TLS 1.3, as a ServerHello or a HelloRetryRequest says, before its
-    /// next event is read. From here on records of application data are encrypted, and a ChangeCipherSpec is there for
-    /// middleboxes alone (RFC 8446, section D.4).
+    /// Switches the direction to TLS 1.3. Call it after the ServerHello or HelloRetryRequest that
+    /// chooses TLS 1.3, before the next event is read. From here on records of application data are
+    /// encrypted, and a ChangeCipherSpec only serves middleboxes (RFC 8446, section D.4).
     pub fn tell_tls13(&mut self)
         ensures { self.new ≡ told_tls13 self.old }
     {
         self.stream.tell_tls13();
     }
 
-    /// Puts the piece behind what is held. Once [`Direction::ready`] has answered a fault nothing more is held, and it is
-    /// `Ok`.
+    /// Appends a piece of the stream. Once [`Direction::ready`] has returned a fault, the piece is
+    /// dropped and the call returns `Ok`.
     ///
-    /// `OutOfMemory` where the piece could not be held: all is as it was.
+    /// `OutOfMemory` if there is no memory for the piece: then nothing changes.
     pub fn feed(&mut self, piece: &[u8]) -> Result<(), OutOfMemory>
         ensures held { self.new ≡ (if is_ok result then fed self.old piece.now else self.old) }
         ensures ended { IsSome self.old.fault → IsOk result }
@@ -66,11 +68,11 @@ impl Direction {
         self.stream.feed(piece)
     }
 
-    /// Joins fragments until an event stands in front: true, or further bytes are needed: false. The events stay the same,
-    /// those that are still to come too.
+    /// Joins fragments until an event is available: true; or false if more bytes are needed. The
+    /// events stay the same, and so do those still to come.
     ///
-    /// An `Err` is the fault that ends the direction: it is the next event and the last, whatever is fed. What is held
-    /// stays, and every later call answers the same.
+    /// An `Err` is the fault that ends the direction: it is the next event and the last, whatever
+    /// is fed. The buffered bytes stay, and every later call returns the same fault.
     pub fn ready(&mut self) -> Result<bool, Fault>
         ensures same { SaysTheSame self.new self.old }
         ensures next { IsReady self.new result }
@@ -88,7 +90,8 @@ impl Direction {
         }
     }
 
-    /// The event that stands in front, once [`Direction::ready`] is true; `None` where it is false or a fault.
+    /// The next event, once [`Direction::ready`] has returned true; `None` if it returned false or
+    /// a fault.
     #[tactic(auto, using(crate::proofs::DirectionLemmas::front_before))]
     pub fn front(&self) -> Option<Event<'_>>
         ensures { option_map view_event result ≡ option_map (λ x. x.0) (first self.now) }
@@ -99,7 +102,7 @@ impl Direction {
         }
     }
 
-    /// Takes the event that stands in front off: true. Where none stands there nothing changes: false.
+    /// Removes the next event. Returns false, and changes nothing, if there is none.
     pub fn take_front(&mut self) -> bool
         ensures { FirstTaken (first self.old) self.old result self.new }
     {

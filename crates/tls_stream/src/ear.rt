@@ -10,18 +10,18 @@ use crate::said::Said;
 use layouts::OutOfMemory;
 use std::alloc::Global;
 
-/// How a side stands.
+/// Whether a side goes on.
 #[derive(Clone, Copy)]
 pub(crate) enum Standing {
-    /// It may say more.
+    /// More events may come.
     Speaks,
-    /// Its next event is that fault, and the last.
+    /// Its next event is this fault, and the last.
     AtFault(Fault),
-    /// It says no more.
+    /// No more events come.
     Over,
 }
 
-/// One side of a conversation, made ready: what it says next stands in front.
+/// One side of a conversation, with its fragments joined up to its next event.
 #[derive(Drop)]
 pub(crate) struct Ear {
     direction: Direction,
@@ -29,7 +29,7 @@ pub(crate) struct Ear {
 }
 
 impl Ear {
-    /// One of which nothing is known. It takes no memory.
+    /// A side of which nothing was read. It doesn't allocate.
     pub(crate) fn new(alloc: Global, limit: usize) -> Ear
         ensures { IsSilent limit result }
     {
@@ -39,7 +39,7 @@ impl Ear {
         }
     }
 
-    /// Joins what has to be joined for the next event.
+    /// Joins fragments up to the next event.
     fn settle(&mut self)
         ensures same { SaysAs self.old self.new }
         ensures ready { IsReady self.new }
@@ -51,8 +51,8 @@ impl Ear {
         }
     }
 
-    /// Puts the piece behind what is held, unless the side is at fault. `OutOfMemory` where it could not be held: all is as it
-    /// was.
+    /// Appends the piece, unless the side is at fault. `OutOfMemory` if there is no memory for it:
+    /// then nothing changes.
     #[tactic(auto, using(crate::proofs::EarLemmas::ear_rules))]
     pub(crate) fn feed(&mut self, piece: &[u8]) -> Result<(), OutOfMemory>
         ensures fed { OnOk result (IsFed self.old piece.now self.new) }
@@ -66,7 +66,7 @@ impl Ear {
         Ok(())
     }
 
-    /// What it says next.
+    /// The next event, or the fault.
     pub(crate) fn front(&self) -> Option<Said<'_>>
         ensures { option_map view_said result ≡ front_of self.now }
     {
@@ -80,7 +80,7 @@ impl Ear {
         }
     }
 
-    /// Takes that off: true, or nothing stands there: false.
+    /// Removes the next event. Returns false if there is none.
     pub(crate) fn take_front(&mut self) -> bool
         ensures taken { IsTaken (front_of self.old) self.old result self.new }
         ensures ready { IsReady self.old → IsReady self.new }
@@ -101,7 +101,7 @@ impl Ear {
         }
     }
 
-    /// Tells the side that the conversation speaks TLS 1.3.
+    /// Switches the side to TLS 1.3.
     pub(crate) fn tell_tls13(&mut self)
         ensures same { SaysAs (told self.old) self.new }
         ensures ready { IsReady self.new }

@@ -3,15 +3,15 @@ use layouts::ErrorKind;
 use std::error::Error;
 use std::fmt;
 
-/// What ends a direction: nothing is read behind it.
+/// What ends a direction. Nothing after it is read.
 #[derive(Clone, Copy, Debug, PartialEq, Eq)]
 pub enum Fault {
-    /// A record is refused: its length is too large (`TooLarge`), its type is none that there is (`Switch`), or it is a
-    /// ChangeCipherSpec that isn't one byte, 1 (`Verify`).
+    /// A record is refused: its length is too large (`TooLarge`), its content type is unknown
+    /// (`Switch`), or it is a ChangeCipherSpec other than the one byte 1 (`Verify`).
     Refused(ErrorKind),
     /// The length of a handshake message is above the limit.
     TooLarge,
-    /// A record of another type stands between two parts of a message.
+    /// A record of another type comes between two fragments of a message.
     Interrupted,
 }
 

@@ -1,4 +1,4 @@
-//! What a side says, as an event of a flow.
+//! A side's events as input for a flow.
 ghost use Rattle.std.specs.Prelude.{◌≡◌};
 ghost use Rattle.std.specs.Option.{option_map};
 ghost use Rattle.tls_flow.specs.Bytes.{view_heard};
@@ -9,7 +9,8 @@ use crate::event::Event;
 use crate::said::Said;
 use tls_flow::{Direction, Event as FlowEvent, HandshakeMessage, Kind};
 
-/// The event that a side of TLS says. Application data counts as encrypted: a handshake has none in the clear.
+/// The flow event of an event of TLS. Application data counts as encrypted, since a handshake has
+/// none in the clear.
 pub fn tls_event(event: &Event<'_>, side: Direction) -> FlowEvent
     ensures { result ≡ event_of side (view_event event.now) }
 {
@@ -23,7 +24,8 @@ pub fn tls_event(event: &Event<'_>, side: Direction) -> FlowEvent
     }
 }
 
-/// The handshake message that a side of TLS says, with its ServerHello read; `None` where it says another thing.
+/// The handshake message of an event, with its ServerHello parsed; `None` if the event is another
+/// one.
 pub fn said_message<'a>(said: &Said<'a>) -> Option<HandshakeMessage<'a>>
     ensures { option_map view_heard result ≡ message_in (view_said said.now) }
 {
@@ -33,7 +35,8 @@ pub fn said_message<'a>(said: &Said<'a>) -> Option<HandshakeMessage<'a>>
     }
 }
 
-/// What is said, as an event, where `kind` is that of the handshake message: what is said is looked at once.
+/// The flow event of what a side says, where the caller gives the `kind` of a handshake message, so
+/// that it is parsed only once.
 pub fn said_event_with(said: &Said<'_>, kind: Kind, side: Direction) -> FlowEvent
     ensures { result ≡ event_with side (view_said said.now) kind }
 {
@@ -44,7 +47,7 @@ pub fn said_event_with(said: &Said<'_>, kind: Kind, side: Direction) -> FlowEven
     }
 }
 
-/// What is said, as an event.
+/// The flow event of what a side says.
 pub(crate) fn said_event(said: &Said<'_>, side: Direction) -> FlowEvent
     ensures { result ≡ event_of side (view_said said.now) }
 {
@@ -52,7 +55,8 @@ pub(crate) fn said_event(said: &Said<'_>, side: Direction) -> FlowEvent
     said_event_with(said, kind, side)
 }
 
-/// Whether the server chooses TLS 1.3 by an event: by its ServerHello, or by a HelloRetryRequest.
+/// Whether the server chooses TLS 1.3 with this event: a ServerHello of TLS 1.3, or a
+/// HelloRetryRequest.
 pub fn chooses_tls13(event: &FlowEvent) -> bool
     ensures { result ≡ chooses event.now.symbol.kind event.now.symbol.direction }
 {

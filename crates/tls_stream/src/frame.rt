@@ -1,25 +1,25 @@
-//! What frames are.
+//! Frames: a header, and a body of the length that the header gives.
 ghost use Rattle.std.specs.Prelude.{◌≡◌, ◌<◌, ◌↔◌, length, true};
 ghost use Rattle.std.specs.Option.{option_map};
 ghost use Rattle.std.proofs.Common.{lit<};
 ghost use Rattle.tls_stream.specs.Frames.{IsTooLarge, Kind, frame_of, front, up_to};
 ghost use Rattle.tls_stream.specs.Records.{messages, records};
 
-/// A kind of frames: a header, and as many bytes as it says.
+/// A kind of frame: a header, and as many bytes as its length field says.
 pub trait Frame {
-    /// How they are laid out.
+    /// The layout of the header.
     ghost kind: { Kind };
 
-    /// How many bytes a header has.
+    /// The length of a header, in bytes.
     fn header_len() -> usize
         ensures { result ≡ kind.header };
 
-    /// How many bytes follow this header.
+    /// The length of the body after this header, in bytes.
     fn body_len(header: &[u8]) -> usize
         requires { length header.now ≡ kind.header }
         ensures { result ≡ kind.body_in header.now };
 
-    /// A header has bytes, so a stream has no more frames than bytes.
+    /// A header isn't empty, so a stream has no more frames than bytes.
     ghost takes: { 0 < kind.header };
 }
 
@@ -57,7 +57,7 @@ impl Frame for Messages {
     }
 }
 
-/// Whether the header in front of these bytes is all there, and says more than `limit`.
+/// Whether these bytes start with a whole header whose length is above `limit`.
 #[tactic(auto, using(crate::proofs::FrontLemmas::what_is_too_large, crate::proofs::FrontLemmas::not_large))]
 pub fn is_too_large<F: Frame>(limit: usize, bytes: &[u8]) -> bool
     ensures { (result ≡ true) ↔ IsTooLarge (up_to F.kind limit) bytes.now }
@@ -65,7 +65,8 @@ pub fn is_too_large<F: Frame>(limit: usize, bytes: &[u8]) -> bool
     bytes.len() >= F::header_len() && F::body_len(&bytes[..F::header_len()]) > limit
 }
 
-/// The frame in front of these bytes, its header first, where it is whole and its header says no more than `limit`.
+/// The frame that these bytes start with, with its header, if it is whole and its length is at most
+/// `limit`.
 #[tactic(auto, using(crate::proofs::FrontLemmas::front_rules))]
 pub fn frame_in_front<F: Frame>(limit: usize, bytes: &[u8]) -> Option<&[u8]>
     ensures { option_map (λ b. b.now) result ≡ frame_of (front (up_to F.kind limit) bytes.now) }

@@ -1,15 +1,15 @@
-//! What is held of a direction's stream.
+//! The buffer of one direction.
 ghost use Rattle.std.specs.Prelude.{◌≡◌, ◌≤◌, ◌+◌, ◌-◌, ◌++◌, [], length, take, drop, is_ok, if◌then◌else◌};
 ghost use Rattle.tls_stream.specs.Held.{Held as Bytes, joined};
 
 use std::alloc::{AllocError, Global};
 use std::marker::Model;
 
-/// The bytes of a stream that are fed and not yet handed out: a part of a message, joined from fragments, and what stands
-/// after the records that were taken.
+/// The bytes of a stream that were fed and not yet taken: the part of a message that was joined
+/// from fragments, and the stream after the records that were read.
 ///
-/// They lie in one buffer, so that joining takes no memory: the part is moved to the fragment, or the fragment to the part,
-/// whichever is shorter.
+/// Both lie in one buffer, so joining doesn't allocate: it moves either the part to the fragment or
+/// the fragment to the part, whichever is shorter.
 #[derive(Drop)]
 pub struct Held {
     bytes: Vec<u8>,
@@ -22,13 +22,18 @@ impl Model for Held {
     ghost Value = { Bytes };
 
     ghost view = { λ h.
-        record { part = take (h.part_end - h.part) (drop h.part h.bytes.items); unread = drop h.unread h.bytes.items } };
+        record {
+          part = take (h.part_end - h.part) (drop h.part h.bytes.items);
+          unread =
+              drop h.unread h.bytes.items;
+        } };
 
-    ghost invariant = { λ h. (h.part ≤ h.part_end) × (h.part_end ≤ h.unread) × (h.unread ≤ length h.bytes.items) };
+    ghost invariant = { λ h. (h.part ≤ h.part_end) × (h.part_end ≤ h.unread)
+        × (h.unread ≤ length h.bytes.items) };
 }
 
 impl Held {
-    /// Holds nothing, and takes no memory.
+    /// An empty buffer. It doesn't allocate.
     pub fn new(alloc: Global) -> Self
         ensures { result ≡ record { part = []; unread = [] } }
     {
@@ -40,21 +45,21 @@ impl Held {
         }
     }
 
-    /// What was joined and not handed out.
+    /// The joined bytes that weren't taken yet.
     pub fn part(&self) -> &[u8]
         ensures { result.now ≡ self.now.part }
     {
         &self.bytes[self.part..self.part_end]
     }
 
-    /// What stands after the records that were taken.
+    /// The stream after the records that were read.
     pub fn unread(&self) -> &[u8]
         ensures { result.now ≡ self.now.unread }
     {
         &self.bytes[self.unread..]
     }
 
-    /// Takes the first `n` bytes of the part off.
+    /// Removes the first `n` bytes of the part.
     pub fn take_part(&mut self, n: usize)
         requires { n ≤ length self.old.part }
         ensures { self.new ≡ record { part = drop n self.old.part; unread = self.old.unread } }
@@ -62,7 +67,7 @@ impl Held {
         self.part += n;
     }
 
-    /// Takes the first `n` bytes of the stream off.
+    /// Removes the first `n` bytes of the stream.
     pub fn take_unread(&mut self, n: usize)
         requires { n ≤ length self.old.unread }
         ensures { self.new ≡ record { part = self.old.part; unread = drop n self.old.unread } }
@@ -70,8 +75,10 @@ impl Held {
         self.unread += n;
     }
 
-    /// Joins a record's fragment of `n` bytes to the part, and takes the record off the stream.
-    // Once a record, where what stands around it in its callers runs once a message: there it takes their registers.
+    /// Appends a record's fragment of `n` bytes to the part, and removes the record from the
+    /// stream.
+    // Not inlined: this runs once a record, and inlined it would take registers from code in the
+    // callers that runs once a message.
     #[inline(never)]
     pub fn join(&mut self, n: usize)
         requires { 5 + n ≤ length self.old.unread }
@@ -98,8 +105,8 @@ impl Held {
         self.unread = from + n;
     }
 
-    /// Moves what is held to the beginning, where it is at most as long as what was handed out, so that each byte is moved
-    /// no more often than another is handed out.
+    /// Moves the buffered bytes to the beginning of the buffer, if they are at most as many as the
+    /// bytes taken before them. So each byte is moved at most as often as another is taken.
     fn make_room(&mut self)
         ensures { self.new ≡ self.old }
     {
@@ -115,10 +122,12 @@ impl Held {
         }
     }
 
-    /// Puts the piece behind what is held. `AllocError` where it could not be held: all is as it was.
+    /// Appends the piece. `AllocError` if there is no memory for it: then nothing changes.
     pub fn append(&mut self, piece: &[u8]) -> Result<(), AllocError>
         ensures { self.new
-            ≡ (if is_ok result then record { part = self.old.part; unread = self.old.unread ++ piece.now } else self.old) }
+            ≡ (if is_ok result then
+            record { part = self.old.part; unread = self.old.unread ++ piece.now } else
+            self.old) }
     {
         self.make_room();
         self.bytes.extend_from_slice(piece)

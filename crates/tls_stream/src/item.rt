@@ -1,4 +1,4 @@
-//! What a record is to its direction.
+//! What a record contains, given the state of its direction.
 ghost use Rattle.std.specs.Prelude.{◌≡◌, ◌≤◌, length};
 ghost use Rattle.tls_stream.specs.Item.{Standing, change_in, is_alert as is_alert_in, is_sealed_alert as is_alert_sealed, item_of, plain_item, read_item, refusal, view_item};
 
@@ -6,18 +6,18 @@ use crate::event::Event;
 use layouts::ErrorKind;
 use tls_records::{MAX_ENCRYPTED_LEN, MAX_RECORD_LEN};
 
-/// What a record is to its direction.
+/// What a record contains.
 #[derive(Drop)]
 pub enum Item<'a> {
-    /// Bytes of messages of that type.
+    /// A fragment of messages with this content type.
     Fragment(u8, &'a [u8]),
-    /// It says that by itself.
+    /// An event by itself.
     Alone(Event<'a>),
-    /// It is refused.
+    /// A record that is refused.
     Broken(ErrorKind),
 }
 
-/// What refuses a record by its header.
+/// Why a record with this header is refused, if it is.
 pub fn refuse(is_encrypted: bool, kind: u8, len: usize) -> Option<ErrorKind>
     ensures { result ≡ refusal is_encrypted kind len }
 {
@@ -38,7 +38,7 @@ pub fn refuse(is_encrypted: bool, kind: u8, len: usize) -> Option<ErrorKind>
     }
 }
 
-/// A ChangeCipherSpec: one byte, 1.
+/// Parses a ChangeCipherSpec: the one byte 1.
 fn read_change(fragment: &[u8]) -> Item<'_>
     ensures { view_item result ≡ change_in fragment.now }
 {
@@ -49,14 +49,15 @@ fn read_change(fragment: &[u8]) -> Item<'_>
     }
 }
 
-/// Whether a fragment is an alert in the clear: two bytes, a warning or a fatal one.
+/// Whether a fragment is an alert in the clear: two bytes, of level 1 or 2.
 fn is_alert(fragment: &[u8]) -> bool
     ensures { result ≡ is_alert_in fragment.now }
 {
     fragment.len() == 2 && (fragment[0] == 1 || fragment[0] == 2)
 }
 
-/// Whether a record of an alert is encrypted, whatever is known of its direction: what it holds is no alert.
+/// Whether this is an alert record whose content is no alert, so that it must be encrypted. The
+/// state of its direction doesn't matter.
 pub fn is_sealed_alert(record: &[u8]) -> bool
     requires { 5 ≤ length record.now }
     ensures { result ≡ is_alert_sealed record.now }
@@ -64,7 +65,7 @@ pub fn is_sealed_alert(record: &[u8]) -> bool
     record[0] == 21 && !is_alert(&record[5..])
 }
 
-/// What a record is that isn't encrypted.
+/// What a record that isn't encrypted contains.
 fn read_plain(kind: u8, fragment: &[u8]) -> Item<'_>
     ensures { view_item result ≡ plain_item kind fragment.now }
 {
@@ -76,7 +77,7 @@ fn read_plain(kind: u8, fragment: &[u8]) -> Item<'_>
     }
 }
 
-/// What a whole record is that isn't refused by its header.
+/// What a whole record contains. The caller has checked its header with [`refuse`].
 pub fn read_record(is_encrypted: bool, record: &[u8]) -> Item<'_>
     requires { 5 ≤ length record.now }
     ensures { view_item result ≡ read_item is_encrypted record.now }

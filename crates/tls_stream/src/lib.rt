@@ -1,12 +1,18 @@
-//! What a stream that comes in pieces says: its records and handshake messages, off its front, the events of a direction, and both directions
-//! joined.
+//! Reads TLS from streams that arrive in pieces: the records and handshake messages of a stream,
+//! the events of one direction, and both directions joined.
 //!
-//! A [`Frame`] is a record or a message as it stands in front. A [`Direction`] takes pieces of a TCP stream and gives [`Event`]s in
-//! order: handshake messages, however they are cut over records, and the other records.
+//! A [`Frame`] is a record or handshake message with its header. A [`Direction`] takes the pieces
+//! of a TCP stream and returns [`Event`]s in order: handshake messages, reassembled from their
+//! records, and the other records.
 //!
-//! A [`Conversation`] takes the pieces of both directions in their order. What a side says is handed out event by event, and
-//! followed by a flow, which tells the outcome. Who hears more of it than the outcome reads each message once, by [`said_message`], and takes it
-//! off by [`Conversation::take_front_as`].
+//! A [`Conversation`] takes the pieces of both directions in order of arrival. It returns what each
+//! side sends event by event, and a [`tls_flow::Flow`] follows them to an outcome. A caller that
+//! needs more than the outcome parses each message once with [`said_message`] and removes it with
+//! [`Conversation::take_front_as`].
+//!
+//! Its promise: the events depend only on the bytes, and not on how these are cut into pieces or
+//! how messages are cut into records. `specs/Stream.antt`, `specs/Events.antt` and
+//! `specs/Conversations.antt` define them; [`laws`] states the promise.
 #![tactic(auto)]
 
 mod conversation;

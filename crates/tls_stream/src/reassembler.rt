@@ -1,4 +1,4 @@
-//! What is held of a stream.
+//! The buffer of a stream of frames.
 ghost use Rattle.std.specs.Prelude.{◌≡◌, ◌≤◌, ◌↔◌, ◌++◌, ◌-◌, ◌+◌, List, [], ℕ, length, drop, Ok, Err, is_ok, IsOk, OnOk, true, if◌then◌else◌};
 ghost use Rattle.std.specs.Option.{option_map};
 ghost use Rattle.layouts.specs.Answers.{Gives};
@@ -18,12 +18,12 @@ use std::fmt;
 use std::marker::{Model, PhantomData};
 use tls_records::{MAX_RECORD_LEN, TlsRawRecord, parse_tls_raw_record};
 
-/// Why a piece isn't taken. Nothing that is held is lost by it.
+/// Why a piece isn't taken. The buffered bytes stay.
 #[derive(Debug, PartialEq, Drop)]
 pub enum FeedError {
-    /// The length in the header that stands next is above the limit. Nothing is taken, now and from then on.
+    /// The next header's length is above the limit. Every later piece is refused too.
     TooLarge,
-    /// Memory ran out for the piece. All is as it was before.
+    /// There is no memory for the piece. Nothing changes.
     OutOfMemory,
 }
 
@@ -46,23 +46,24 @@ impl fmt::Display for FeedError {
 
 impl Error for FeedError {}
 
-/// The bytes of a stream of frames that are fed and not yet taken off the front; at most `LIMIT` bytes may follow a header.
+/// The bytes of a stream of frames that were fed and not yet taken. At most `LIMIT` bytes may
+/// follow a header.
 ///
-/// Its value in a contract is these bytes, in order. No length that a peer writes reserves memory.
+/// Its value in a contract is these bytes, in order. A length in a header never reserves memory.
 #[derive(Drop)]
 pub struct Frames<F, const LIMIT: usize> {
     bytes: Vec<u8>,
-    // What stands in front of this place is taken off.
+    // Where the bytes that weren't taken begin.
     start: usize,
     of: PhantomData<F>,
 }
 
 pub(crate) const RECORD_LIMIT: usize = MAX_RECORD_LEN as usize;
 
-/// The records of a stream, as [`parse_tls_raw_record`] reads them.
+/// The records of a stream, as [`parse_tls_raw_record`] parses them.
 pub type Reassembler = Frames<Records, RECORD_LIMIT>;
 
-/// The handshake messages of the fragments of records, with bodies of at most so many bytes.
+/// The handshake messages in the fragments of records, with bodies of at most `LIMIT` bytes.
 pub type Joiner<const LIMIT: usize> = Frames<Messages, LIMIT>;
 
 impl<F, const LIMIT: usize> Model for Frames<F, LIMIT> {
@@ -74,7 +75,7 @@ impl<F, const LIMIT: usize> Model for Frames<F, LIMIT> {
 }
 
 impl<F, const LIMIT: usize> Frames<F, LIMIT> {
-    /// Holds nothing, and takes no memory.
+    /// An empty buffer. It doesn't allocate.
     pub fn new(alloc: Global) -> Self
         ensures { result ≡ [] }
     {
@@ -85,14 +86,14 @@ impl<F, const LIMIT: usize> Frames<F, LIMIT> {
         }
     }
 
-    /// The bytes that are held.
+    /// The buffered bytes.
     pub fn held(&self) -> &[u8]
         ensures { result.now ≡ self.now }
     {
         &self.bytes[self.start..]
     }
 
-    /// Takes the first `n` bytes off. They stay where they are until the next piece needs their place.
+    /// Removes the first `n` bytes. They stay in memory until a later piece needs the room.
     fn take_off(&mut self, n: usize)
         requires { n ≤ length self.old }
         ensures { self.new ≡ drop n self.old }
@@ -100,8 +101,8 @@ impl<F, const LIMIT: usize> Frames<F, LIMIT> {
         self.start += n;
     }
 
-    /// Moves what is held to the beginning, where it is at most as long as what was taken off, so that each byte is moved
-    /// no more often than another is taken off.
+    /// Moves the buffered bytes to the beginning of the buffer, if they are at most as many as the
+    /// bytes taken before them. So each byte is moved at most as often as another is taken.
     fn make_room(&mut self)
         ensures { self.new ≡ self.old }
     {
@@ -122,21 +123,21 @@ impl<F, const LIMIT: usize> Frames<F, LIMIT> {
 }
 
 impl<F: Frame, const LIMIT: usize> Frames<F, LIMIT> {
-    /// Whether the length in the header that stands next is above the limit.
+    /// Whether the next header's length is above the limit.
     pub fn is_too_large(&self) -> bool
         ensures { (result ≡ true) ↔ IsTooLarge (up_to F.kind LIMIT) self.now }
     {
         is_too_large::<F>(LIMIT, self.held())
     }
 
-    /// The bytes of the frame that stands next, its header first, where it is whole and its length isn't too large.
+    /// The bytes of the next frame, with its header, if it is whole and its length isn't too large.
     pub fn front_bytes(&self) -> Option<&[u8]>
         ensures { option_map (λ b. b.now) result ≡ frame_of (front (up_to F.kind LIMIT) self.now) }
     {
         frame_in_front::<F>(LIMIT, self.held())
     }
 
-    /// Takes the frame that stands next off the front: true. Where none stands there nothing changes: false.
+    /// Removes the next frame. Returns false, and changes nothing, if there is none.
     #[tactic(auto, using(crate::proofs::FrontLemmas::taken_off, crate::proofs::FrontLemmas::none_off, crate::proofs::FrontLemmas::shorter_frame))]
     pub fn take_front(&mut self) -> bool
         ensures { FrontTaken (front (up_to F.kind LIMIT) self.old) self.old result self.new }
@@ -149,17 +150,18 @@ impl<F: Frame, const LIMIT: usize> Frames<F, LIMIT> {
         true
     }
 
-    /// Puts the piece behind what is held.
+    /// Appends a piece of the stream.
     ///
-    /// - `TooLarge` exactly where the length that stands next is above the limit: what is held stays, and every later call
-    ///   answers the same.
-    /// - `OutOfMemory` where the piece could not be held: what is held stays.
+    /// - `TooLarge` exactly if the next header's length is above the limit. The buffered bytes
+    ///   stay, and every later call returns the same.
+    /// - `OutOfMemory` if there is no memory for the piece. The buffered bytes stay.
     #[tactic(auto, using(crate::proofs::FrameLemmas::more_fed))]
     pub fn feed(&mut self, piece: &[u8]) -> Result<(), FeedError>
         ensures too_large { (result ≡ Err feed_error.TooLarge) ↔ IsTooLarge (up_to F.kind LIMIT) self.old }
         ensures held { self.new ≡ (if is_ok result then self.old ++ piece.now else self.old) }
         ensures frames { let f = up_to F.kind LIMIT in
-            OnOk result (frames f self.new ≡ frames f self.old ++ frames f (left f self.old ++ piece.now)) }
+            OnOk result (frames f self.new ≡ frames f self.old ++ frames f
+            (left f self.old ++ piece.now)) }
     {
         if self.is_too_large() {
             return Err(FeedError::TooLarge);
@@ -170,12 +172,12 @@ impl<F: Frame, const LIMIT: usize> Frames<F, LIMIT> {
 }
 
 impl Reassembler {
-    /// The record that stands next: the answer of [`parse_tls_raw_record`] on what is held.
+    /// The next record: the answer of [`parse_tls_raw_record`] on the buffered bytes.
     ///
-    /// - `Error` of kind `TooLarge` exactly where a header of 5 bytes stands next, and its length is above
-    ///   [`tls_records::MAX_RECORD_LEN`].
-    /// - `Incomplete` of the count that is missing exactly while the next record isn't whole, and no such length stands
-    ///   there.
+    /// - `Error` of kind `TooLarge` exactly if the buffer starts with a header of 5 bytes whose
+    ///   length is above [`tls_records::MAX_RECORD_LEN`].
+    /// - `Incomplete` with the count of missing bytes exactly while the next record isn't whole and
+    ///   its header has no such length.
     #[tactic(auto, using(crate::proofs::RawRecordLemmas::front_rules))]
     pub fn front(&self) -> IResult<&[u8], TlsRawRecord>
         ensures gives { Gives view_raw_record raw_record self.now result }

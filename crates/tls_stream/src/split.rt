@@ -1,4 +1,4 @@
-//! All frames of a stream, cut off at once.
+//! Cuts a whole stream into its frames.
 ghost use Rattle.std.specs.Prelude.{◌≡◌, ◌++◌, OnOk, IfOk};
 ghost use Rattle.tls_stream.specs.Frames.{IsSplit, elements, frames, joined, left, up_to};
 ghost use Rattle.tls_stream.specs.Records.{message_frame, record_frame};
@@ -8,14 +8,15 @@ use crate::reassembler::{FeedError, Frames, Joiner, RECORD_LIMIT, Reassembler};
 use layouts::OutOfMemory;
 use std::alloc::Global;
 
-/// Takes each whole frame off the front, and puts its bytes behind those that were taken before.
+/// Removes each whole frame from the stream and appends its bytes to `taken`.
 fn take_frames<F: Frame, const LIMIT: usize>(
     alloc: Global,
     stream: &mut Frames<F, LIMIT>,
     taken: &mut Vec<Vec<u8>>,
 ) -> Result<(), OutOfMemory>
     ensures { let f = up_to F.kind LIMIT in
-        OnOk result ((elements taken.new.items ≡ elements taken.old.items ++ frames f stream.old) × (stream.new ≡ left f stream.old)) }
+        OnOk result ((elements taken.new.items ≡ elements taken.old.items ++ frames f stream.old)
+        × (stream.new ≡ left f stream.old)) }
 {
     while let Some(bytes) = stream.front_bytes() {
         let frame = Vec::from_slice(alloc, bytes)?;
@@ -25,17 +26,19 @@ fn take_frames<F: Frame, const LIMIT: usize>(
     Ok(())
 }
 
-/// The bytes of each frame of a stream that comes in these pieces, its header first, and what is left behind the last.
+/// The bytes of each frame in a stream that arrives in these pieces, with its header, and the
+/// buffer after the last one.
 ///
-/// Each frame is taken off as soon as its last byte is there. It stops where the length in the header that stands next is
-/// too large: then that header is held, and perhaps not all that the pieces have behind it.
+/// Each frame is taken as soon as its last byte arrives. It stops at a header whose length is too
+/// large: the buffer then has that header, and perhaps not all bytes that follow.
 ///
-/// `OutOfMemory` where a piece, a frame or the list could not be held.
+/// `OutOfMemory` if there is no memory for a piece, a frame or the list.
 pub fn split_frames<F: Frame, const LIMIT: usize>(
     alloc: Global,
     pieces: &[&[u8]],
 ) -> Result<(Vec<Vec<u8>>, Frames<F, LIMIT>), OutOfMemory>
-    ensures { IfOk result (λ r. IsSplit (up_to F.kind LIMIT) (joined pieces.now) (elements r.0.items) r.1) }
+    ensures { IfOk result
+        (λ r. IsSplit (up_to F.kind LIMIT) (joined pieces.now) (elements r.0.items) r.1) }
 {
     let mut stream = Frames::<F, LIMIT>::new(alloc);
     let mut taken = Vec::new(alloc);
@@ -49,7 +52,8 @@ pub fn split_frames<F: Frame, const LIMIT: usize>(
     Ok((taken, stream))
 }
 
-/// The bytes of each record of a stream, as [`split_frames`] gives them.
+/// The bytes of each record in a stream that arrives in these pieces, with its header, and the
+/// buffer after the last one. It stops and fails as [`split_frames`] does.
 pub fn split_pieces(
     alloc: Global,
     pieces: &[&[u8]],
@@ -59,13 +63,15 @@ pub fn split_pieces(
     split_frames::<Records, RECORD_LIMIT>(alloc, pieces)
 }
 
-/// The bytes of each handshake message that stands in these fragments of records, its header first, however the messages
-/// are cut over them.
+/// The bytes of each handshake message in these fragments of records, with its header, and the
+/// buffer after the last one. How the messages are cut into fragments doesn't matter. It stops and
+/// fails as [`split_frames`] does.
 pub fn join_messages<const LIMIT: usize>(
     alloc: Global,
     fragments: &[&[u8]],
 ) -> Result<(Vec<Vec<u8>>, Joiner<LIMIT>), OutOfMemory>
-    ensures { IfOk result (λ r. IsSplit (message_frame LIMIT) (joined fragments.now) (elements r.0.items) r.1) }
+    ensures { IfOk result
+        (λ r. IsSplit (message_frame LIMIT) (joined fragments.now) (elements r.0.items) r.1) }
 {
     split_frames::<Messages, LIMIT>(alloc, fragments)
 }

@@ -1,4 +1,4 @@
-//! The stream of a direction that isn't at fault yet.
+//! The stream of a direction that isn't at fault.
 ghost use Rattle.std.specs.Prelude.{◌≡◌, is_ok, if◌then◌else◌};
 ghost use Rattle.std.specs.Option.{option_map};
 ghost use Rattle.tls_stream.specs.Stream.{FirstTaken, IsReady, SaysTheSame, fed, first, silent, told_tls13};
@@ -11,19 +11,19 @@ use crate::view::{Next, Source, StreamView};
 use layouts::OutOfMemory;
 use std::alloc::Global;
 
-/// The bytes of a direction's stream that are fed and not yet taken off as events.
+/// The bytes of a direction's stream that were fed and not yet taken as events.
 #[derive(Drop)]
 pub struct Stream {
     limit: usize,
     is_tls13: bool,
     has_changed: bool,
-    // The type of the fragments that the part is joined from.
+    // The content type of the fragments that the part is joined from.
     kind: u8,
     held: Held,
 }
 
 impl Stream {
-    /// One of which nothing is known, where the body of a handshake message may have at most `limit` bytes.
+    /// An empty stream whose handshake messages have bodies of at most `limit` bytes.
     pub fn new(alloc: Global, limit: usize) -> Self
         ensures { result ≡ silent limit }
     {
@@ -36,14 +36,14 @@ impl Stream {
         }
     }
 
-    /// Tells it that the conversation speaks TLS 1.3.
+    /// Switches the stream to TLS 1.3.
     pub fn tell_tls13(&mut self)
         ensures { self.new ≡ told_tls13 self.old }
     {
         self.is_tls13 = true;
     }
 
-    /// Puts the piece behind what is held. `OutOfMemory` where it could not be held: all is as it was.
+    /// Appends the piece. `OutOfMemory` if there is no memory for it: then nothing changes.
     pub fn feed(&mut self, piece: &[u8]) -> Result<(), OutOfMemory>
         ensures { self.new ≡ (if is_ok result then fed self.old piece.now else self.old) }
     {
@@ -51,7 +51,7 @@ impl Stream {
         Ok(())
     }
 
-    /// What is read of it.
+    /// A view of the stream, which decides what comes next.
     fn view(&self) -> StreamView<'_>
         ensures { result ≡ self.now }
     {
@@ -65,8 +65,8 @@ impl Stream {
         }
     }
 
-    /// Joins fragments until an event stands in front: true, or further bytes are needed: false. An `Err` is the fault that
-    /// is the next event and the last, whatever is fed.
+    /// Joins fragments until an event is available: true; or false if more bytes are needed. An
+    /// `Err` is the fault that is the next event and the last, whatever is fed.
     pub fn ready(&mut self) -> Result<bool, Fault>
         ensures same { SaysTheSame self.new self.old }
         ensures next { IsReady self.new result }
@@ -84,7 +84,7 @@ impl Stream {
         }
     }
 
-    /// The event that stands in front, once [`Stream::ready`] is true.
+    /// The next event, once [`Stream::ready`] has returned true.
     #[tactic(auto, using(crate::proofs::SourceLemmas::source_rules))]
     pub fn front(&self) -> Option<Event<'_>>
         ensures { option_map view_event result ≡ option_map (λ x. x.0) (first self.now) }
@@ -95,7 +95,7 @@ impl Stream {
         }
     }
 
-    /// Takes the event that stands in front off: true. Where none stands there nothing changes: false.
+    /// Removes the next event. Returns false, and changes nothing, if there is none.
     #[tactic(auto, using(crate::proofs::SourceLemmas::source_rules))]
     pub fn take_front(&mut self) -> bool
         ensures { FirstTaken (first self.old) self.old result self.new }

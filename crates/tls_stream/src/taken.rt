@@ -1,4 +1,4 @@
-//! The handshake messages of directions.
+//! The handshake messages of a direction.
 ghost use Rattle.std.specs.Prelude.{◌≡◌, ◌<◌, [], IfOk, IsSome, OnOk, length};
 ghost use Rattle.std.specs.Option.{option_map};
 ghost use Rattle.tls_stream.specs.Frames.{elements, joined};
@@ -10,9 +10,10 @@ use crate::event::Event;
 use layouts::OutOfMemory;
 use std::alloc::Global;
 
-/// The handshake message that stands in front.
+/// The next event's bytes, if it is a handshake message.
 fn front_message(direction: &Direction) -> Option<&[u8]>
-    ensures { option_map (λ b. b.now) result ≡ handshake_in (option_map (λ x. x.0) (first direction.now)) }
+    ensures { option_map (λ b. b.now) result ≡ handshake_in
+        (option_map (λ x. x.0) (first direction.now)) }
 {
     match direction.front() {
         Some(Event::Handshake(message)) => Some(message),
@@ -27,8 +28,7 @@ fn front_message(direction: &Direction) -> Option<&[u8]>
     }
 }
 
-/// Takes the event that stands in front off, and puts its bytes behind those that were taken before where it is a
-/// handshake message.
+/// Removes the next event. If it is a handshake message, its bytes are appended to `taken`.
 fn take_event(
     alloc: Global,
     direction: &mut Direction,
@@ -36,8 +36,10 @@ fn take_event(
 ) -> Result<(), OutOfMemory>
     requires { IsSome (first direction.old) }
     ensures same { OnOk result
-        (TakesSame (elements taken.old.items) direction.old (elements taken.new.items) direction.new) }
-    ensures fewer { OnOk result (length (events (fed direction.new [])) < length (events (fed direction.old []))) }
+        (TakesSame (elements taken.old.items) direction.old (elements taken.new.items)
+        direction.new) }
+    ensures fewer { OnOk result
+        (length (events (fed direction.new [])) < length (events (fed direction.old []))) }
 {
     if let Some(message) = front_message(direction) {
         let message = Vec::from_slice(alloc, message)?;
@@ -49,17 +51,19 @@ fn take_event(
     Ok(())
 }
 
-/// Takes all events off that are there, and puts the bytes of each handshake message, its header first, behind those that
-/// were taken before. It answers whether the direction is at fault: then no message follows, whatever is fed.
+/// Removes every event that is available, and appends the bytes of each handshake message, with its
+/// header, to `taken`. Returns whether the direction is at fault: then no message follows, whatever
+/// is fed.
 ///
-/// `OutOfMemory` where a message or the list could not be held. The list then has the messages that were taken, and the call can
-/// be made again: that is in no clause, and is tried by `.ci/refusals`.
+/// `OutOfMemory` if there is no memory for a message or the list. `taken` then has the messages
+/// before it, and the call can be repeated. No clause says so; `.ci/refusals` tests it.
 pub fn take_messages(
     alloc: Global,
     direction: &mut Direction,
     taken: &mut Vec<Vec<u8>>,
 ) -> Result<bool, OutOfMemory>
-    ensures { IfOk result (AreTaken (elements taken.old.items) direction.old (elements taken.new.items) direction.new) }
+    ensures { IfOk result
+        (AreTaken (elements taken.old.items) direction.old (elements taken.new.items) direction.new) }
 {
     'events: loop {
         match direction.ready() {
@@ -70,19 +74,20 @@ pub fn take_messages(
     }
 }
 
-/// The bytes of each handshake message of one direction's stream that comes in these pieces, its header first, and the
-/// direction with what it holds then. A message's body may have at most `limit` bytes.
+/// The bytes of each handshake message in one direction's stream that arrives in these pieces, with
+/// its header, and the direction after them. A message's body may have at most `limit` bytes.
 ///
-/// They are those of the pieces joined, however these are cut. It stops where the direction is at fault. The direction isn't told
-/// of TLS 1.3: what stands behind its ChangeCipherSpec counts as encrypted.
+/// The messages depend on the joined bytes alone. They stop where the direction is at fault. The
+/// direction isn't switched to TLS 1.3: what follows its ChangeCipherSpec counts as encrypted.
 ///
-/// `OutOfMemory` where a piece, a message or the list could not be held.
+/// `OutOfMemory` if there is no memory for a piece, a message or the list.
 pub fn join_pieces(
     alloc: Global,
     limit: usize,
     pieces: &[&[u8]],
 ) -> Result<(Vec<Vec<u8>>, Direction), OutOfMemory>
-    ensures { IfOk result (λ r. elements r.0.items ≡ handshakes (events (fed (silent limit) (joined pieces.now)))) }
+    ensures { IfOk result
+        (λ r. elements r.0.items ≡ handshakes (events (fed (silent limit) (joined pieces.now)))) }
 {
     let mut direction = Direction::with_limit(alloc, limit);
     let mut taken = Vec::new(alloc);

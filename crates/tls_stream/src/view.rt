@@ -1,4 +1,5 @@
-//! What is read of a direction that isn't at fault yet, wherever its bytes lie.
+//! Decides what comes next in a direction that isn't at fault, from two slices, wherever these are
+//! stored.
 ghost use Rattle.std.specs.Prelude.{◌≡◌, ◌≢◌, ◌≤◌, ◌↔◌, [], length, true, false, None};
 ghost use Rattle.std.specs.Option.{option_map};
 ghost use Rattle.tls_stream.specs.Frames.{IsTooLarge, frame_of, front};
@@ -15,42 +16,42 @@ use layouts::ErrorKind;
 use std::marker::Model;
 use tls_records::MAX_ENCRYPTED_LEN;
 
-/// What is to be done next with a direction.
+/// The next step in a direction.
 #[derive(Clone, Copy)]
 pub enum Next {
-    /// An event stands in front.
+    /// An event is available.
     Ready,
-    /// Further bytes are needed.
+    /// More bytes are needed.
     Waits,
-    /// It is at fault.
+    /// The direction is at fault.
     Fails(Fault),
-    /// A fragment of that type, of so many bytes, is to be joined.
+    /// A fragment is to be joined: its content type, and its length in bytes.
     Joins(u8, usize),
 }
 
-/// The bytes that an event is taken from.
+/// The bytes of an event.
 #[derive(Clone, Copy)]
 pub enum Source<'a> {
-    /// Those of a message, in front of the part.
+    /// A message, at the beginning of the part.
     Message(&'a [u8]),
-    /// Those of a record, its header of 5 bytes first, in front of what isn't read.
+    /// A record with its header of 5 bytes, at the beginning of the unread stream.
     Record(&'a [u8]),
 }
 
-/// The bytes of a direction's stream that are fed and not yet taken off as events, in two slices.
+/// The bytes of a direction's stream that were fed and not yet taken as events, in two slices.
 #[derive(Drop)]
 pub struct StreamView<'a> {
-    /// The most bytes that the body of a handshake message may have.
+    /// The limit for the body of a handshake message, in bytes.
     pub limit: usize,
-    /// Whether the conversation is known to speak TLS 1.3.
+    /// Whether TLS 1.3 was chosen.
     pub is_tls13: bool,
-    /// Whether the direction has changed its cipher.
+    /// Whether the direction has sent its ChangeCipherSpec.
     pub has_changed: bool,
-    /// The type of the fragments that the part is joined from.
+    /// The content type of the fragments that the part is joined from.
     pub kind: u8,
-    /// Of the fragments that were joined: what isn't handed out yet.
+    /// The joined fragments, without the messages that were taken.
     pub part: &'a [u8],
-    /// Of the stream: what stands after the records that were taken.
+    /// The stream after the records that were read.
     pub unread: &'a [u8],
 }
 
@@ -68,7 +69,7 @@ impl<'a> Model for StreamView<'a> {
 }
 
 impl<'a> StreamView<'a> {
-    /// The message in front of the part, its header first, where one is whole.
+    /// The whole message that the part starts with, with its header, if there is one.
     fn message(&self) -> Option<&'a [u8]>
         ensures { option_map (λ b. b.now) result
             ≡ frame_of (front (messages_of self.now.limit self.now.kind) self.now.held.part) }
@@ -82,7 +83,8 @@ impl<'a> StreamView<'a> {
 
     /// Whether the length of the open message is above the limit.
     fn is_too_large(&self) -> bool
-        ensures { (result ≡ true) ↔ IsTooLarge (messages_of self.now.limit self.now.kind) self.now.held.part }
+        ensures { (result ≡ true)
+            ↔ IsTooLarge (messages_of self.now.limit self.now.kind) self.now.held.part }
     {
         if self.kind == 21 {
             is_too_large::<Alerts>(0, self.part)
@@ -91,7 +93,7 @@ impl<'a> StreamView<'a> {
         }
     }
 
-    /// Whether a record of that type is encrypted.
+    /// Whether a record of this content type is encrypted.
     fn is_encrypted(&self, kind: u8) -> bool
         ensures { result ≡ is_encrypted (standing self.now) kind }
     {
@@ -102,14 +104,15 @@ impl<'a> StreamView<'a> {
         }
     }
 
-    /// The record that stands next, its header first, where it is whole.
+    /// The next record, with its header, if it is whole.
     fn record(&self) -> Option<&'a [u8]>
-        ensures { option_map (λ b. b.now) result ≡ frame_of (front wide_record self.now.held.unread) }
+        ensures { option_map (λ b. b.now) result ≡ frame_of
+            (front wide_record self.now.held.unread) }
     {
         frame_in_front::<Records>(MAX_ENCRYPTED_LEN as usize, self.unread)
     }
 
-    /// What refuses a record by its header.
+    /// Why the record's header is refused, if it is.
     fn refused(&self, record: &[u8]) -> Option<ErrorKind>
         requires { 5 ≤ length record.now }
         ensures { result ≡ refused (standing self.now) record.now }
@@ -122,7 +125,7 @@ impl<'a> StreamView<'a> {
         )
     }
 
-    /// Whether a record is encrypted, by its header or since it holds no alert.
+    /// Whether a record is encrypted, by its header or because its content is no alert.
     #[tactic(auto, unfolding(crate::specs::Item::is_sealed))]
     fn is_sealed(&self, record: &[u8]) -> bool
         requires { 5 ≤ length record.now }
@@ -131,7 +134,7 @@ impl<'a> StreamView<'a> {
         self.is_encrypted(record[0]) || is_sealed_alert(record)
     }
 
-    /// What a whole record is.
+    /// What a whole record contains.
     fn read<'r>(&self, record: &'r [u8]) -> Item<'r>
         requires { 5 ≤ length record.now }
         ensures { view_item result ≡ item_of (standing self.now) record.now }
@@ -152,10 +155,11 @@ impl<'a> StreamView<'a> {
         self.part.is_empty()
     }
 
-    /// What is to be done where no message is whole and none is too large.
+    /// The next step, if no message in the part is whole or too large.
     #[tactic(auto, using(crate::proofs::StreamLemmas::next_rules))]
     fn next_record(&self) -> Next
-        requires none { None ≡ frame_of (front (messages_of self.now.limit self.now.kind) self.now.held.part) }
+        requires none { None ≡ frame_of
+            (front (messages_of self.now.limit self.now.kind) self.now.held.part) }
         requires small { IsTooLarge (messages_of self.now.limit self.now.kind) self.now.held.part → ⊥ }
         ensures { IsNext self.now result }
     {
@@ -180,7 +184,7 @@ impl<'a> StreamView<'a> {
         }
     }
 
-    /// What is to be done next.
+    /// The next step.
     #[tactic(auto, using(crate::proofs::StreamLemmas::next_rules))]
     pub fn next(&self) -> Next
         ensures { IsNext self.now result }
@@ -192,7 +196,8 @@ impl<'a> StreamView<'a> {
         }
     }
 
-    /// What the record that stands next says by itself, and its bytes, where no message is open.
+    /// The event and the bytes of the next record, if it is an event by itself and no message is
+    /// open.
     #[tactic(auto, using(crate::proofs::StreamLemmas::front_rules))]
     fn alone(&self) -> Option<(Event<'a>, &'a [u8])>
         ensures { option_map (λ x. (view_event x.0, x.1.now)) result ≡ alone_record self.now }
@@ -211,12 +216,14 @@ impl<'a> StreamView<'a> {
         }
     }
 
-    /// The event that stands in front, and the bytes that it is taken from.
+    /// The next event, and its bytes.
     #[tactic(auto, using(crate::proofs::StreamLemmas::front_rules))]
-    // Each of its callers takes half of the answer, and the compiler then leaves the other half out.
+    // Inlined, since each caller uses half of the answer and the compiler then drops the other
+    // half.
     #[inline(always)]
     pub fn first(&self) -> Option<(Event<'a>, Source<'a>)>
-        ensures { option_map (λ x. (view_event x.0, view_source x.1)) result ≡ first_source self.now }
+        ensures { option_map (λ x. (view_event x.0, view_source x.1))
+            result ≡ first_source self.now }
     {
         if let Some(message) = self.message() {
             return Some((message_event(self.kind, message), Source::Message(message)));

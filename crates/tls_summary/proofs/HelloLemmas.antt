@@ -1,4 +1,4 @@
--- What a message leaves as it is of both sides' hellos.
+-- A message leaves both sides' hellos as they are.
 use Rattle.std.proofs.Common.{◌≡◌, ℕ, ◌==◌, ◌&&◌, ◌||◌, not, List, Bool, true, false, Option, Some, None, Ok, Err, refl, sym, ◌∙◌, ap}
 use Rattle.std.specs.Prelude.{if◌then◌else◌, is_some}
 use Rattle.layouts.specs.Bytes.{Bytes}
@@ -43,8 +43,9 @@ use Rattle.tls_summary.specs.HandshakeSummary.{
   verified,
 }
 
--- What is known beside them changes.
-beside : (s : Side) (f g : HandshakeSummary) → g.client ≡ f.client → g.server ≡ f.server → g.is_asked_again ≡ f.is_asked_again
+-- Other fields change.
+beside : (s : Side) (f g : HandshakeSummary) → g.client ≡ f.client → g.server ≡ f.server
+    → g.is_asked_again ≡ f.is_asked_again
     → KeepsHellos s f g
 beside ToServer f g client server again = (server, λ e. (client, again))
 beside FromServer f g client server again = (client, λ e. server)
@@ -52,7 +53,8 @@ beside FromServer f g client server again = (client, λ e. server)
 pub stays : (s : Side) (f : HandshakeSummary) → KeepsHellos s f f
 stays s f = beside s f f refl refl refl
 
-if_keeps : (s : Side) (f : HandshakeSummary) (c : Bool) (x y : HandshakeSummary) → KeepsHellos s f x → KeepsHellos s f y
+if_keeps : (s : Side) (f : HandshakeSummary) (c : Bool) (x y : HandshakeSummary) → KeepsHellos s f x
+    → KeepsHellos s f y
     → KeepsHellos s f (if c then x else y)
 if_keeps s f true x y p q = p
 if_keeps s f false x y p q = q
@@ -60,7 +62,8 @@ if_keeps s f false x y p q = q
 not_so : {b : Bool} → b ≡ false → b ≡ true → ⊥
 not_so is e = let bad : false ≡ true = sym is ∙ e in cc
 
-asked_keeps : (s : Side) (h : client.ClientHello) (f : HandshakeSummary) → KeepsHellos s f (asked s h f)
+asked_keeps : (s : Side) (h : client.ClientHello) (f : HandshakeSummary)
+    → KeepsHellos s f (asked s h f)
 asked_keeps FromServer h f = stays FromServer f
 asked_keeps ToServer h f = go (has_asked f) refl
   where
@@ -75,7 +78,8 @@ asked_keeps ToServer h f = go (has_asked f) refl
     go true is = stays ToServer f
     go false is = (refl, λ e. absurd (not_so is e))
 
-pub ssl2_keeps : (s : Side) (h : ssl2.ClientHello) (f : HandshakeSummary) → KeepsHellos s f (asked_in_ssl2 s h f)
+pub ssl2_keeps : (s : Side) (h : ssl2.ClientHello) (f : HandshakeSummary)
+    → KeepsHellos s f (asked_in_ssl2 s h f)
 ssl2_keeps FromServer h f = stays FromServer f
 ssl2_keeps ToServer h f = go (has_asked f) refl
   where
@@ -89,19 +93,22 @@ ssl2_keeps ToServer h f = go (has_asked f) refl
 retried_keeps : (s : Side) (f : HandshakeSummary) → KeepsHellos s f (retried s f)
 retried_keeps ToServer f = stays ToServer f
 retried_keeps FromServer f =
-    if_keeps FromServer f (is_some f.server || f.is_retried) f (record f { is_asked_again = true; is_retried = true })
+    if_keeps FromServer f (is_some f.server || f.is_retried) f
+    (record f { is_asked_again = true; is_retried = true })
     (stays FromServer f) (refl, λ e. refl)
 
 verified_keeps : (s : Side) (f : HandshakeSummary) → KeepsHellos s f (verified s f)
 verified_keeps ToServer f = stays ToServer f
 verified_keeps FromServer f =
-    if_keeps FromServer f (is_some f.server) f (record f { is_asked_again = true }) (stays FromServer f) (
+    if_keeps FromServer f (is_some f.server) f (record f { is_asked_again = true })
+    (stays FromServer f) (
       refl,
       λ e.
           refl,
     )
 
-chosen_keeps : (s : Side) (h : server.ServerHello) (f : HandshakeSummary) → KeepsHellos s f (chosen s h f)
+chosen_keeps : (s : Side) (h : server.ServerHello) (f : HandshakeSummary)
+    → KeepsHellos s f (chosen s h f)
 chosen_keeps ToServer h f = stays ToServer f
 chosen_keeps FromServer h f = go (server.is_retry_request h) (chosen_by (is_some f.server) refl)
   where
@@ -113,11 +120,13 @@ chosen_keeps FromServer h f = go (server.is_retry_request h) (chosen_by (is_some
     chosen_by false is = (refl, λ e. absurd (not_so is e))
 
     go : (b : Bool) → KeepsHellos FromServer f (if is_some f.server then f else next)
-        → KeepsHellos FromServer f (if b then retried FromServer f else if is_some f.server then f else next)
+        → KeepsHellos FromServer f
+        (if b then retried FromServer f else if is_some f.server then f else next)
     go true rest = retried_keeps FromServer f
     go false rest = rest
 
-certified_keeps : (s : Side) (a : Answer (List Bytes)) (f : HandshakeSummary) → KeepsHellos s f (certified s a f)
+certified_keeps : (s : Side) (a : Answer (List Bytes)) (f : HandshakeSummary)
+    → KeepsHellos s f (certified s a f)
 certified_keeps ToServer (Ok x) f = (refl, λ e. (refl, refl))
 certified_keeps FromServer (Ok x) f = (refl, λ e. refl)
 certified_keeps ToServer (Err e) f = stays ToServer f
@@ -130,28 +139,35 @@ exchanged_keeps s b f = go f.server
     go None = stays s f
     go (Some h) = beside s f (record f { curve = curve_by h.cipher_suite b f.curve }) refl refl refl
 
-other_keeps : (s : Side) (n : ℕ) (b : Bytes) (f : HandshakeSummary) → KeepsHellos s f (of_other s n b f)
+other_keeps : (s : Side) (n : ℕ) (b : Bytes) (f : HandshakeSummary)
+    → KeepsHellos s f (of_other s n b f)
 other_keeps s n b f =
     if_keeps s f (n == 4) _ _ (beside s f (record f { has_ticket = true }) refl refl refl)
     (if_keeps s f (n == 6) _ _ (retried_keeps s f)
     (if_keeps s f (n == 11) _ _ (certified_keeps s (reading certificate b) f)
     (if_keeps s f (n == 12) _ _ (exchanged_keeps s b f)
-    (if_keeps s f (n == 13) _ _ (beside s f (record f { requests_certificate = true }) refl refl refl)
-    (if_keeps s f (n == 22) _ _ (beside s f (record f { has_status = true }) refl refl refl) (stays s f))))))
+    (if_keeps s f (n == 13) _ _
+    (beside s f (record f { requests_certificate = true }) refl refl refl)
+    (if_keeps s f (n == 22) _ _ (beside s f (record f { has_status = true }) refl refl refl)
+    (stays s f))))))
 
-client_hello_keeps : (s : Side) (a : Answer client.ClientHello) (f : HandshakeSummary) → KeepsHellos s f (of_client_hello s a f)
+client_hello_keeps : (s : Side) (a : Answer client.ClientHello) (f : HandshakeSummary)
+    → KeepsHellos s f (of_client_hello s a f)
 client_hello_keeps s (Ok x) f = asked_keeps s x.0 f
 client_hello_keeps s (Err e) f = stays s f
 
-server_hello_keeps : (s : Side) (h : Option handshakes.Handshake) (f : HandshakeSummary) → KeepsHellos s f (of_server_hello s h f)
+server_hello_keeps : (s : Side) (h : Option handshakes.Handshake) (f : HandshakeSummary)
+    → KeepsHellos s f (of_server_hello s h f)
 server_hello_keeps s (Some (handshakes.ServerHello h)) f = chosen_keeps s h f
 server_hello_keeps s (Some (handshakes.ServerHelloV13Draft18 h)) f = chosen_keeps s (of_draft h) f
 server_hello_keeps s _ f = stays s f
 
-message_keeps : (s : Side) (m : HandshakeMessage) (f : HandshakeSummary) → KeepsHellos s f (of_message s m f)
+message_keeps : (s : Side) (m : HandshakeMessage) (f : HandshakeSummary)
+    → KeepsHellos s f (of_message s m f)
 message_keeps s m f =
     if_keeps s f (m.msg_type == 1) _ _ (client_hello_keeps s (reading client.client_hello m.body) f)
-    (if_keeps s f (m.msg_type == 2) _ _ (server_hello_keeps s m.server_hello f) (other_keeps s m.msg_type m.body f))
+    (if_keeps s f (m.msg_type == 2) _ _ (server_hello_keeps s m.server_hello f)
+    (other_keeps s m.msg_type m.body f))
 
 pub bytes_keep : (s : Side) (b : Bytes) (f : HandshakeSummary) → KeepsHellos s f (of_bytes s b f)
 bytes_keep s b f = go (message_of b)
@@ -163,23 +179,28 @@ bytes_keep s b f = go (message_of b)
 datagram_client_hello_keeps : (s : Side) (a : Answer datagram.ClientHello) (f : HandshakeSummary)
     → KeepsHellos s f (of_datagram_client_hello s a f)
 datagram_client_hello_keeps s (Ok x) f =
-    if_keeps s f (is_behind_first x.1 f) f (asked s x.0.hello f) (stays s f) (asked_keeps s x.0.hello f)
+    if_keeps s f (is_behind_first x.1 f) f (asked s x.0.hello f) (stays s f)
+    (asked_keeps s x.0.hello f)
 datagram_client_hello_keeps s (Err e) f = stays s f
 
-datagrams_keep : (s : Side) (m : HandshakeMessage) (f : HandshakeSummary) → KeepsHellos s f (of_datagrams s m f)
+datagrams_keep : (s : Side) (m : HandshakeMessage) (f : HandshakeSummary)
+    → KeepsHellos s f (of_datagrams s m f)
 datagrams_keep s m f =
-    if_keeps s f (m.msg_type == 1) _ _ (datagram_client_hello_keeps s (reading datagram.client_hello m.body) f)
+    if_keeps s f (m.msg_type == 1) _ _
+    (datagram_client_hello_keeps s (reading datagram.client_hello m.body) f)
     (if_keeps s f (m.msg_type == 2) _ _ (server_hello_keeps s m.server_hello f)
     (if_keeps s f (m.msg_type == 3) _ _ (verified_keeps s f) (other_keeps s m.msg_type m.body f)))
 
-pub datagram_message_keeps : (s : Side) (n : ℕ) (b : Bytes) (f : HandshakeSummary) → KeepsHellos s f (of_datagram_message s n b f)
+pub datagram_message_keeps : (s : Side) (n : ℕ) (b : Bytes) (f : HandshakeSummary)
+    → KeepsHellos s f (of_datagram_message s n b f)
 datagram_message_keeps s n b f = datagrams_keep s (datagram_message n b) f
 
 pub alert_keeps : (s : Side) (n : ℕ) (f : HandshakeSummary) → KeepsHellos s f (of_alert n f)
 alert_keeps s n f = beside s f (of_alert n f) refl refl refl
 
--- Two steps are one.
-pub keeps_on : (s : Side) (f g h : HandshakeSummary) → KeepsHellos s f g → KeepsHellos s g h → KeepsHellos s f h
+-- Two steps in a row.
+pub keeps_on : (s : Side) (f g h : HandshakeSummary) → KeepsHellos s f g → KeepsHellos s g h
+    → KeepsHellos s f h
 keeps_on ToServer f g h first last = (
   last.0 ∙ first.0,
   λ e.

@@ -1,4 +1,4 @@
--- What both sides' messages and alerts say of a connection.
+-- The summary of a connection, from both sides' messages and alerts.
 use Rattle.std.specs.Prelude.{◌≡◌, ℕ, Bool, true, false, not, ◌&&◌, ◌||◌, ◌==◌, if◌then◌else◌, List, [], ◌∷◌, Option, Some, None, is_some, option_map, Ok, Err, length}
 use Rattle.layouts.specs.Bytes.{Bytes}
 use Rattle.layouts.specs.Items.{items_in}
@@ -24,26 +24,26 @@ use Rattle.tls_summary.specs.declared.summary.HandshakeSummary as rust
 use Rattle.tls_summary.specs.declared.parts.CertificateSummary.{CertificateSummary}
 
 pub record HandshakeSummary : Type 0 where
-  -- the ClientHello that was answered, or is to be, and the ServerHello that answers it
+  -- the ClientHello that was answered or will be, and the ServerHello that answers it
   pub client : Option client.ClientHello
   pub server : Option server.ServerHello
-  -- the group of the key exchange: of the server's key share, or of its ServerKeyExchange
+  -- the group of the key exchange, from the server's key share or its ServerKeyExchange
   pub curve : Option ℕ
-  -- the last Certificate of each side, and the certificate of its own in it
+  -- the last Certificate of each side, and its end-entity certificate
   pub client_certificates : Option (List CertificateSummary)
   pub server_certificates : Option (List CertificateSummary)
   pub client_certificate : Option Bytes
   pub server_certificate : Option Bytes
-  -- whether the server asked for another ClientHello, which didn't come yet
+  -- whether the server asked for another ClientHello that hasn't come yet
   pub is_asked_again : Bool
   -- whether a HelloRetryRequest came, a CertificateRequest, a CertificateStatus, a NewSessionTicket
   pub is_retried : Bool
   pub requests_certificate : Bool
   pub has_status : Bool
   pub has_ticket : Bool
-  -- what the last alert says
+  -- the description of the last alert
   pub last_alert : Option ℕ
-  -- the CipherSpecs of a ClientHello in SSL 2.0's form
+  -- the CipherSpecs of a ClientHello of SSL 2.0's form
   pub ssl2_cipher_specs : Option (List ℕ)
 
 abbrev pub view_summary : rust.HandshakeSummary → HandshakeSummary
@@ -64,7 +64,7 @@ view_summary f = record {
   ssl2_cipher_specs = option_map (λ v. items_in (number 3) v.items) f.ssl2_cipher_specs;
 }
 
--- Nothing was said.
+-- Nothing was sent.
 abbrev pub nothing : HandshakeSummary
 nothing = record {
   client = None;
@@ -83,12 +83,13 @@ nothing = record {
   ssl2_cipher_specs = None;
 }
 
--- The client said its hello, and was not asked for another.
+-- The client sent its hello and wasn't asked for another.
 abbrev pub has_asked : HandshakeSummary → Bool
 has_asked f = is_some f.client && not f.is_asked_again
 
--- The client's first ClientHello stands, until the one for which it is asked (RFC 8446, section 4.1.2; RFC 6347, section 4.2.1), which replaces it
--- whole. One that nobody asked for changes nothing (RFC 5246, section 7.4.1.2), and none of the server.
+-- The client's first ClientHello is kept until the one that it is asked for (RFC 8446, section
+-- 4.1.2; RFC 6347, section 4.2.1), which replaces it entirely. One that nobody asked for is ignored
+-- (RFC 5246, section 7.4.1.2), and so is one from the server.
 abbrev pub asked : Side → client.ClientHello → HandshakeSummary → HandshakeSummary
 asked ToServer h f =
     if has_asked f then f
@@ -99,8 +100,8 @@ asked ToServer h f =
     }
 asked FromServer h f = f
 
--- A ClientHello in SSL 2.0's form (RFC 5246, appendix E.2): its challenge is its random, and it has no compression methods and no extensions. Its
--- CipherSpecs have three bytes.
+-- A ClientHello of SSL 2.0's form (RFC 5246, appendix E.2): the challenge is its random, it has no
+-- compression methods and no extensions, and its CipherSpecs have three bytes.
 abbrev pub id_of : Bytes → Option Bytes
 id_of [] = None
 id_of (n ∷ b) = Some (n ∷ b)
@@ -117,22 +118,26 @@ of_ssl2 h = record {
 
 abbrev pub asked_in_ssl2 : Side → ssl2.ClientHello → HandshakeSummary → HandshakeSummary
 asked_in_ssl2 ToServer h f =
-    if has_asked f then f else record (asked ToServer (of_ssl2 h) f) { ssl2_cipher_specs = Some h.cipher_specs }
+    if has_asked f then
+    f else record (asked ToServer (of_ssl2 h) f) { ssl2_cipher_specs = Some h.cipher_specs }
 asked_in_ssl2 FromServer h f = f
 
--- The server asks for another ClientHello by a HelloRetryRequest (RFC 8446, section 4.1.4): once, and in front of its ServerHello.
+-- The server asks for another ClientHello with a HelloRetryRequest (RFC 8446, section 4.1.4): once,
+-- before its ServerHello.
 abbrev pub retried : Side → HandshakeSummary → HandshakeSummary
 retried ToServer f = f
 retried FromServer f =
-    if is_some f.server || f.is_retried then f else record f { is_asked_again = true; is_retried = true }
+    if is_some f.server || f.is_retried then
+    f else record f { is_asked_again = true; is_retried = true }
 
--- Or by a HelloVerifyRequest of DTLS (RFC 6347, section 4.2.1), which it may do again.
+-- In DTLS it may ask with a HelloVerifyRequest (RFC 6347, section 4.2.1), more than once.
 abbrev pub verified : Side → HandshakeSummary → HandshakeSummary
 verified ToServer f = f
 verified FromServer f = if is_some f.server then f else record f { is_asked_again = true }
 
--- The server's first ServerHello stands (RFC 8446, section 4.1.3), with the group of its key share; but a HelloRetryRequest chooses nothing yet. A
--- second one changes nothing, and none of the client.
+-- The server's first ServerHello is kept (RFC 8446, section 4.1.3), with the group of its key
+-- share. A HelloRetryRequest chooses nothing yet. A second ServerHello is ignored, and so is one
+-- from the client.
 abbrev pub chosen : Side → server.ServerHello → HandshakeSummary → HandshakeSummary
 chosen ToServer h f = f
 chosen FromServer h f =
@@ -140,8 +145,9 @@ chosen FromServer h f =
     else if is_some f.server then f
     else record f { server = Some h; curve = share_group_in (held h.extensions) }
 
--- A hello that is none of the handshake: its reader didn't ask for it, or it is by the wrong side. It ends the handshake by an alert
--- unexpected_message or is dropped (RFC 8446, sections 4.1.2 and 4.1.4), and changes nothing that is known.
+-- A hello that doesn't belong to the handshake: its receiver didn't ask for it, or it comes from
+-- the wrong side. The receiver aborts the handshake with an alert unexpected_message, or drops it
+-- (RFC 8446, sections 4.1.2 and 4.1.4). The summary ignores it.
 abbrev pub is_stray : Side → Kind → HandshakeSummary → Bool
 is_stray ToServer kind.ClientHello f = has_asked f
 is_stray FromServer kind.ClientHello f = true
@@ -153,7 +159,8 @@ is_stray FromServer kind.ServerHello13 f = is_some f.server
 is_stray FromServer kind.HelloRetryRequest f = is_some f.server || f.is_retried
 is_stray s k f = false
 
--- What drafts of TLS 1.3 leave out of a ServerHello is empty (draft-ietf-tls-tls13-18, section 4.1.3).
+-- The fields that a ServerHello of a draft of TLS 1.3 lacks are empty (draft-ietf-tls-tls13-18,
+-- section 4.1.3).
 abbrev pub of_draft : server.ServerHelloDraft18 → server.ServerHello
 of_draft h = record {
   server_version = h.version;
@@ -164,7 +171,7 @@ of_draft h = record {
   extensions = h.extensions;
 }
 
--- The curve of a ServerKeyExchange, by the suite that was chosen.
+-- The curve of a ServerKeyExchange, by the chosen suite.
 abbrev pub exchanged_by : Option server.ServerHello → Bytes → HandshakeSummary → HandshakeSummary
 exchanged_by None b f = f
 exchanged_by (Some h) b f = record f { curve = curve_by h.cipher_suite b f.curve }
@@ -172,17 +179,22 @@ exchanged_by (Some h) b f = record f { curve = curve_by h.cipher_suite b f.curve
 abbrev pub exchanged : Bytes → HandshakeSummary → HandshakeSummary
 exchanged b f = exchanged_by f.server b f
 
--- The last Certificate of that side, whose own certificate comes first (RFC 5246, section 7.4.2).
-abbrev pub with_chain : Side → List CertificateSummary → Option Bytes → HandshakeSummary → HandshakeSummary
-with_chain ToServer chain own f = record f { client_certificates = Some chain; client_certificate = own }
-with_chain FromServer chain own f = record f { server_certificates = Some chain; server_certificate = own }
+-- The last Certificate of this side; the end-entity certificate comes first (RFC 5246, section
+-- 7.4.2).
+abbrev pub with_chain : Side → List CertificateSummary → Option Bytes → HandshakeSummary
+    → HandshakeSummary
+with_chain ToServer chain own f =
+    record f { client_certificates = Some chain; client_certificate = own }
+with_chain FromServer chain own f =
+    record f { server_certificates = Some chain; server_certificate = own }
 
 abbrev pub certified : Side → Answer (List Bytes) → HandshakeSummary → HandshakeSummary
 certified s (Ok x) f = with_chain s (summaries_of_all x.0) (first_of x.0) f
 certified s (Err e) f = f
 
--- What a message that is no hello adds, by its side, its type and its body (RFC 5246, section 7.4). A HelloRetryRequest of its own type
--- is one of drafts of TLS 1.3 (draft-ietf-tls-tls13-19, section 4.1.4).
+-- The update by a message that isn't a hello, from its side, type and body (RFC 5246, section 7.4).
+-- A HelloRetryRequest with a message type belongs to the drafts of TLS 1.3
+-- (draft-ietf-tls-tls13-19, section 4.1.4).
 abbrev pub of_other : Side → ℕ → Bytes → HandshakeSummary → HandshakeSummary
 of_other s n b f =
     if n == 4 then record f { has_ticket = true }
@@ -197,13 +209,14 @@ abbrev pub of_client_hello : Side → Answer client.ClientHello → HandshakeSum
 of_client_hello s (Ok x) f = asked s x.0 f
 of_client_hello s (Err e) f = f
 
--- A ServerHello, by the form that its version has.
-abbrev pub of_server_hello : Side → Option handshakes.Handshake → HandshakeSummary → HandshakeSummary
+-- The update by a ServerHello, in the form of its version.
+abbrev pub of_server_hello : Side → Option handshakes.Handshake → HandshakeSummary
+    → HandshakeSummary
 of_server_hello s (Some (handshakes.ServerHello h)) f = chosen s h f
 of_server_hello s (Some (handshakes.ServerHelloV13Draft18 h)) f = chosen s (of_draft h) f
 of_server_hello s _ f = f
 
--- What a message of TLS adds; one whose body is refused, as far as it is read, adds nothing.
+-- The update by a message of TLS. If its body is refused, nothing changes, as far as it is parsed.
 abbrev pub of_message : Side → HandshakeMessage → HandshakeSummary → HandshakeSummary
 of_message s m f =
     if m.msg_type == 1 then of_client_hello s (reading client.client_hello m.body) f
@@ -214,20 +227,22 @@ abbrev pub of_message_if : Side → Option HandshakeMessage → HandshakeSummary
 of_message_if s (Some m) f = of_message s m f
 of_message_if s None f = f
 
--- What a whole handshake message adds, by its bytes.
+-- The update by the bytes of a whole handshake message.
 abbrev pub of_bytes : Side → Bytes → HandshakeSummary → HandshakeSummary
 of_bytes s b f = of_message_if s (message_of b) f
 
--- A second hello stands only if it is read to its end: its reader ends the handshake at one with more (RFC 5246, section 7.4.1.2).
+-- A second hello only counts if it parses to its end: its receiver aborts the handshake if bytes
+-- follow (RFC 5246, section 7.4.1.2).
 abbrev pub is_behind_first : Bytes → HandshakeSummary → Bool
 is_behind_first rest f = is_some f.client && not (length rest == 0)
 
-abbrev pub of_datagram_client_hello : Side → Answer datagram.ClientHello → HandshakeSummary → HandshakeSummary
+abbrev pub of_datagram_client_hello : Side → Answer datagram.ClientHello → HandshakeSummary
+    → HandshakeSummary
 of_datagram_client_hello s (Ok x) f = if is_behind_first x.1 f then f else asked s x.0.hello f
 of_datagram_client_hello s (Err e) f = f
 
--- What a message of DTLS adds (RFC 6347, section 4.2): its ClientHello has a cookie, which a HelloVerifyRequest gives, and its versions are
--- numbers of their own.
+-- The update by a message of DTLS (RFC 6347, section 4.2): its ClientHello has a cookie, which the
+-- HelloVerifyRequest gives, and its version numbers differ from those of TLS.
 abbrev pub of_datagrams : Side → HandshakeMessage → HandshakeSummary → HandshakeSummary
 of_datagrams s m f =
     if m.msg_type == 1 then of_datagram_client_hello s (reading datagram.client_hello m.body) f
@@ -235,16 +250,18 @@ of_datagrams s m f =
     else if m.msg_type == 3 then verified s f
     else of_other s m.msg_type m.body f
 
--- The same by its type and its body.
+-- The update by a message of DTLS, from its type and its body.
 abbrev pub of_datagram_message : Side → ℕ → Bytes → HandshakeSummary → HandshakeSummary
 of_datagram_message s n b f = of_datagrams s (datagram_message n b) f
 
--- What an alert adds.
+-- The update by an alert.
 abbrev pub of_alert : ℕ → HandshakeSummary → HandshakeSummary
 of_alert n f = record f { last_alert = Some n }
 
--- What a side says changes nothing of the other's hello; and nothing of its own once that was said, unless the server asks for another.
+-- A side's messages don't change the other side's hello; nor its own hello once that was sent,
+-- unless the server asks for another.
 abbrev pub KeepsHellos : Side → HandshakeSummary → HandshakeSummary → Type 0
 KeepsHellos ToServer f g =
-    (g.server ≡ f.server) × (has_asked f ≡ true → (g.client ≡ f.client) × (g.is_asked_again ≡ f.is_asked_again))
+    (g.server ≡ f.server)
+    × (has_asked f ≡ true → (g.client ≡ f.client) × (g.is_asked_again ≡ f.is_asked_again))
 KeepsHellos FromServer f g = (g.client ≡ f.client) × (is_some f.server ≡ true → g.server ≡ f.server)

@@ -1,4 +1,4 @@
--- What is kept of the hellos and the certificates of a connection.
+-- The stored parts of a connection's hellos and certificates.
 use Rattle.std.specs.Prelude.{List, [], ◌∷◌, map, length, Option, Some, None, Ok, Err}
 use Rattle.std.specs.Option.{option_map}
 use Rattle.sha2.specs.Sha256.{sha256}
@@ -16,7 +16,7 @@ use Rattle.tls_summary.specs.declared.parts.CertificateSummary.{CertificateSumma
 use Rattle.tls_summary.specs.declared.parts.CertificateFault.{CertificateFault}
 use Rattle.tls_summary.specs.declared.parts.CertificateFault.TheVariants as fault
 
--- The ClientHello whose parts these are.
+-- The ClientHello of these parts.
 abbrev pub view_client : ClientParts → hello.ClientHello
 view_client p = record {
   client_version = p.version.0;
@@ -27,7 +27,7 @@ view_client p = record {
   extensions = option_map (λ v. v.items) p.ext;
 }
 
--- The ServerHello whose parts these are.
+-- The ServerHello of these parts.
 abbrev pub view_server : ServerParts → server.ServerHello
 view_server p = record {
   server_version = p.version.0;
@@ -38,7 +38,7 @@ view_server p = record {
   extensions = option_map (λ v. v.items) p.ext;
 }
 
--- Why a certificate isn't read (RFC 5280, section 4.1): nothing stands behind its last field.
+-- Why a certificate doesn't parse (RFC 5280, section 4.1). No bytes may follow it.
 abbrev pub fault_by : Answer Certificate → Option CertificateFault
 fault_by (Ok (c, [])) = None
 fault_by (Ok (c, n ∷ b)) = Some fault.Trailing
@@ -46,13 +46,14 @@ fault_by (Err (Lacks n)) = Some fault.Incomplete
 fault_by (Err (Broken k)) = Some (fault.Broken k)
 
 abbrev pub summary_of_certificate : Bytes → CertificateSummary
-summary_of_certificate b = record { length = length b; sha256 = sha256 b; fault = fault_by (reading certificate b) }
+summary_of_certificate b =
+    record { length = length b; sha256 = sha256 b; fault = fault_by (reading certificate b) }
 
--- The length and the SHA-256 of each certificate, in their order, and why it isn't read.
+-- The length and the SHA-256 of each certificate, in order, and why it doesn't parse.
 abbrev pub summaries_of_all : List Bytes → List CertificateSummary
 summaries_of_all chain = map summary_of_certificate chain
 
--- The first of a chain, which is its sender's own.
+-- The first of a chain, which is the sender's end-entity certificate.
 abbrev pub first_of : List Bytes → Option Bytes
 first_of [] = None
 first_of (b ∷ chain) = Some b

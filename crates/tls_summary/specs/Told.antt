@@ -1,4 +1,4 @@
--- What is known of a connection, field by field.
+-- The fields of a connection.
 use Rattle.std.specs.Prelude.{ℕ, Bool, List, [], ◌∷◌, Option, Some, None, ◌==◌, if◌then◌else◌, length}
 use Rattle.std.specs.Option.{option_map}
 use Rattle.tls_base.specs.ExtensionNumbers as extension_number
@@ -126,7 +126,7 @@ offers_encrypted_client_hello f = has 0xfe0d (client_extensions f)
 abbrev pub offers_delegated_credentials : HandshakeSummary → Bool
 offers_delegated_credentials f = has 34 (client_extensions f)
 
--- What the server's hello says.
+-- The fields of the ServerHello.
 abbrev pub server_version : HandshakeSummary → Option ℕ
 server_version f = option_map (λ h. h.server_version) f.server
 
@@ -143,7 +143,8 @@ server_compression f = option_map (λ h. h.compression_method) f.server
 abbrev pub server_extension : ℕ → HandshakeSummary → Option Bytes
 server_extension kind f = content_in kind (server_extensions f)
 
--- The connection id that a hello asks for in what is sent to its sender: opaque cid<0..2^8-1> (RFC 9146, section 3).
+-- The connection ID that a hello asks for, in records sent to its sender: opaque cid<0..2^8-1> (RFC
+-- 9146, section 3).
 abbrev pub id_length : Option Bytes → ℕ
 id_length (Some (n ∷ id)) = if length id == n then length id else 0
 id_length _ = 0
@@ -152,7 +153,8 @@ abbrev pub id_length_of : Option Bytes → Option Bytes → Option Bytes → ℕ
 id_length_of (Some b) (Some c) asked = id_length asked
 id_length_of _ _ asked = 0
 
--- That of the records that go to a side, where both sides' hellos have the extension connection_id, type 54.
+-- The length of the connection ID in records sent to a side, if both sides' hellos have the
+-- extension connection_id, type 54.
 abbrev pub connection_id_length : Side → HandshakeSummary → ℕ
 connection_id_length ToServer f =
     id_length_of (client_extension 54 f) (server_extension 54 f) (server_extension 54 f)

@@ -1,4 +1,4 @@
-//! The group that a ServerKeyExchange names.
+//! The group in a ServerKeyExchange.
 ghost use Rattle.std.specs.Prelude.{◌≡◌};
 ghost use Rattle.std.specs.Option.{option_map};
 ghost use Rattle.layouts.specs.Answers.{Gives, answer_of};
@@ -11,7 +11,7 @@ use tls_base::{
     parse_ec_parameters,
 };
 
-/// Reads a hint, and the parameters of the curve behind it (RFC 5489, section 2).
+/// Parses a PSK identity hint, and the curve's parameters after it (RFC 5489, section 2).
 #[tactic(auto, using(layouts::proofs::OneAnswerLemmas::read_allowed), unfolding(crate::specs::Exchange::hinted_parameters))]
 fn hinted_parameters(i: &[u8]) -> IResult<&[u8], ECParameters>
     ensures { Gives view_ec_parameters hinted_layout i.now result }
@@ -20,7 +20,7 @@ fn hinted_parameters(i: &[u8]) -> IResult<&[u8], ECParameters>
     parse_ec_parameters(i)
 }
 
-/// The group that parameters name.
+/// The named group of parsed parameters, if they have one.
 fn named_group(answer: IResult<&[u8], ECParameters>) -> Option<NamedGroup>
     ensures { option_map (λ g. g.0) result ≡ named (answer_of view_ec_parameters answer.entry) }
 {
@@ -33,13 +33,15 @@ fn named_group(answer: IResult<&[u8], ECParameters>) -> Option<NamedGroup>
     }
 }
 
-/// The curve that a ServerKeyExchange names behind the suite that was chosen; where the suite has none, the one that was known.
+/// The curve in a ServerKeyExchange of the chosen suite; `known` if the suite's key exchange has no
+/// curve.
 pub(crate) fn curve_of(
     suite: TlsCipherSuiteID,
     body: &[u8],
     known: Option<NamedGroup>,
 ) -> Option<NamedGroup>
-    ensures { option_map (λ g. g.0) result ≡ curve_by suite.0 body.now (option_map (λ g. g.0) known) }
+    ensures { option_map (λ g. g.0) result ≡ curve_by suite.0 body.now
+        (option_map (λ g. g.0) known) }
 {
     match KeyExchange::of(suite) {
         Some(exchange) if exchange.is_over_curves() => {

@@ -1,4 +1,4 @@
-//! What a hello says by its extensions; nothing where the extension is missing, or refused.
+//! The fields of a hello's extensions; none if the extension is missing or refused.
 ghost use Rattle.std.specs.Prelude.{◌≡◌, IfOk, map};
 ghost use Rattle.std.specs.Option.{option_map};
 ghost use Rattle.layouts.specs.Items.{items_in, told as told_by};
@@ -23,7 +23,7 @@ use tls_ext::{
     psk_key_exchange_modes, server_names, supported_versions,
 };
 
-/// What a call tells, and nothing where it refuses.
+/// The value of an answer; `None` if it is a refusal.
 pub(crate) fn known<T: Drop>(answer: Result<Option<T>, Err<Error<&[u8]>>>) -> Option<T>
     ensures { result ≡ known_by (told_by (λ v. v) answer.entry) }
 {
@@ -43,9 +43,10 @@ pub(crate) fn is_filled(content: Option<&[u8]>) -> bool
     }
 }
 
-/// The names of the first server_name.
+/// The names in the first server_name.
 pub(crate) fn names<'a>(ext: Option<&'a [u8]>) -> Items<'a, ServerName>
-    ensures { items_in server_name result.bytes.now ≡ names_in (held (option_map (λ x. x.now) ext.entry)) }
+    ensures { items_in server_name result.bytes.now ≡ names_in
+        (held (option_map (λ x. x.now) ext.entry)) }
 {
     let Ok(Some(content)) = first_content(extensions(ext), TlsExtensionType::ServerName) else {
         return none::<ServerName>();
@@ -56,9 +57,10 @@ pub(crate) fn names<'a>(ext: Option<&'a [u8]>) -> Items<'a, ServerName>
     }
 }
 
-/// The first of the names that is the name of a host.
+/// The first of the names whose type is host_name.
 pub(crate) fn host_name<'a>(names: Items<'a, ServerName>) -> Option<&'a [u8]>
-    ensures { option_map (λ x. x.now) result ≡ host_among (items_in server_name names.entry.bytes.now) }
+    ensures { option_map (λ x. x.now) result ≡ host_among
+        (items_in server_name names.entry.bytes.now) }
 {
     for (kind, name) in names {
         if kind == SNIType::HostName {
@@ -68,12 +70,14 @@ pub(crate) fn host_name<'a>(names: Items<'a, ServerName>) -> Option<&'a [u8]>
     None
 }
 
-/// The names of other types, each with its type.
+/// The names of other types, each with its type. `AllocError` if there is no memory for them.
 pub(crate) fn other_names<'a>(
     alloc: Global,
     names: Items<'a, ServerName>,
 ) -> Result<Vec<(SNIType, &'a [u8])>, AllocError>
-    ensures { IfOk result (λ v. map view_server_name v.items ≡ others_among (items_in server_name names.entry.bytes.now)) }
+    ensures { IfOk result
+        (λ v. map view_server_name v.items ≡ others_among
+        (items_in server_name names.entry.bytes.now)) }
 {
     let mut others = Vec::new(alloc);
     for (kind, name) in names {
@@ -84,9 +88,10 @@ pub(crate) fn other_names<'a>(
     Ok(others)
 }
 
-/// The versions of the first supported_versions.
+/// The versions in the first supported_versions.
 pub(crate) fn versions<'a>(ext: Option<&'a [u8]>) -> Items<'a, TlsVersion>
-    ensures { items_in (number 2) result.bytes.now ≡ versions_in (held (option_map (λ x. x.now) ext.entry)) }
+    ensures { items_in (number 2) result.bytes.now ≡ versions_in
+        (held (option_map (λ x. x.now) ext.entry)) }
 {
     let Ok(Some(content)) = first_content(extensions(ext), TlsExtensionType::SupportedVersions)
     else {
@@ -98,7 +103,7 @@ pub(crate) fn versions<'a>(ext: Option<&'a [u8]>) -> Items<'a, TlsVersion>
     }
 }
 
-/// The modes of the first psk_key_exchange_modes, one a byte.
+/// The modes in the first psk_key_exchange_modes, one a byte.
 pub(crate) fn modes<'a>(ext: Option<&'a [u8]>) -> &'a [u8]
     ensures { result.now ≡ modes_in (held (option_map (λ x. x.now) ext.entry)) }
 {
@@ -112,9 +117,10 @@ pub(crate) fn modes<'a>(ext: Option<&'a [u8]>) -> &'a [u8]
     }
 }
 
-/// The names of the first application_layer_protocol_negotiation.
+/// The names in the first application_layer_protocol_negotiation.
 pub(crate) fn protocols<'a>(ext: Option<&'a [u8]>) -> Items<'a, Counted1>
-    ensures { items_in (counted 1) result.bytes.now ≡ protocols_in (held (option_map (λ x. x.now) ext.entry)) }
+    ensures { items_in (counted 1) result.bytes.now ≡ protocols_in
+        (held (option_map (λ x. x.now) ext.entry)) }
 {
     match application_protocols(ext) {
         Ok(Some(names)) => names,
@@ -122,9 +128,10 @@ pub(crate) fn protocols<'a>(ext: Option<&'a [u8]>) -> Items<'a, Counted1>
     }
 }
 
-/// The key shares of a client's first key_share.
+/// The key shares in a client's first key_share.
 pub(crate) fn shares<'a>(ext: Option<&'a [u8]>) -> Items<'a, KeyShareEntry<'a>>
-    ensures { items_in key_share_entry result.bytes.now ≡ shares_in (held (option_map (λ x. x.now) ext.entry)) }
+    ensures { items_in key_share_entry result.bytes.now ≡ shares_in
+        (held (option_map (λ x. x.now) ext.entry)) }
 {
     let Some(content) = content(ext, TlsExtensionType::KeyShare) else {
         return none::<KeyShareEntry>();
@@ -135,7 +142,7 @@ pub(crate) fn shares<'a>(ext: Option<&'a [u8]>) -> Items<'a, KeyShareEntry<'a>>
     }
 }
 
-/// The group in front of a server's key share.
+/// The group of a server's key share.
 pub(crate) fn group_of_share(share: Option<&[u8]>) -> Option<NamedGroup>
     ensures { option_map (λ g. g.0) result ≡ group_of (option_map (λ x. x.now) share.entry) }
 {
@@ -145,9 +152,10 @@ pub(crate) fn group_of_share(share: Option<&[u8]>) -> Option<NamedGroup>
     }
 }
 
-/// The timestamps of a server's first signed_certificate_timestamp.
+/// The timestamps in a server's first signed_certificate_timestamp.
 pub(crate) fn timestamps<'a>(ext: Option<&'a [u8]>) -> Items<'a, SignedCertificateTimestamp<'a>>
-    ensures { items_in serialized_timestamp result.bytes.now ≡ timestamps_in (held (option_map (λ x. x.now) ext.entry)) }
+    ensures { items_in serialized_timestamp result.bytes.now ≡ timestamps_in
+        (held (option_map (λ x. x.now) ext.entry)) }
 {
     let Some(content) = content(ext, TlsExtensionType::SignedCertificateTimestamp) else {
         return none::<SignedCertificateTimestamp>();

@@ -1,17 +1,18 @@
-//! Summaries of certificates that were made before.
+//! A cache for the summaries of certificates.
 ghost use Rattle.std.specs.Prelude.{◌≡◌, IfSome};
 ghost use Rattle.tls_summary.specs.Parts.{summary_of_certificate as summary_by};
 
 use crate::parts::{CertificateSummary, copied, summary_of_one};
 use std::alloc::Global;
 
-/// So many certificates are kept at most: most connections of a network are to few servers, with one or two authorities each.
+/// The size of the cache: most connections of a network go to few servers, with one or two
+/// authorities each.
 const MOST: usize = 64;
 
-/// No certificate of more bytes is kept, so that peers can't take much memory by theirs.
+/// The longest certificate that is cached, in bytes, so that peers can't fill memory with theirs.
 const LONGEST: usize = 4096;
 
-/// A certificate in DER, and what is kept of it.
+/// A certificate in DER, and its summary.
 #[derive(Drop)]
 struct KnownCertificate {
     bytes: Vec<u8>,
@@ -19,21 +20,22 @@ struct KnownCertificate {
     ghost is: { summary ≡ summary_by bytes.items },
 }
 
-/// The last certificates that were heard, with their summaries. Servers send the same ones again and again, so that the digest of one is seldom made for a connection alone.
+/// A cache of recent certificates with their summaries. Servers send the same ones again and again,
+/// so most digests needn't be computed again for each connection.
 #[derive(Drop)]
 pub struct KnownCertificates {
     certificates: Vec<KnownCertificate>,
 }
 
 impl KnownCertificates {
-    /// None yet. It takes no memory.
+    /// An empty cache. It doesn't allocate.
     pub fn new(alloc: Global) -> KnownCertificates {
         KnownCertificates {
             certificates: Vec::new(alloc),
         }
     }
 
-    /// The summary of a certificate, if it is known.
+    /// The summary of a certificate, if it is cached.
     fn known(&self, bytes: &[u8]) -> Option<CertificateSummary>
         ensures { IfSome result (λ summary. summary ≡ summary_by bytes.now) }
     {
@@ -45,7 +47,8 @@ impl KnownCertificates {
         None
     }
 
-    /// Keeps one more; where there are as many as are kept, it stands alone. Where memory for it is refused, it isn't kept.
+    /// Caches one more; a full cache is cleared first. It isn't cached if there is no memory for
+    /// it.
     fn keep(&mut self, one: KnownCertificate) {
         if self.certificates.len() >= MOST {
             self.certificates.clear();
@@ -53,7 +56,8 @@ impl KnownCertificates {
         let _is_kept = self.certificates.push(one).is_ok();
     }
 
-    /// The summary of a certificate, which isn't made again where it is known. One of up to 4,096 bytes is kept, unless memory for it is refused.
+    /// The summary of a certificate, computed unless it is cached. A certificate of up to 4,096
+    /// bytes is then cached, if there is memory for it.
     pub fn summary(&mut self, alloc: Global, bytes: &[u8]) -> CertificateSummary
         ensures { result ≡ summary_by bytes.now }
     {

@@ -1,14 +1,17 @@
-//! What stands of hellos, whatever comes. The function's contract has the laws; its body is empty.
+//! Laws about hellos, whatever follows. They are the contract of a function with an empty body.
 ghost use Rattle.std.specs.Prelude.{ℕ};
 ghost use Rattle.layouts.specs.Bytes.{Bytes};
 ghost use Rattle.ssl2_hello.specs.ClientHello.{ClientHello as Ssl2ClientHello};
 ghost use Rattle.tls_flow.specs.declared.symbol.Direction.{Direction as Side};
 ghost use Rattle.tls_summary.specs.HandshakeSummary.{HandshakeSummary as Known, KeepsHellos, asked_in_ssl2, of_bytes, of_datagram_message};
 
-/// Behind the client's ClientHello nothing that the client says changes what is known of it, unless the server asks for another; and nothing that the
-/// server says does ever. Of the ServerHello the same is true, of the other sides.
+/// After the client's ClientHello no message of the client changes it, unless the server asks for
+/// another; and no message of the server ever does. The same holds for the ServerHello, with the
+/// sides exchanged.
 pub fn hellos_stand()
     ensures messages { (side : Side) (b : Bytes) (f : Known) → KeepsHellos side f (of_bytes side b f) }
-    ensures ssl2_hellos { (side : Side) (h : Ssl2ClientHello) (f : Known) → KeepsHellos side f (asked_in_ssl2 side h f) }
-    ensures datagram_messages { (side : Side) (n : ℕ) (b : Bytes) (f : Known) → KeepsHellos side f (of_datagram_message side n b f) }
+    ensures ssl2_hellos { (side : Side) (h : Ssl2ClientHello) (f : Known)
+        → KeepsHellos side f (asked_in_ssl2 side h f) }
+    ensures datagram_messages { (side : Side) (n : ℕ) (b : Bytes) (f : Known)
+        → KeepsHellos side f (of_datagram_message side n b f) }
 {}

@@ -1,7 +1,10 @@
-//! What the messages of a connection of TLS or DTLS say of it in the clear: its hellos, its certificates and its alerts.
+//! Collects what a TLS or DTLS connection shows in the clear: its hellos, certificates and alerts.
 //!
-//! [`HandshakeSummary`] is what is known so far. Each handshake message and each alert, of whichever side, adds to it; its calls tell what is known,
-//! field by field.
+//! [`HandshakeSummary`] is the state of one connection. Each handshake message and alert of either
+//! side updates it, and its methods return the fields.
+//!
+//! The promise is that no later message changes a hello: [`laws`] states it.
+//! `specs/HandshakeSummary.antt` defines the updates, and `specs/Told.antt` the fields.
 #![tactic(auto, using(layouts::proofs::OneAnswerLemmas::read_allowed))]
 
 mod exchange;

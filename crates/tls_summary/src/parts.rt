@@ -1,4 +1,4 @@
-//! What is kept of the hellos and the certificates of a connection.
+//! The stored parts of a connection's hellos and certificates.
 ghost use Rattle.std.specs.Prelude.{◌≡◌, IfOk};
 ghost use Rattle.std.specs.Option.{option_map};
 ghost use Rattle.layouts.specs.Items.{items_in};
@@ -17,63 +17,64 @@ use tls_base::{TlsCipherSuiteID, TlsCompressionID, TlsVersion};
 use tls_hs::{ClientHelloView, RawCertificate, TlsServerHelloContents};
 use x509::parse_certificate;
 
-/// What is kept of a ClientHello (RFC 8446, section 4.1.2): all of it.
+/// The fields of a ClientHello (RFC 8446, section 4.1.2).
 #[derive(Debug, PartialEq, Drop)]
 pub struct ClientParts {
-    /// The version in the hello itself: 0x0303 in TLS 1.3.
+    /// The version field of the hello: 0x0303 in TLS 1.3.
     pub version: TlsVersion,
-    /// 32 bytes; of a hello in SSL 2.0's form its challenge, of 16 to 32 (RFC 5246, appendix E.2).
+    /// 32 bytes. In a hello of SSL 2.0's form it is the challenge, of 16 to 32 bytes (RFC 5246,
+    /// appendix E.2).
     pub random: Vec<u8>,
-    /// 1 to 32 bytes; `None` where there are none.
+    /// 1 to 32 bytes; `None` if it is empty.
     pub session_id: Option<Vec<u8>>,
     /// The cipher suites that the client offers, 2 bytes each, in its order.
     pub ciphers: Vec<u8>,
     /// The compression methods that the client offers, 1 byte each, in its order.
     pub compressions: Vec<u8>,
-    /// The extensions, as they stand after their length; `None` where there are none.
+    /// The bytes of the extensions, without their length; `None` if there are none.
     pub ext: Option<Vec<u8>>,
 }
 
-/// What is kept of a ServerHello (RFC 8446, section 4.1.3): all of it.
+/// The fields of a ServerHello (RFC 8446, section 4.1.3).
 #[derive(Debug, PartialEq, Drop)]
 pub struct ServerParts {
-    /// The version in the hello itself: 0x0303 in TLS 1.3.
+    /// The version field of the hello: 0x0303 in TLS 1.3.
     pub version: TlsVersion,
     /// 32 bytes.
     pub random: Vec<u8>,
-    /// 1 to 32 bytes; `None` where there are none.
+    /// 1 to 32 bytes; `None` if it is empty.
     pub session_id: Option<Vec<u8>>,
     /// The cipher suite that the server chose.
     pub cipher: TlsCipherSuiteID,
     /// The compression method that the server chose.
     pub compression: TlsCompressionID,
-    /// The extensions, as they stand after their length; `None` where there are none.
+    /// The bytes of the extensions, without their length; `None` if there are none.
     pub ext: Option<Vec<u8>>,
 }
 
-/// Why a certificate isn't read.
+/// Why a certificate doesn't parse.
 #[derive(Clone, Copy, Debug, PartialEq, Eq)]
 pub enum CertificateFault {
-    /// It ends before its length says so.
+    /// It is truncated.
     Incomplete,
-    /// It breaks a rule of this kind, of those that [`parse_certificate`] names.
+    /// It breaks a rule: one of the kinds that [`parse_certificate`] returns.
     Broken(ErrorKind),
-    /// Bytes stand behind it.
+    /// Bytes follow it.
     Trailing,
 }
 
-/// What is kept of a certificate.
+/// The length and the digest of a certificate, and whether it parses.
 #[derive(Clone, Copy, Debug, PartialEq, Eq)]
 pub struct CertificateSummary {
-    /// How many bytes it has, in DER.
+    /// Its length in DER, in bytes.
     pub length: usize,
-    /// The SHA-256 of these bytes (FIPS 180-4).
+    /// Its SHA-256 (FIPS 180-4).
     pub sha256: [u8; 32],
-    /// Why it isn't read (RFC 5280, section 4.1), where it isn't.
+    /// Why it doesn't parse (RFC 5280, section 4.1); `None` if it does.
     pub fault: Option<CertificateFault>,
 }
 
-/// The bytes, copied.
+/// A copy of the bytes.
 pub(crate) fn copied(alloc: Global, bytes: &[u8]) -> Result<Vec<u8>, AllocError>
     ensures { IfOk result (λ v. v.items ≡ bytes.now) }
 {
@@ -82,7 +83,7 @@ pub(crate) fn copied(alloc: Global, bytes: &[u8]) -> Result<Vec<u8>, AllocError>
     Ok(copy)
 }
 
-/// The bytes, copied, where there are any.
+/// A copy of the bytes, if there are any.
 fn copied_if(alloc: Global, bytes: Option<&[u8]>) -> Result<Option<Vec<u8>>, AllocError>
     ensures { IfOk result (λ v. option_map (λ x. x.items) v ≡ option_map (λ x. x.now) bytes.entry) }
 {
@@ -93,7 +94,7 @@ fn copied_if(alloc: Global, bytes: Option<&[u8]>) -> Result<Option<Vec<u8>>, All
 }
 
 impl ClientParts {
-    /// The parts of a ClientHello.
+    /// Copies the fields of a ClientHello.
     pub(crate) fn of(alloc: Global, hello: &ClientHelloView<'_>) -> Result<ClientParts, AllocError>
         ensures { IfOk result (λ p. view_client p ≡ view_client_hello_in_place hello.now) }
     {
@@ -109,7 +110,7 @@ impl ClientParts {
 }
 
 impl ServerParts {
-    /// The parts of a ServerHello.
+    /// Copies the fields of a ServerHello.
     pub(crate) fn of(
         alloc: Global,
         hello: &TlsServerHelloContents<'_>,
@@ -127,7 +128,7 @@ impl ServerParts {
     }
 }
 
-/// Why bytes aren't read as one certificate (RFC 5280, section 4.1); `None` where they are.
+/// Why bytes don't parse as exactly one certificate (RFC 5280, section 4.1); `None` if they do.
 pub fn certificate_fault(bytes: &[u8]) -> Option<CertificateFault>
     ensures { result ≡ fault_by (reading certificate bytes.now) }
 {
@@ -141,7 +142,7 @@ pub fn certificate_fault(bytes: &[u8]) -> Option<CertificateFault>
     }
 }
 
-/// What is kept of a certificate.
+/// The summary of a certificate, computed.
 pub(crate) fn summary_of_one(bytes: &[u8]) -> CertificateSummary
     ensures { result ≡ summary_by bytes.now }
 {
@@ -152,7 +153,7 @@ pub(crate) fn summary_of_one(bytes: &[u8]) -> CertificateSummary
     }
 }
 
-/// The same, which isn't made again where it is among those that are lent.
+/// The summary of a certificate, from the cache if there is one and it has it.
 fn summary_with(
     alloc: Global,
     bytes: &[u8],
@@ -166,13 +167,14 @@ fn summary_with(
     }
 }
 
-/// The summaries of certificates, in their order.
+/// The summaries of certificates, in order.
 fn summaries_of<'a>(
     alloc: Global,
     chain: Items<'a, RawCertificate<'a>>,
     known: Option<&mut KnownCertificates>,
 ) -> Result<Vec<CertificateSummary>, AllocError>
-    ensures { IfOk result (λ v. v.items ≡ summaries_of_all (items_in (counted 3) chain.entry.bytes.now)) }
+    ensures { IfOk result
+        (λ v. v.items ≡ summaries_of_all (items_in (counted 3) chain.entry.bytes.now)) }
 {
     let mut known = known;
     let mut summaries = Vec::new(alloc);
@@ -193,21 +195,22 @@ fn first_certificate<'a>(list: &'a [u8]) -> Option<&'a [u8]>
     }
 }
 
-/// What is kept of a chain: the summaries of its certificates, and the first of them.
+/// The summaries of a chain's certificates, and the bytes of the first one.
 #[derive(Drop)]
 pub(crate) struct Chain {
     pub(crate) summaries: Vec<CertificateSummary>,
     pub(crate) own: Option<Vec<u8>>,
 }
 
-/// What is kept of a chain, by the bytes of its list.
+/// Computes a chain from the bytes of its list.
 pub(crate) fn chain_of(
     alloc: Global,
     list: &[u8],
     known: Option<&mut KnownCertificates>,
 ) -> Result<Chain, AllocError>
     ensures summaries { IfOk result (λ c. c.summaries.items ≡ summaries_of_all (items_in (counted 3) list.now)) }
-    ensures own { IfOk result (λ c. option_map (λ x. x.items) c.own ≡ first_of (items_in (counted 3) list.now)) }
+    ensures own { IfOk result
+        (λ c. option_map (λ x. x.items) c.own ≡ first_of (items_in (counted 3) list.now)) }
 {
     let summaries = summaries_of(alloc, Items::new(list), known)?;
     let own = copied_if(alloc, first_certificate(list))?;

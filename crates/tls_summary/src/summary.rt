@@ -1,4 +1,4 @@
-//! What both sides' messages and alerts say of a connection.
+//! The summary of a connection, from both sides' messages and alerts.
 ghost use Rattle.std.specs.Prelude.{◌≡◌, OnOk};
 ghost use Rattle.std.specs.Option.{option_map};
 ghost use Rattle.tls_hs.specs.InPlace.{view_client_hello_in_place};
@@ -29,26 +29,31 @@ use tls_hs::{
 };
 use tls_records::DTLSClientHelloView;
 
-/// What is known of a connection by what both sides said in the clear.
+/// What both sides of a connection have sent in the clear.
 #[derive(Debug, PartialEq, Drop)]
 pub struct HandshakeSummary {
-    /// The ClientHello that was answered, or is to be: the client's first, or the one for which the server asked by a HelloRetryRequest (RFC 8446,
-    /// section 4.1.2) or a HelloVerifyRequest (RFC 6347, section 4.2.1).
+    /// The ClientHello that was answered or will be: the client's first, or the one that the server
+    /// asked for with a HelloRetryRequest (RFC 8446, section 4.1.2) or a HelloVerifyRequest (RFC
+    /// 6347, section 4.2.1).
     pub client: Option<ClientParts>,
-    /// The server's first ServerHello that is no HelloRetryRequest.
+    /// The server's first ServerHello that isn't a HelloRetryRequest.
     pub server: Option<ServerParts>,
     pub(crate) curve: Option<NamedGroup>,
-    /// The certificates of the client's last Certificate, its own first (RFC 5246, section 7.4.6). TLS 1.3 encrypts it.
+    /// The certificates of the client's last Certificate message, its end-entity certificate first
+    /// (RFC 5246, section 7.4.6). TLS 1.3 encrypts it.
     pub client_certificates: Option<Vec<CertificateSummary>>,
-    /// Those of the server's (RFC 5246, section 7.4.2).
+    /// The certificates of the server's last Certificate message, its end-entity certificate first
+    /// (RFC 5246, section 7.4.2).
     pub server_certificates: Option<Vec<CertificateSummary>>,
-    /// The client's own certificate in DER, the first of [`client_certificates`](HandshakeSummary::client_certificates); `None` where there is none.
+    /// The client's end-entity certificate in DER, the first of
+    /// [`client_certificates`](HandshakeSummary::client_certificates); `None` if there is none.
     pub client_certificate: Option<Vec<u8>>,
-    /// The server's own.
+    /// The server's end-entity certificate in DER; `None` if there is none.
     pub server_certificate: Option<Vec<u8>>,
-    // Whether the server asked for another ClientHello, which didn't come yet.
+    // Whether the server asked for another ClientHello that hasn't come yet.
     is_asked_again: bool,
-    /// Whether the server asked for another ClientHello by a HelloRetryRequest (RFC 8446, section 4.1.4).
+    /// Whether the server asked for another ClientHello with a HelloRetryRequest (RFC 8446, section
+    /// 4.1.4).
     pub is_retried: bool,
     /// Whether a CertificateRequest came (RFC 5246, section 7.4.4).
     pub requests_certificate: bool,
@@ -56,14 +61,16 @@ pub struct HandshakeSummary {
     pub has_status: bool,
     /// Whether a NewSessionTicket came (RFC 5077, section 3.3).
     pub has_ticket: bool,
-    /// What the last alert in the clear says.
+    /// The description of the last alert in the clear.
     pub last_alert: Option<TlsAlertDescription>,
-    /// The CipherSpecs of the ClientHello, 3 bytes each, in its order, where it has SSL 2.0's form (RFC 5246, appendix E.2); `None` of any other, whose
-    /// cipher suites are those of [`client`](HandshakeSummary::client).
+    /// The CipherSpecs of a ClientHello of SSL 2.0's form, 3 bytes each, in its order (RFC 5246,
+    /// appendix E.2). `None` for any other, whose cipher suites are in
+    /// [`client`](HandshakeSummary::client).
     pub ssl2_cipher_specs: Option<Vec<u8>>,
 }
 
-/// A ServerHello of a draft of TLS 1.3 with what it leaves out: no session id, and no compression.
+/// A ServerHello of a draft of TLS 1.3 as a later one, with an empty session ID and compression
+/// method 0.
 fn as_later<'a>(hello: &TlsServerHelloV13Draft18Contents<'a>) -> TlsServerHelloContents<'a>
     ensures { view_server_hello result ≡ of_draft (view_server_hello_draft18 hello.now) }
 {
@@ -78,7 +85,7 @@ fn as_later<'a>(hello: &TlsServerHelloV13Draft18Contents<'a>) -> TlsServerHelloC
 }
 
 impl HandshakeSummary {
-    /// Nothing is known. It takes no memory.
+    /// An empty summary. It doesn't allocate.
     pub fn new() -> HandshakeSummary
         ensures { view_summary result ≡ nothing }
     {
@@ -100,16 +107,17 @@ impl HandshakeSummary {
         }
     }
 
-    /// Whether the client said its hello, and was not asked for another.
+    /// Whether the client sent its hello and wasn't asked for another.
     fn has_asked(&self) -> bool
         ensures { result ≡ has_asked_in (view_summary self.now) }
     {
         self.client.is_some() && !self.is_asked_again
     }
 
-    /// Whether a message of that kind and side is a hello that is none of the handshake: a ClientHello that nobody asked for (RFC 8446, section
-    /// 4.1.2; RFC 5246, section 7.4.1.2), a second ServerHello or HelloRetryRequest, or a hello by the wrong side. Its reader ends the handshake by an
-    /// alert, or drops it. It changes nothing that is known.
+    /// Whether a hello doesn't belong to the handshake: a ClientHello that nobody asked for (RFC
+    /// 8446, section 4.1.2; RFC 5246, section 7.4.1.2), a second ServerHello or HelloRetryRequest,
+    /// or a hello from the wrong side. Its receiver aborts the handshake with an alert, or drops
+    /// the hello. The summary ignores it.
     pub fn is_stray(&self, side: Direction, kind: Kind) -> bool
         ensures { result ≡ is_stray_in side kind (view_summary self.now) }
     {
@@ -129,14 +137,16 @@ impl HandshakeSummary {
         }
     }
 
-    /// What a client asks for.
+    /// Stores a ClientHello.
     fn ask(
         &mut self,
         alloc: Global,
         side: Direction,
         hello: &ClientHelloView<'_>,
     ) -> Result<(), AllocError>
-        ensures { OnOk result (view_summary self.new ≡ asked side (view_client_hello_in_place hello.now) (view_summary self.old)) }
+        ensures { OnOk result
+            (view_summary self.new ≡ asked side (view_client_hello_in_place hello.now)
+            (view_summary self.old)) }
     {
         if side == Direction::FromServer || self.has_asked() {
             return Ok(());
@@ -148,16 +158,19 @@ impl HandshakeSummary {
         Ok(())
     }
 
-    /// Notes a ClientHello in SSL 2.0's form (RFC 5246, appendix E.2), by which a side begins. Its challenge is kept as the client's random.
+    /// Records a ClientHello of SSL 2.0's form (RFC 5246, appendix E.2), with which a side begins.
+    /// Its challenge becomes the client's random.
     ///
-    /// `AllocError` where it could not be held.
+    /// `AllocError` if there is no memory for it.
     pub fn note_ssl2_hello(
         &mut self,
         alloc: Global,
         side: Direction,
         hello: &Ssl2ClientHello<'_>,
     ) -> Result<(), AllocError>
-        ensures { OnOk result (view_summary self.new ≡ asked_in_ssl2 side (view_ssl2_hello hello.now) (view_summary self.old)) }
+        ensures { OnOk result
+            (view_summary self.new ≡ asked_in_ssl2 side (view_ssl2_hello hello.now)
+            (view_summary self.old)) }
     {
         if side == Direction::FromServer || self.has_asked() {
             return Ok(());
@@ -180,7 +193,7 @@ impl HandshakeSummary {
         Ok(())
     }
 
-    /// The server asks for another ClientHello by a HelloRetryRequest.
+    /// Records a HelloRetryRequest.
     fn retry(&mut self, side: Direction)
         ensures { view_summary self.new ≡ retried side (view_summary self.old) }
     {
@@ -190,7 +203,7 @@ impl HandshakeSummary {
         }
     }
 
-    /// It does by a HelloVerifyRequest.
+    /// Records a HelloVerifyRequest.
     fn verify(&mut self, side: Direction)
         ensures { view_summary self.new ≡ verified side (view_summary self.old) }
     {
@@ -199,14 +212,16 @@ impl HandshakeSummary {
         }
     }
 
-    /// What a server chooses.
+    /// Stores a ServerHello.
     fn choose(
         &mut self,
         alloc: Global,
         side: Direction,
         hello: &TlsServerHelloContents<'_>,
     ) -> Result<(), AllocError>
-        ensures { OnOk result (view_summary self.new ≡ chosen side (view_server_hello hello.now) (view_summary self.old)) }
+        ensures { OnOk result
+            (view_summary self.new ≡ chosen side (view_server_hello hello.now)
+            (view_summary self.old)) }
     {
         if hello.is_retry_request() {
             self.retry(side);
@@ -220,14 +235,16 @@ impl HandshakeSummary {
         Ok(())
     }
 
-    /// What a ServerHello says; nothing where it is refused.
+    /// Records a ServerHello; a refused one is ignored.
     fn note_server_hello(
         &mut self,
         alloc: Global,
         side: Direction,
         hello: &Option<ReadServerHello<'_>>,
     ) -> Result<(), AllocError>
-        ensures { OnOk result (view_summary self.new ≡ of_server_hello side (option_map (λ h. view_handshake h.message) hello.now) (view_summary self.old)) }
+        ensures { OnOk result
+            (view_summary self.new ≡ of_server_hello side
+            (option_map (λ h. view_handshake h.message) hello.now) (view_summary self.old)) }
     {
         let Some(hello) = hello else {
             return Ok(());
@@ -241,7 +258,7 @@ impl HandshakeSummary {
         }
     }
 
-    /// What a ServerKeyExchange says.
+    /// Records a ServerKeyExchange.
     fn note_key_exchange(&mut self, body: &[u8])
         ensures { view_summary self.new ≡ exchanged body.now (view_summary self.old) }
     {
@@ -251,9 +268,10 @@ impl HandshakeSummary {
         self.curve = curve_of(hello.cipher, body, self.curve);
     }
 
-    /// Keeps a side's chain in place of an earlier one.
+    /// Stores a side's chain in place of an earlier one.
     fn keep_chain(&mut self, side: Direction, chain: Chain)
-        ensures { view_summary self.new ≡ with_chain side chain.summaries.items (option_map (λ v. v.items) chain.own) (view_summary self.old) }
+        ensures { view_summary self.new ≡ with_chain side chain.summaries.items
+            (option_map (λ v. v.items) chain.own) (view_summary self.old) }
     {
         let Chain { summaries, own } = chain;
         match side {
@@ -268,7 +286,7 @@ impl HandshakeSummary {
         }
     }
 
-    /// What a Certificate of that side says.
+    /// Records a Certificate of this side.
     fn note_certificates(
         &mut self,
         alloc: Global,
@@ -276,7 +294,9 @@ impl HandshakeSummary {
         body: &[u8],
         known: Option<&mut KnownCertificates>,
     ) -> Result<(), AllocError>
-        ensures { OnOk result (view_summary self.new ≡ certified side (reading certificate body.now) (view_summary self.old)) }
+        ensures { OnOk result
+            (view_summary self.new ≡ certified side (reading certificate body.now)
+            (view_summary self.old)) }
     {
         let Ok((_, list)) = certificates(body) else {
             return Ok(());
@@ -286,7 +306,7 @@ impl HandshakeSummary {
         Ok(())
     }
 
-    /// What a message that is no hello says.
+    /// Records a message that isn't a hello.
     fn note_other(
         &mut self,
         alloc: Global,
@@ -295,7 +315,8 @@ impl HandshakeSummary {
         body: &[u8],
         known: Option<&mut KnownCertificates>,
     ) -> Result<(), AllocError>
-        ensures { OnOk result (view_summary self.new ≡ of_other side msg_type.0 body.now (view_summary self.old)) }
+        ensures { OnOk result
+            (view_summary self.new ≡ of_other side msg_type.0 body.now (view_summary self.old)) }
     {
         match msg_type {
             TlsHandshakeType::NewSessionTicket => self.has_ticket = true,
@@ -309,24 +330,28 @@ impl HandshakeSummary {
         Ok(())
     }
 
-    /// Notes what a handshake message of a side says. The first hello of a side stands; the ClientHello for which a HelloRetryRequest asks replaces the
-    /// first whole. One that is refused says nothing, and no [stray](HandshakeSummary::is_stray) one.
+    /// Records a handshake message of a side. The first hello of a side is kept; the ClientHello
+    /// that a HelloRetryRequest asks for replaces the first one entirely. A refused message and a
+    /// [stray](HandshakeSummary::is_stray) hello are ignored.
     ///
-    /// `AllocError` where it could not be held.
+    /// `AllocError` if there is no memory for it.
     pub fn note(
         &mut self,
         alloc: Global,
         side: Direction,
         message: &HandshakeMessage<'_>,
     ) -> Result<(), AllocError>
-        ensures { OnOk result (view_summary self.new ≡ of_message side (view_heard message.now) (view_summary self.old)) }
+        ensures { OnOk result
+            (view_summary self.new ≡ of_message side (view_heard message.now)
+            (view_summary self.old)) }
     {
         self.note_with(alloc, side, message, None)
     }
 
-    /// The same, where summaries of certificates are lent that were made before: they aren't made again, and new ones are kept there.
+    /// Records a handshake message of a side as [`HandshakeSummary::note`] does, with a cache of
+    /// certificates: their summaries are taken from it, and new ones are added.
     ///
-    /// `AllocError` where the message could not be held.
+    /// `AllocError` if there is no memory for the message.
     pub fn note_with(
         &mut self,
         alloc: Global,
@@ -334,7 +359,9 @@ impl HandshakeSummary {
         message: &HandshakeMessage<'_>,
         known: Option<&mut KnownCertificates>,
     ) -> Result<(), AllocError>
-        ensures { OnOk result (view_summary self.new ≡ of_message side (view_heard message.now) (view_summary self.old)) }
+        ensures { OnOk result
+            (view_summary self.new ≡ of_message side (view_heard message.now)
+            (view_summary self.old)) }
     {
         match message.msg_type {
             TlsHandshakeType::ClientHello => match ClientHelloView::parse(message.body) {
@@ -348,16 +375,18 @@ impl HandshakeSummary {
         }
     }
 
-    /// [`HandshakeSummary::note`] of a whole message by its bytes, its header of 4 bytes first (RFC 8446, section 4). One that isn't whole says nothing.
+    /// Records a handshake message of a side as [`HandshakeSummary::note`] does, from its bytes
+    /// with the header of 4 bytes (RFC 8446, section 4). One that isn't whole is ignored.
     ///
-    /// `AllocError` where it could not be held.
+    /// `AllocError` if there is no memory for it.
     pub fn note_message(
         &mut self,
         alloc: Global,
         side: Direction,
         message: &[u8],
     ) -> Result<(), AllocError>
-        ensures { OnOk result (view_summary self.new ≡ of_bytes side message.now (view_summary self.old)) }
+        ensures { OnOk result
+            (view_summary self.new ≡ of_bytes side message.now (view_summary self.old)) }
     {
         match HandshakeMessage::read(message) {
             Some(message) => self.note(alloc, side, &message),
@@ -365,19 +394,22 @@ impl HandshakeSummary {
         }
     }
 
-    /// What a ClientHello of DTLS says, by its body.
+    /// Records a ClientHello of DTLS, from its body.
     fn note_datagram_client_hello(
         &mut self,
         alloc: Global,
         side: Direction,
         body: &[u8],
     ) -> Result<(), AllocError>
-        ensures { OnOk result (view_summary self.new ≡ of_datagram_client_hello side (reading datagram_client_hello body.now) (view_summary self.old)) }
+        ensures { OnOk result
+            (view_summary self.new ≡ of_datagram_client_hello side
+            (reading datagram_client_hello body.now) (view_summary self.old)) }
     {
         let Ok((rest, hello)) = DTLSClientHelloView::parse(body) else {
             return Ok(());
         };
-        // (its reader ends the handshake by decode_error, and the first one is the one that was answered)
+        // (its receiver aborts the handshake with decode_error, and the first one was the one
+        // answered)
         if self.client.is_some() && !rest.is_empty() {
             return Ok(());
         }
@@ -392,23 +424,27 @@ impl HandshakeSummary {
         self.ask(alloc, side, &hello)
     }
 
-    /// [`HandshakeSummary::note`] of a message of DTLS (RFC 6347, section 4.2.2). A HelloVerifyRequest asks for another ClientHello too.
+    /// Records a handshake message of DTLS (RFC 6347, section 4.2.2) as [`HandshakeSummary::note`]
+    /// does. A HelloVerifyRequest asks for another ClientHello too.
     ///
-    /// `AllocError` where it could not be held.
+    /// `AllocError` if there is no memory for it.
     pub fn note_datagrams(
         &mut self,
         alloc: Global,
         side: Direction,
         message: &HandshakeMessage<'_>,
     ) -> Result<(), AllocError>
-        ensures { OnOk result (view_summary self.new ≡ of_datagrams side (view_heard message.now) (view_summary self.old)) }
+        ensures { OnOk result
+            (view_summary self.new ≡ of_datagrams side (view_heard message.now)
+            (view_summary self.old)) }
     {
         self.note_datagrams_with(alloc, side, message, None)
     }
 
-    /// The same with summaries of certificates, as [`HandshakeSummary::note_with`] has them.
+    /// Records a handshake message of DTLS with a cache of certificates, as
+    /// [`HandshakeSummary::note_with`] does.
     ///
-    /// `AllocError` where the message could not be held.
+    /// `AllocError` if there is no memory for the message.
     pub fn note_datagrams_with(
         &mut self,
         alloc: Global,
@@ -416,7 +452,9 @@ impl HandshakeSummary {
         message: &HandshakeMessage<'_>,
         known: Option<&mut KnownCertificates>,
     ) -> Result<(), AllocError>
-        ensures { OnOk result (view_summary self.new ≡ of_datagrams side (view_heard message.now) (view_summary self.old)) }
+        ensures { OnOk result
+            (view_summary self.new ≡ of_datagrams side (view_heard message.now)
+            (view_summary self.old)) }
     {
         match message.msg_type {
             TlsHandshakeType::ClientHello => {
@@ -433,9 +471,10 @@ impl HandshakeSummary {
         }
     }
 
-    /// The same of a whole message, by its type and its body.
+    /// Records a whole handshake message of DTLS from its type and its body, as
+    /// [`HandshakeSummary::note_datagrams`] does.
     ///
-    /// `AllocError` where it could not be held.
+    /// `AllocError` if there is no memory for it.
     pub fn note_datagram_message(
         &mut self,
         alloc: Global,
@@ -443,12 +482,14 @@ impl HandshakeSummary {
         msg_type: TlsHandshakeType,
         body: &[u8],
     ) -> Result<(), AllocError>
-        ensures { OnOk result (view_summary self.new ≡ of_datagram_message side msg_type.0 body.now (view_summary self.old)) }
+        ensures { OnOk result
+            (view_summary self.new ≡ of_datagram_message side msg_type.0 body.now
+            (view_summary self.old)) }
     {
         self.note_datagrams(alloc, side, &HandshakeMessage::of_datagrams(msg_type, body))
     }
 
-    /// Notes an alert (RFC 8446, section 6).
+    /// Records an alert (RFC 8446, section 6).
     pub fn note_alert(&mut self, alert: TlsAlertDescription)
         ensures { view_summary self.new ≡ of_alert alert.0 (view_summary self.old) }
     {

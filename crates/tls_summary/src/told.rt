@@ -1,4 +1,4 @@
-//! What is known of a connection, field by field.
+//! The fields of a connection.
 ghost use Rattle.std.specs.Prelude.{◌≡◌, IfOk, map};
 ghost use Rattle.std.specs.Option.{option_map};
 ghost use Rattle.tls_base.specs.Timestamp.{serialized_timestamp};
@@ -26,16 +26,17 @@ use tls_ext::offered::{algorithms, content, formats, groups, none};
 use tls_ext::{ExtensionType, KeyShareEntry, best_version, extension_types};
 use tls_flow::Direction;
 
-/// The encrypted_client_hello of RFC 9849, section 5, which the library has no name for.
+/// encrypted_client_hello (RFC 9849, section 5), which has no constant in the library.
 pub const ENCRYPTED_CLIENT_HELLO: TlsExtensionType = TlsExtensionType(0xfe0d);
 
-/// The delegated_credential of RFC 9345, section 4.1.1, which the library has no name for.
+/// delegated_credential (RFC 9345, section 4.1.1), which has no constant in the library.
 pub const DELEGATED_CREDENTIAL: TlsExtensionType = TlsExtensionType(34);
 
-/// The connection_id of RFC 9146, section 3, which the library has no name for.
+/// connection_id (RFC 9146, section 3), which has no constant in the library.
 pub const CONNECTION_ID: TlsExtensionType = TlsExtensionType(54);
 
-/// How many bytes the connection id has that an extension connection_id asks for: 1 byte of length, and the id.
+/// The length of the connection ID in an extension connection_id, in bytes: the extension has 1
+/// byte of length and the ID.
 fn id_len(content: Option<&[u8]>) -> usize
     ensures { result ≡ told.id_length (option_map (λ x. x.now) content.entry) }
 {
@@ -45,7 +46,7 @@ fn id_len(content: Option<&[u8]>) -> usize
     }
 }
 
-/// What is held, as it stands.
+/// Borrows the stored bytes.
 fn lent(bytes: &Option<Vec<u8>>) -> Option<&[u8]>
     ensures { option_map (λ x. x.now) result ≡ option_map (λ v. v.items) bytes.now }
 {
@@ -57,7 +58,8 @@ fn lent(bytes: &Option<Vec<u8>>) -> Option<&[u8]>
 
 impl HandshakeSummary {
     fn client_ext(&self) -> Option<&[u8]>
-        ensures { held (option_map (λ x. x.now) result) ≡ told.client_extensions (view_summary self.now) }
+        ensures { held (option_map (λ x. x.now) result) ≡ told.client_extensions
+            (view_summary self.now) }
     {
         match &self.client {
             Some(hello) => lent(&hello.ext),
@@ -66,7 +68,8 @@ impl HandshakeSummary {
     }
 
     fn server_ext(&self) -> Option<&[u8]>
-        ensures { held (option_map (λ x. x.now) result) ≡ told.server_extensions (view_summary self.now) }
+        ensures { held (option_map (λ x. x.now) result) ≡ told.server_extensions
+            (view_summary self.now) }
     {
         match &self.server {
             Some(hello) => lent(&hello.ext),
@@ -74,7 +77,8 @@ impl HandshakeSummary {
         }
     }
 
-    /// The version that the server chose: the one in supported_versions, where its ServerHello has that (RFC 8446, section 4.2.1).
+    /// The version that the server chose: the one in its supported_versions, if the ServerHello has
+    /// that (RFC 8446, section 4.2.1), else the hello's version field.
     pub fn version(&self) -> Option<TlsVersion>
         ensures { option_map (λ v. v.0) result ≡ told.version (view_summary self.now) }
     {
@@ -94,30 +98,32 @@ impl HandshakeSummary {
         }
     }
 
-    /// The group of the key exchange: the one of the server's key share, or of its ServerKeyExchange.
+    /// The group of the key exchange, from the server's key share or its ServerKeyExchange.
     pub fn curve(&self) -> Option<NamedGroup>
         ensures { option_map (λ g. g.0) result ≡ (view_summary self.now).curve }
     {
         self.curve
     }
 
-    /// The host that the client asked for: the first name of the type host_name in server_name (RFC 6066, section 3).
+    /// The host that the client asked for: the first name of type host_name in server_name (RFC
+    /// 6066, section 3).
     pub fn server_name(&self) -> Option<&[u8]>
         ensures { option_map (λ x. x.now) result ≡ told.server_name (view_summary self.now) }
     {
         host_name(names(self.client_ext()))
     }
 
-    /// The names of other types in server_name, in their order, each with its type.
+    /// The names of other types in server_name, in order, each with its type.
     ///
-    /// `AllocError` where they could not be held.
+    /// `AllocError` if there is no memory for them.
     pub fn other_server_names(&self, alloc: Global) -> Result<Vec<(SNIType, &[u8])>, AllocError>
-        ensures { IfOk result (λ v. map view_server_name v.items ≡ told.other_server_names (view_summary self.now)) }
+        ensures { IfOk result
+            (λ v. map view_server_name v.items ≡ told.other_server_names (view_summary self.now)) }
     {
         other_names(alloc, names(self.client_ext()))
     }
 
-    /// The protocol of the application that the server chose (RFC 7301, section 3.1).
+    /// The application protocol that the server chose (RFC 7301, section 3.1).
     pub fn next_protocol(&self) -> Option<&[u8]>
         ensures { option_map (λ x. x.now) result ≡ told.next_protocol (view_summary self.now) }
     {
@@ -125,7 +131,8 @@ impl HandshakeSummary {
         names.next()
     }
 
-    /// Whether the server took up a session, or a key known before, by pre_shared_key (RFC 8446, section 4.2.11).
+    /// Whether the server resumed a session or accepted a pre-shared key, by pre_shared_key (RFC
+    /// 8446, section 4.2.11).
     pub fn has_session(&self) -> bool
         ensures { result ≡ told.has_session (view_summary self.now) }
     {
@@ -133,7 +140,7 @@ impl HandshakeSummary {
             .is_some()
     }
 
-    /// The version in the ClientHello itself: 0x0303 in TLS 1.3.
+    /// The version field of the ClientHello: 0x0303 in TLS 1.3.
     pub fn client_version(&self) -> Option<TlsVersion>
         ensures { option_map (λ v. v.0) result ≡ told.client_version (view_summary self.now) }
     {
@@ -143,7 +150,7 @@ impl HandshakeSummary {
         }
     }
 
-    /// The session id of the ClientHello; `None` where it is empty.
+    /// The session ID of the ClientHello; `None` if it is empty.
     pub fn client_session_id(&self) -> Option<&[u8]>
         ensures { option_map (λ x. x.now) result ≡ told.client_session_id (view_summary self.now) }
     {
@@ -155,7 +162,8 @@ impl HandshakeSummary {
 
     /// The cipher suites that the client offers, in its order.
     pub fn client_ciphers(&self) -> Items<'_, TlsCipherSuiteID>
-        ensures { items_in (number 2) result.bytes.now ≡ told.client_ciphers (view_summary self.now) }
+        ensures { items_in (number 2) result.bytes.now ≡ told.client_ciphers
+            (view_summary self.now) }
     {
         match &self.client {
             Some(hello) => Items::new(hello.ciphers.as_slice()),
@@ -165,7 +173,8 @@ impl HandshakeSummary {
 
     /// The compression methods that the client offers, in its order.
     pub fn client_compressions(&self) -> Items<'_, TlsCompressionID>
-        ensures { items_in (number 1) result.bytes.now ≡ told.client_compressions (view_summary self.now) }
+        ensures { items_in (number 1) result.bytes.now ≡ told.client_compressions
+            (view_summary self.now) }
     {
         match &self.client {
             Some(hello) => Items::new(hello.compressions.as_slice()),
@@ -173,70 +182,79 @@ impl HandshakeSummary {
         }
     }
 
-    /// The content of the ClientHello's first extension of that type, without its length; `None` where it has none.
+    /// The content of the ClientHello's first extension of this type, without its length; `None` if
+    /// it has none.
     pub fn client_extension(&self, kind: TlsExtensionType) -> Option<&[u8]>
-        ensures { option_map (λ x. x.now) result ≡ told.client_extension kind.0 (view_summary self.now) }
+        ensures { option_map (λ x. x.now) result ≡ told.client_extension kind.0
+            (view_summary self.now) }
     {
         content(self.client_ext(), kind)
     }
 
-    /// The types of the ClientHello's extensions, in their order (RFC 8446, section 4.2).
+    /// The types of the ClientHello's extensions, in order (RFC 8446, section 4.2).
     pub fn client_extension_types(&self) -> Items<'_, ExtensionType>
-        ensures { items_in extension_type result.bytes.now ≡ told.client_extension_types (view_summary self.now) }
+        ensures { items_in extension_type result.bytes.now ≡ told.client_extension_types
+            (view_summary self.now) }
     {
         extension_types(self.client_ext())
     }
 
-    /// The versions that the client offers by supported_versions (RFC 8446, section 4.2.1), in its order.
+    /// The versions that the client offers in supported_versions (RFC 8446, section 4.2.1), in its
+    /// order.
     pub fn client_versions(&self) -> Items<'_, TlsVersion>
-        ensures { items_in (number 2) result.bytes.now ≡ told.client_versions (view_summary self.now) }
+        ensures { items_in (number 2) result.bytes.now ≡ told.client_versions
+            (view_summary self.now) }
     {
         versions(self.client_ext())
     }
 
-    /// The groups of supported_groups (RFC 8446, section 4.2.7), in the client's order.
+    /// The groups in supported_groups (RFC 8446, section 4.2.7), in the client's order.
     pub fn client_groups(&self) -> Items<'_, NamedGroup>
-        ensures { items_in (number 2) result.bytes.now ≡ told.client_groups (view_summary self.now) }
+        ensures { items_in (number 2) result.bytes.now ≡ told.client_groups
+            (view_summary self.now) }
     {
         groups(self.client_ext())
     }
 
-    /// The formats of ec_point_formats (RFC 8422, section 5.1.2), one a byte.
+    /// The formats in ec_point_formats (RFC 8422, section 5.1.2), one a byte.
     pub fn client_point_formats(&self) -> &[u8]
         ensures { result.now ≡ told.client_point_formats (view_summary self.now) }
     {
         formats(self.client_ext())
     }
 
-    /// The algorithms of signature_algorithms (RFC 8446, section 4.2.3), in the client's order.
+    /// The algorithms in signature_algorithms (RFC 8446, section 4.2.3), in the client's order.
     pub fn client_signature_algorithms(&self) -> Items<'_, u16>
-        ensures { items_in (number 2) result.bytes.now ≡ told.client_signature_algorithms (view_summary self.now) }
+        ensures { items_in (number 2) result.bytes.now ≡ told.client_signature_algorithms
+            (view_summary self.now) }
     {
         algorithms(self.client_ext())
     }
 
-    /// The protocols of the application that the client offers (RFC 7301, section 3.1), in its order.
+    /// The application protocols that the client offers (RFC 7301, section 3.1), in its order.
     pub fn client_protocols(&self) -> Items<'_, Counted1>
-        ensures { items_in (counted 1) result.bytes.now ≡ told.client_protocols (view_summary self.now) }
+        ensures { items_in (counted 1) result.bytes.now ≡ told.client_protocols
+            (view_summary self.now) }
     {
         protocols(self.client_ext())
     }
 
     /// The key shares that the client offers (RFC 8446, section 4.2.8), in its order.
     pub fn client_key_shares(&self) -> Items<'_, KeyShareEntry<'_>>
-        ensures { items_in key_share_entry result.bytes.now ≡ told.client_key_shares (view_summary self.now) }
+        ensures { items_in key_share_entry result.bytes.now ≡ told.client_key_shares
+            (view_summary self.now) }
     {
         shares(self.client_ext())
     }
 
-    /// How the client takes keys known before (RFC 8446, section 4.2.9), one a byte.
+    /// The client's psk_key_exchange_modes (RFC 8446, section 4.2.9), one a byte.
     pub fn client_psk_modes(&self) -> &[u8]
         ensures { result.now ≡ told.client_psk_modes (view_summary self.now) }
     {
         modes(self.client_ext())
     }
 
-    /// Whether the client offers keys known before, by pre_shared_key (RFC 8446, section 4.2.11).
+    /// Whether the client offers pre-shared keys, in pre_shared_key (RFC 8446, section 4.2.11).
     pub fn offers_pre_shared_key(&self) -> bool
         ensures { result ≡ told.offers_pre_shared_key (view_summary self.now) }
     {
@@ -244,21 +262,22 @@ impl HandshakeSummary {
             .is_some()
     }
 
-    /// Whether the client says that it sends data early (RFC 8446, section 4.2.10).
+    /// Whether the client announces early data (RFC 8446, section 4.2.10).
     pub fn offers_early_data(&self) -> bool
         ensures { result ≡ told.offers_early_data (view_summary self.now) }
     {
         self.client_extension(TlsExtensionType::EarlyData).is_some()
     }
 
-    /// Whether the client offers a ticket, by a session_ticket that isn't empty (RFC 5077, section 3.2).
+    /// Whether the client offers a ticket, in a session_ticket that isn't empty (RFC 5077, section
+    /// 3.2).
     pub fn offers_ticket(&self) -> bool
         ensures { result ≡ told.offers_ticket (view_summary self.now) }
     {
         is_filled(self.client_extension(TlsExtensionType::SessionTicketTLS))
     }
 
-    /// Whether the ClientHello has the extension cookie (RFC 8446, section 4.2.2).
+    /// Whether the ClientHello has a cookie extension (RFC 8446, section 4.2.2).
     pub fn has_cookie(&self) -> bool
         ensures { result ≡ told.has_cookie (view_summary self.now) }
     {
@@ -272,14 +291,14 @@ impl HandshakeSummary {
         self.client_extension(ENCRYPTED_CLIENT_HELLO).is_some()
     }
 
-    /// Whether the client takes delegated credentials (RFC 9345, section 4.1.1).
+    /// Whether the client accepts delegated credentials (RFC 9345, section 4.1.1).
     pub fn offers_delegated_credentials(&self) -> bool
         ensures { result ≡ told.offers_delegated_credentials (view_summary self.now) }
     {
         self.client_extension(DELEGATED_CREDENTIAL).is_some()
     }
 
-    /// The version in the ServerHello itself: 0x0303 in TLS 1.3.
+    /// The version field of the ServerHello: 0x0303 in TLS 1.3.
     pub fn server_version(&self) -> Option<TlsVersion>
         ensures { option_map (λ v. v.0) result ≡ told.server_version (view_summary self.now) }
     {
@@ -289,7 +308,7 @@ impl HandshakeSummary {
         }
     }
 
-    /// The session id of the ServerHello; `None` where it is empty.
+    /// The session ID of the ServerHello; `None` if it is empty.
     pub fn server_session_id(&self) -> Option<&[u8]>
         ensures { option_map (λ x. x.now) result ≡ told.server_session_id (view_summary self.now) }
     {
@@ -309,16 +328,20 @@ impl HandshakeSummary {
         }
     }
 
-    /// The content of the ServerHello's first extension of that type, without its length; `None` where it has none.
+    /// The content of the ServerHello's first extension of this type, without its length; `None` if
+    /// it has none.
     pub fn server_extension(&self, kind: TlsExtensionType) -> Option<&[u8]>
-        ensures { option_map (λ x. x.now) result ≡ told.server_extension kind.0 (view_summary self.now) }
+        ensures { option_map (λ x. x.now) result ≡ told.server_extension kind.0
+            (view_summary self.now) }
     {
         content(self.server_ext(), kind)
     }
 
-    /// The CipherSpecs of a ClientHello in SSL 2.0's form (RFC 5246, appendix E.2), in its order; `None` where it has another form.
+    /// The CipherSpecs of a ClientHello of SSL 2.0's form (RFC 5246, appendix E.2), in its order;
+    /// `None` if it has another form.
     pub fn client_cipher_specs(&self) -> Option<Items<'_, CipherSpec>>
-        ensures { option_map (λ x. items_in (number 3) x.bytes.now) result ≡ (view_summary self.now).ssl2_cipher_specs }
+        ensures { option_map (λ x. items_in (number 3) x.bytes.now)
+            result ≡ (view_summary self.now).ssl2_cipher_specs }
     {
         match &self.ssl2_cipher_specs {
             Some(specs) => Some(Items::new(specs.as_slice())),
@@ -326,8 +349,9 @@ impl HandshakeSummary {
         }
     }
 
-    /// How many bytes the connection id has in each record of DTLS that goes in this direction: the one that its receiver asked for in its hello (RFC
-    /// 9146, section 3; RFC 9147, section 9). 0 where a side's hello has no such extension.
+    /// The length of the connection ID, in bytes, in each DTLS record in this direction: the one
+    /// that the receiver asked for in its hello (RFC 9146, section 3; RFC 9147, section 9). 0 if a
+    /// side's hello has no such extension.
     pub fn connection_id_len(&self, side: Direction) -> usize
         ensures { result ≡ told.connection_id_length side (view_summary self.now) }
     {
@@ -340,9 +364,10 @@ impl HandshakeSummary {
         }
     }
 
-    /// The types of the ServerHello's extensions, in their order.
+    /// The types of the ServerHello's extensions, in order.
     pub fn server_extension_types(&self) -> Items<'_, ExtensionType>
-        ensures { items_in extension_type result.bytes.now ≡ told.server_extension_types (view_summary self.now) }
+        ensures { items_in extension_type result.bytes.now ≡ told.server_extension_types
+            (view_summary self.now) }
     {
         extension_types(self.server_ext())
     }
@@ -354,9 +379,10 @@ impl HandshakeSummary {
         group_of_share(self.server_extension(TlsExtensionType::KeyShare))
     }
 
-    /// The timestamps of its certificate that the ServerHello has (RFC 6962, section 3.3.1).
+    /// The timestamps for the server's certificate in the ServerHello (RFC 6962, section 3.3.1).
     pub fn server_timestamps(&self) -> Items<'_, SignedCertificateTimestamp<'_>>
-        ensures { items_in serialized_timestamp result.bytes.now ≡ told.server_timestamps (view_summary self.now) }
+        ensures { items_in serialized_timestamp result.bytes.now ≡ told.server_timestamps
+            (view_summary self.now) }
     {
         timestamps(self.server_ext())
     }

@@ -1,4 +1,4 @@
--- Symbols of a finite alphabet, which can be told apart by computing, and tests that all symbols pass.
+-- Symbols of a finite alphabet, with computed equality, and tests that all symbols pass.
 use Rattle.std.proofs.Common.{
   ◌≡◌,
   ℕ,
@@ -28,7 +28,8 @@ use denote.Enum.Declared.{Declared}
 use denote.Enum.Bare.{Bare, sameb, same_true, same_false}
 
 -- Values of an enum without fields.
-abbrev pub decided : (D : Declared) → Bare D.parts → (a b : D.D) (t : Bool) → sameb D a b ≡ t → Dec (a ≡ b)
+abbrev pub decided : (D : Declared) → Bare D.parts → (a b : D.D) (t : Bool) → sameb D a b ≡ t
+    → Dec (a ≡ b)
 decided D bare a b true e = yes (same_true D bare a b e)
 decided D bare a b false e = no (same_false D a b e)
 
@@ -45,7 +46,7 @@ module _ {L : Type 0} (same : (a b : L) → Dec (a ≡ b)) where
   is_in [] l = false
   is_in (x ∷ xs) l = is_yes (same x l) || is_in xs l
 
-  -- The same by a place in the list.
+  -- Whether a symbol is in a list, by its position.
   pub in_contains : (xs : List L) (l : L) → is_in xs l ≡ true → Contains xs l
   in_contains [] l h = cc
   in_contains (x ∷ xs) l h = elim (either_or (is_yes (same x l)) (is_in xs l) h) [
@@ -57,17 +58,20 @@ module _ {L : Type 0} (same : (a b : L) → Dec (a ≡ b)) where
   same_is_yes x l (yes e) h = refl
   same_is_yes x l (no n) h = absurd (n h)
 
-  at_place : (xs : List L) (l : L) (k : ℕ) → k < length xs → slice_index_or xs k l ≡ l → is_in xs l ≡ true
+  at_place : (xs : List L) (l : L) (k : ℕ) → k < length xs → slice_index_or xs k l ≡ l
+      → is_in xs l ≡ true
   at_place [] l k b e = absurd (omega (arith, b))
-  at_place (x ∷ xs) l zero b e = or_either (is_yes (same x l)) (is_in xs l) (inl (same_is_yes x l (same x l) e))
+  at_place (x ∷ xs) l zero b e =
+      or_either (is_yes (same x l)) (is_in xs l) (inl (same_is_yes x l (same x l) e))
   at_place (x ∷ xs) l (suc k) b e = or_either (is_yes (same x l)) (is_in xs l)
       (inr (at_place xs l k (omega (arith, b)) e))
 
   pub contains_in : (xs : List L) (l : L) → Contains xs l → is_in xs l ≡ true
   contains_in xs l h = at_place xs l h.0 h.1 h.2
 
-  -- What each listed symbol passes, a symbol among them does.
-  pub passes_in : (f : L → Bool) (xs : List L) (l : L) → list_all f xs ≡ true → is_in xs l ≡ true → f l ≡ true
+  -- A symbol in a list passes a test that all in the list pass.
+  pub passes_in : (f : L → Bool) (xs : List L) (l : L) → list_all f xs ≡ true → is_in xs l ≡ true
+      → f l ≡ true
   passes_in f [] l t h = cc
   passes_in f (x ∷ xs) l t h =
       let k : (f x ≡ true) × (list_all f xs ≡ true) = both_and (f x) (list_all f xs) t in

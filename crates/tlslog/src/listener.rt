@@ -1,4 +1,4 @@
-//! What goes with each connection of a capture.
+//! What is kept of each connection, and the summary that its line is made of.
 use connections::{Connection, Side};
 use log_connections::{Heard, Keeper, Pieces};
 use log_fields::summary::{Party, Summary};
@@ -8,7 +8,7 @@ use tls_analyzer::Witness;
 use tls_flow::{Direction, HandshakeMessage};
 use tls_stream::Said;
 
-/// What is kept of a connection until it is printed.
+/// The pieces of a connection that are kept until they are printed.
 #[derive(Drop)]
 pub enum Kept {
     /// Its messages.
@@ -72,10 +72,10 @@ impl Witness for Kept {
     }
 }
 
-/// What is heard of a connection: what its sides said, and the pieces of it that are printed one by one.
+/// The state of a connection's TLS, with the pieces that are printed one by one.
 pub type Listener = Heard<Kept>;
 
-/// Takes out the messages that are kept.
+/// Takes the messages that are kept.
 pub fn take_messages(alloc: Global, listener: &mut Listener) -> Vec<Spoken> {
     match listener.keeper() {
         Some(Kept::Messages(speech)) => speech.take(),
@@ -83,7 +83,7 @@ pub fn take_messages(alloc: Global, listener: &mut Listener) -> Vec<Spoken> {
     }
 }
 
-/// Takes out the certificates that are kept.
+/// Takes the certificates that are kept.
 pub fn take_certificates(alloc: Global, listener: &mut Listener) -> Vec<Presented> {
     match listener.keeper() {
         Some(Kept::Certificates(chains)) => chains.take(),
@@ -91,7 +91,7 @@ pub fn take_certificates(alloc: Global, listener: &mut Listener) -> Vec<Presente
     }
 }
 
-/// One side of a connection.
+/// Returns one side of a connection for its summary.
 fn party(connection: &Connection<Listener>, side: Side) -> Party<'_> {
     Party {
         end: match side {
@@ -107,7 +107,7 @@ fn party(connection: &Connection<Listener>, side: Side) -> Party<'_> {
     }
 }
 
-/// The certificates that the sender of this direction sent, if chains are kept.
+/// Returns the certificates that the sender of this direction sent, if chains are kept.
 fn chain(listener: &Listener, direction: Direction) -> &[u8] {
     match listener.kept() {
         Some(Kept::Chains(lists)) => lists.of(direction),
@@ -115,7 +115,7 @@ fn chain(listener: &Listener, direction: Direction) -> &[u8] {
     }
 }
 
-/// What is told of a connection.
+/// Returns the summary of a connection that its lines are made of.
 pub fn summary(connection: &Connection<Listener>) -> Summary<'_> {
     let heard = &connection.listener;
     Summary {

@@ -1,42 +1,39 @@
-//! Prints a line for each connection of TLS or DTLS in a capture, at its end, or for each message, as it comes.
+//! Logs the TLS and DTLS connections of packet captures: a line for each when it ends, or a line
+//! for each message or certificate as it arrives.
 //!
-//! The capture is standard input, or files that are named. A line is an object of JSON, or a record of comma-separated values. The names are
-//! those of Zeek's logs. What was left out is told on standard error. The status is 0, also where nobody reads on what is printed, or 1 where
-//! an input is no capture or is broken off, 2 for wrong arguments, 3 where memory ran out, or opening, reading or writing failed.
+//! It reads the named files or standard input, prints JSON or another format, with Zeek's names for
+//! fields, and reports on standard error what it found and left out.
+//!
+//! | exit status | when |
+//! |---|---|
+//! | 0 | everything was read, or the reader of the output closed it |
+//! | 1 | an input is no capture, or is truncated |
+//! | 2 | the arguments are wrong |
+//! | 3 | memory ran out, or a file can't be opened, read or written |
 #![tactic(auto)]
 
 mod arguments;
-mod failure;
-mod front;
-mod help;
 mod listener;
 mod memory;
-mod output;
 mod program;
-mod progress;
 
 ghost use Rattle.std.specs.Prelude.{Bool};
-ghost use Rattle.tlslog.specs.Output.{Tells};
-ghost use Rattle.tlslog.specs.Run.{HasWritten};
+ghost use Rattle.log_io.specs.Run.{HasWritten};
 
-use crate::arguments::{Refusal, checksums_of, matches, part_of, style_of};
-use crate::failure::{Exit, Failure};
-use crate::memory::memory_of;
-use crate::output::{LineError, Output};
-use crate::program::{
-    Asked, DASH, Files, STANDARD_OUTPUT, log_file, log_joined, log_standard_input, tell,
-};
+use crate::arguments::{asked_of, choices};
+use crate::program::{Asked, log_file, log_joined, log_standard_input};
 use clap::ArgMatches;
-use clap::error::ErrorKind;
+use log_io::{DASH, Exit, Failure, Files, Output, STANDARD_OUTPUT, tell};
 use log_lines::Style;
-use std::alloc::Global;
+use log_options::{matches, tell_error};
+use log_writer::{Refusal, write_footer, write_header};
 use std::io::{self, Write};
 use std::process::ExitCode;
 use std::random::RandomSource;
 use std::rt::Runtime;
 use std::time::{SystemTime, UNIX_EPOCH};
 
-/// The seconds since 1970-01-01 00:00 UTC by the system's clock; 0 where it can't be read.
+/// Returns the seconds since 1970-01-01 00:00 UTC by the system's clock; 0 if it can't be read.
 fn now<R: Runtime>(rt: &R) -> i64 {
     let Ok(time) = SystemTime::now(rt) else {
         return 0;
@@ -47,37 +44,7 @@ fn now<R: Runtime>(rt: &R) -> i64 {
     }
 }
 
-/// Writes what stands in front of all lines, if there is something.
-fn write_header<W: Write>(
-    alloc: Global,
-    style: &Style,
-    opened: i64,
-    out: &mut Output<W>,
-) -> Result<(), LineError>
-    ensures { Tells out.old.has_failed out.new.has_failed result }
-{
-    match style.header(alloc, opened)? {
-        Some(header) => out.write_line(header),
-        None => Ok(()),
-    }
-}
-
-/// The same of what stands behind all.
-fn write_footer<W: Write>(
-    alloc: Global,
-    style: &Style,
-    closed: i64,
-    out: &mut Output<W>,
-) -> Result<(), LineError>
-    ensures { Tells out.old.has_failed out.new.has_failed result }
-{
-    match style.footer(alloc, closed)? {
-        Some(footer) => out.write_line(footer),
-        None => Ok(()),
-    }
-}
-
-/// Logs the capture of that name.
+/// Logs the capture with that path; `-` is standard input.
 fn log_one<R: Runtime + AllocGlobal + RandomSource, W: Write>(
     rt: &R,
     asked: &Asked,
@@ -93,7 +60,8 @@ fn log_one<R: Runtime + AllocGlobal + RandomSource, W: Write>(
     }
 }
 
-/// Logs each capture that is named, or all as one, or standard input, as long as somebody reads on what is printed.
+/// Logs each named capture, or all as one by `--join`, or standard input if none is named. Stops
+/// when the output is closed.
 fn log_each<R: Runtime + AllocGlobal + RandomSource, W: Write>(
     rt: &R,
     asked: &Asked,
@@ -121,14 +89,15 @@ fn log_each<R: Runtime + AllocGlobal + RandomSource, W: Write>(
     (exit, out)
 }
 
-/// FiveTuple the log behind its last line, as long as lines can be written, and says how the whole run ended.
+/// Ends the log after its last line, unless a write failed, and returns how the run exits.
 fn end_log<R: Runtime + AllocGlobal, W: Write>(
     rt: &R,
     style: &Style,
     exit: Exit,
     out: Output<W>,
 ) -> (Exit, Output<W>)
-    ensures { (was : Bool) → HasWritten was exit out.has_failed → HasWritten was result.0 result.1.has_failed }
+    ensures { (was : Bool) → HasWritten was exit out.has_failed
+        → HasWritten was result.0 result.1.has_failed }
 {
     let mut out = out;
     if matches!(exit, Exit::Closed) || out.has_failed() {
@@ -143,7 +112,7 @@ fn end_log<R: Runtime + AllocGlobal, W: Write>(
     }
 }
 
-/// Logs all, between what stands in front of the lines and behind them.
+/// Logs all captures, between the format's header and footer.
 fn log_all<R: Runtime + AllocGlobal + RandomSource, W: Write>(
     rt: &R,
     asked: &Asked,
@@ -160,7 +129,7 @@ fn log_all<R: Runtime + AllocGlobal + RandomSource, W: Write>(
     end_log(rt, &asked.style, exit, out)
 }
 
-/// Tells why the arguments are refused, and which status that is.
+/// Prints why the arguments are refused, and returns the exit status.
 fn refuse<R: Runtime + AllocGlobal>(rt: &R, refusal: Refusal<'_>) -> u8 {
     match eprintln!(rt; "tlslog: {refusal}") {
         Ok(()) => refusal.status(),
@@ -168,65 +137,7 @@ fn refuse<R: Runtime + AllocGlobal>(rt: &R, refusal: Refusal<'_>) -> u8 {
     }
 }
 
-/// What to write in place of options that other programs have.
-static HINTS: [(&str, &str); 3] = [
-    ("-r", "a capture is named without -r: tlslog FILE"),
-    (
-        "-i",
-        "packets of an interface come from tcpdump: tcpdump -U -i INTERFACE -w - | tlslog -",
-    ),
-    ("-w", "lines are printed: tlslog FILE > LOG"),
-];
-
-/// Prints what to write in place of the options among these words that other programs have.
-fn print_hints<R: Runtime + AllocGlobal>(rt: &R, words: &[String]) -> io::Result<()> {
-    for (option, hint) in &HINTS {
-        if words.iter().any(|word| word.as_str().starts_with(*option)) {
-            eprintln!(rt; "\n  tip: {hint}")?;
-        }
-    }
-    Ok(())
-}
-
-/// Prints what is wrong with the command line.
-fn print_error<R: Runtime + AllocGlobal>(
-    rt: &R,
-    error: &clap::Error,
-    words: &[String],
-) -> io::Result<()> {
-    error.print(rt)?;
-    match error.kind() {
-        ErrorKind::UnknownArgument => print_hints(rt, words),
-        _ => Ok(()),
-    }
-}
-
-/// Tells what is wrong with the command line, or helps, and which status that is.
-fn tell_error<R: Runtime + AllocGlobal>(rt: &R, error: &clap::Error, words: &[String]) -> u8 {
-    let is_told = print_error(rt, error, words).is_ok();
-    match error.kind() {
-        ErrorKind::DisplayHelp | ErrorKind::DisplayVersion if is_told => 0,
-        ErrorKind::DisplayHelp | ErrorKind::DisplayVersion | ErrorKind::OutOfMemory => 3,
-        _ if is_told => 2,
-        _ => 3,
-    }
-}
-
-/// What the arguments ask for.
-fn asked_of<'a, R: Runtime + AllocGlobal>(
-    rt: &R,
-    matches: &ArgMatches<'a>,
-) -> Result<Asked, Refusal<'a>> {
-    Ok(Asked {
-        part: part_of(matches)?,
-        style: style_of(rt, matches)?,
-        checksums: checksums_of(matches),
-        is_by_network: matches.get_flag("by-network"),
-        memory: memory_of(matches)?,
-    })
-}
-
-/// The run that the arguments ask for.
+/// Runs as the arguments ask, and returns the exit status.
 fn run_by<R: Runtime + AllocGlobal + RandomSource>(rt: &R, matches: &ArgMatches<'_>) -> u8 {
     match asked_of(rt, matches) {
         Ok(asked) => {
@@ -242,9 +153,9 @@ fn run_by<R: Runtime + AllocGlobal + RandomSource>(rt: &R, matches: &ArgMatches<
     }
 }
 
-/// The whole run.
+/// Parses the command line and runs by it. Returns the exit status.
 fn run<R: Runtime + AllocGlobal + RandomSource>(rt: &R, words: &[String]) -> u8 {
-    match matches(rt.alloc(), words) {
+    match matches(rt.alloc(), words, choices()) {
         Ok(matches) => run_by(rt, &matches),
         Err(error) => tell_error(rt, &error, words),
     }

@@ -1,54 +1,32 @@
-//! The run over one capture.
+//! Logs captures: packets in, lines out.
 ghost use Rattle.std.specs.Prelude.{◌≡◌, Bool};
-ghost use Rattle.tlslog.specs.Output.{Tells};
-ghost use Rattle.tlslog.specs.Run.{EndsBy, Exits, ExitsBy, HasFailed, HasWritten, IsAsBefore, IsNotOfCapture, StaysSound};
+ghost use Rattle.log_io.specs.Output.{Tells};
+ghost use Rattle.log_io.specs.Run.{EndsBy, Exits, HasFailed, HasWritten, IsAsBefore, IsNotOfCapture, StaysSound};
 
-use crate::failure::{Exit, Failure};
 use crate::listener::{Kept, Listener, summary, take_certificates, take_messages};
-use crate::output::{LineError, Output};
-use crate::progress::{STANDARD_INPUT, Source, Watched};
 use connection_parts::Part;
 use connections::{Connection, Protocol};
 use log_connections::{Arrival, Checksums, Counts, Joined, Log, Pieces, add_one};
-use log_fields::summary::Summary;
+use log_io::{
+    Exit, Failure, LineError, Opener, Output, STANDARD_INPUT, STANDARD_INPUT_NAME, Source, Watched,
+    tell,
+};
 use log_lines::{Lines, Style};
-use log_messages::{Presented, Spoken};
+use log_writer::{print_certificate, print_message, print_row};
 use packets::{Packet, PacketVisitor, visit_packets};
-use std::alloc::Global;
+use std::alloc::{AllocError, Global};
 use std::fs;
 use std::hash::RandomState;
-use std::io::{self, ErrorKind, Read, Write};
+use std::io::{Read, Write};
 use std::random::RandomSource;
 use std::rt::Runtime;
 use tunnels::MAX_TUNNELS;
 
-/// What failures to write are of.
-pub const STANDARD_OUTPUT: &str = "standard output";
-
-/// What failures to read are of, where no file is named.
-const STANDARD_INPUT_NAME: &str = "standard input";
-
-/// Under which name captures that are logged as one are told of.
+/// The name in messages of captures that are logged as one.
 const JOINED_NAME: &str = "all captures";
 
-/// The name of standard input among the captures.
-pub const DASH: &str = "-";
-
-/// Prints the line of a connection.
-fn print_row<W: Write>(
-    alloc: Global,
-    style: &Style,
-    places: &[usize],
-    summary: &Summary<'_>,
-    out: &mut Output<W>,
-) -> Result<(), LineError>
-    ensures { Tells out.old.has_failed out.new.has_failed result }
-{
-    let line = style.connection_line(alloc, places, summary, out.room())?;
-    out.write_line(line)
-}
-
-/// Counts a connection that is over, and prints its line, if it is TLS or DTLS and connections have lines.
+/// Counts a connection that is over. Prints its line if it speaks TLS or DTLS and connections are
+/// logged.
 fn print_line<W: Write>(
     alloc: Global,
     style: &Style,
@@ -73,7 +51,8 @@ fn print_line<W: Write>(
     }
 }
 
-/// The same, and lets the connection go: by `drop`, since what a connection holds is much to let go at the ends of a body.
+/// Prints the connection's line and frees it. (`drop` by hand: freeing at each exit of the body
+/// would triple its code.)
 fn print_one<W: Write>(
     alloc: Global,
     style: &Style,
@@ -88,23 +67,7 @@ fn print_one<W: Write>(
     told
 }
 
-/// Prints a message that was whole at this time.
-fn print_message<W: Write>(
-    alloc: Global,
-    style: &Style,
-    places: &[usize],
-    summary: &Summary<'_>,
-    time: u64,
-    spoken: Spoken,
-    out: &mut Output<W>,
-) -> Result<(), LineError>
-    ensures { Tells out.old.has_failed out.new.has_failed result }
-{
-    let line = style.message_line(alloc, places, summary, time, spoken)?;
-    out.write_line(line)
-}
-
-/// Prints the messages of a connection that were whole at this time.
+/// Prints and forgets the messages of a connection that were complete at this time.
 fn print_messages<W: Write>(
     alloc: Global,
     style: &Style,
@@ -123,23 +86,7 @@ fn print_messages<W: Write>(
     Ok(())
 }
 
-/// Prints a certificate that came at this time.
-fn print_certificate<W: Write>(
-    alloc: Global,
-    style: &Style,
-    places: &[usize],
-    summary: &Summary<'_>,
-    time: u64,
-    presented: &Presented,
-    out: &mut Output<W>,
-) -> Result<(), LineError>
-    ensures { Tells out.old.has_failed out.new.has_failed result }
-{
-    let line = style.certificate_line(alloc, places, summary, time, presented)?;
-    out.write_line(line)
-}
-
-/// Prints the certificates of a connection that came at this time.
+/// Prints and forgets the certificates of a connection that arrived at this time.
 fn print_certificates<W: Write>(
     alloc: Global,
     style: &Style,
@@ -158,7 +105,8 @@ fn print_certificates<W: Write>(
     Ok(())
 }
 
-/// Prints the messages or the certificates of a connection that were whole at this time, if these have lines.
+/// Prints the connection's messages or certificates that were complete at this time, if those are
+/// logged.
 fn print_pieces<W: Write>(
     alloc: Global,
     style: &Style,
@@ -179,7 +127,7 @@ fn print_pieces<W: Write>(
     }
 }
 
-/// Prints the last pieces of a connection that is over, and its line, if these have lines.
+/// Counts a connection that is over, and prints its last messages or certificates, or its line.
 fn print_both<W: Write>(
     alloc: Global,
     style: &Style,
@@ -194,7 +142,7 @@ fn print_both<W: Write>(
     print_line(alloc, style, counts, connection, out)
 }
 
-/// The same, and lets the connection go.
+/// Prints what is left of a connection that is over, and frees it.
 fn print_last<W: Write>(
     alloc: Global,
     style: &Style,
@@ -211,7 +159,7 @@ fn print_last<W: Write>(
     told
 }
 
-/// Prints the messages or the certificates that are whole with an arrival, if these have lines.
+/// Prints the messages or certificates that an arrival completed, if those are logged.
 fn print_spoken<W: Write>(
     alloc: Global,
     style: &Style,
@@ -246,7 +194,8 @@ fn log_packet<W: Write>(
     log_other_packet(alloc, style, log, packet, out)
 }
 
-/// The same of a packet of which it can't be told at once what arrives. A body of its own: what it has room for is zeroed at its entry.
+/// Logs a packet that isn't plain TCP: tunnels, fragments, UDP. (Not inlined: its large locals are
+/// zeroed at entry.)
 #[inline(never)]
 fn log_other_packet<W: Write>(
     alloc: Global,
@@ -263,7 +212,7 @@ fn log_other_packet<W: Write>(
     }
 }
 
-/// Logs what arrived.
+/// Logs a segment or datagram, after the connections that timed out before it.
 fn log_arrival<W: Write>(
     alloc: Global,
     style: &Style,
@@ -283,7 +232,7 @@ fn log_arrival<W: Write>(
     end_crowded(alloc, style, log, arrival.time(), out)
 }
 
-/// Lets the connection of what arrived hear it. Where memory is refused, connections end before their time.
+/// Passes an arrival to its connection. If memory is refused, connections are closed early.
 fn hear_arrival<W: Write>(
     alloc: Global,
     style: &Style,
@@ -307,7 +256,7 @@ fn hear_arrival<W: Write>(
     }
 }
 
-/// Ends connections before their time, the one that was longest without a packet first, until all fit the limit of memory.
+/// Closes the longest-idle connections until the rest fit the memory limit.
 fn end_crowded<W: Write>(
     alloc: Global,
     style: &Style,
@@ -326,7 +275,7 @@ fn end_crowded<W: Write>(
     Ok(())
 }
 
-/// Ends the connection of what arrived and could not be held, and says whether there was one.
+/// Closes the connection of an arrival that memory was refused for. Returns whether there was one.
 fn end_own<W: Write>(
     alloc: Global,
     style: &Style,
@@ -352,7 +301,7 @@ fn end_own<W: Write>(
     }
 }
 
-/// Ends the connection that was longest without a packet, and says whether there was one.
+/// Closes the longest-idle connection. Returns whether there was one.
 fn end_oldest<W: Write>(
     alloc: Global,
     style: &Style,
@@ -371,7 +320,7 @@ fn end_oldest<W: Write>(
     }
 }
 
-/// Ends both. Where there is none to end, memory ran out.
+/// Closes the arrival's own connection and the longest-idle one. Without either, memory ran out.
 fn end_refused<W: Write>(
     alloc: Global,
     style: &Style,
@@ -390,7 +339,7 @@ fn end_refused<W: Write>(
     Ok(())
 }
 
-/// Logs what arrived in a datagram that was put together from fragments, and says whether something did.
+/// Logs what a reassembled datagram holds. Returns whether it holds a segment or datagram.
 fn log_inside<W: Write>(
     alloc: Global,
     style: &Style,
@@ -412,7 +361,8 @@ fn log_inside<W: Write>(
     Ok(true)
 }
 
-/// Logs the datagram that a packet's fragment made whole, if it holds one: the datagram may hold another fragment, in a tunnel.
+/// Logs the datagram that a fragment completed, if it did. It may hold another fragment, in a
+/// tunnel.
 fn log_joined_datagram<W: Write>(
     alloc: Global,
     style: &Style,
@@ -435,7 +385,7 @@ fn log_joined_datagram<W: Write>(
     Ok(())
 }
 
-/// Logs each packet that it visits.
+/// Logs each packet of a capture.
 #[derive(Drop)]
 struct Logger<'a, W> {
     alloc: Global,
@@ -457,7 +407,7 @@ impl<'a, W: Write> PacketVisitor for Logger<'a, W> {
     }
 }
 
-/// Logs all that the reader gives.
+/// Logs the packets of a source.
 fn log_packets<I: Read, W: Write>(logger: &mut Logger<'_, W>, reader: &mut I) -> Result<(), Failure>
     ensures ends { EndsBy (I.remaining reader.old) (I.remaining reader.new) result }
     ensures sound { StaysSound logger.old.out.has_failed logger.new.out.has_failed result }
@@ -468,7 +418,7 @@ fn log_packets<I: Read, W: Write>(logger: &mut Logger<'_, W>, reader: &mut I) ->
     }
 }
 
-/// Prints the connections that are left.
+/// Prints the connections that are still open.
 fn print_left<W: Write>(
     alloc: Global,
     style: &Style,
@@ -486,29 +436,7 @@ fn print_left<W: Write>(
     Ok(())
 }
 
-/// Tells why a run ended early, behind so many packets, and which status that is. Where nobody reads on, nothing is told.
-pub fn tell<R: Runtime>(rt: &R, name: &str, failure: Failure, packets: u64) -> Exit
-    ensures { ExitsBy failure result }
-{
-    let (exit, name) = match failure {
-        Failure::Closed => return Exit::Closed,
-        Failure::Capture(_) => (Exit::Broken, name),
-        Failure::Writing(_) => (Exit::Failed, STANDARD_OUTPUT),
-        Failure::OutOfMemory | Failure::Opening(_) | Failure::Reading(_) | Failure::Endless => {
-            (Exit::Failed, name)
-        }
-    };
-    let told = match packets {
-        0 => eprintln!(rt; "{name}: {failure}"),
-        _ => eprintln!(rt; "{name}: {failure}, after {packets} packets"),
-    };
-    match told {
-        Ok(()) => exit,
-        Err(_) => Exit::Failed,
-    }
-}
-
-/// Logs all that the reader gives, and says how that ended.
+/// Logs the packets of a source, and reports a failure.
 fn log_source<R: Runtime + AllocGlobal, I: Read + Source, W: Write>(
     rt: &R,
     name: &str,
@@ -527,7 +455,7 @@ fn log_source<R: Runtime + AllocGlobal, I: Read + Source, W: Write>(
     }
 }
 
-/// Logs the connections that are left behind all that was read, and says how that ended.
+/// Logs the connections that are still open at the end, and reports a failure.
 fn log_left<R: Runtime + AllocGlobal, W: Write>(
     rt: &R,
     name: &str,
@@ -542,7 +470,7 @@ fn log_left<R: Runtime + AllocGlobal, W: Write>(
     }
 }
 
-/// Logs all that the reader gives, and the connections that are left at its end, and says how that ended.
+/// Logs the packets of a source, and the connections that are still open at its end.
 fn log_whole<R: Runtime + AllocGlobal, I: Read + Source, W: Write>(
     rt: &R,
     name: &str,
@@ -559,7 +487,8 @@ fn log_whole<R: Runtime + AllocGlobal, I: Read + Source, W: Write>(
     exit.and(log_left(rt, name, logger))
 }
 
-/// Tells what was read and left out, unless nobody reads on, or nothing was read of a source that is at fault; it failed where it can't be told.
+/// Prints what was found and left out, unless the output was closed, or the source failed before
+/// its first packet. If that can't be printed, the run fails.
 fn tell_counts<R: Runtime>(rt: &R, name: &str, counts: &Counts, exit: Exit) -> Exit
     ensures { IsAsBefore exit result }
 {
@@ -573,7 +502,7 @@ fn tell_counts<R: Runtime>(rt: &R, name: &str, counts: &Counts, exit: Exit) -> E
     }
 }
 
-/// What is kept of connections until it is printed.
+/// Returns what is kept of connections until it is printed.
 fn kept_for(style: &Style) -> Option<Pieces> {
     match &style.lines {
         Lines::Connections(_) if style.has_chains() => Some(Pieces::Chains),
@@ -589,17 +518,31 @@ fn kept_for(style: &Style) -> Option<Pieces> {
 pub struct Asked {
     /// How lines are written.
     pub style: Style,
-    /// Which checksums count.
+    /// Which wrong checksums drop a packet.
     pub checksums: Checksums,
-    /// The part whose connections are logged, where not all are.
+    /// The part of the connections that is logged; all without one.
     pub part: Option<Part>,
-    /// Whether connections in several networks are told apart.
+    /// Whether connections in different VLANs and tunnels are separate.
     pub is_by_network: bool,
     /// How many bytes of memory connections may take.
     pub memory: usize,
 }
 
-/// The log of what is asked for, of which nothing was read.
+/// Returns an empty log by the options, with these keys for the hashes of its tables.
+fn log_of(alloc: Global, asked: &Asked, keys: RandomState) -> Result<Log<Kept>, AllocError> {
+    let mut log = Log::new(alloc, keys, kept_for(&asked.style))?;
+    log.set_checksums(asked.checksums);
+    log.set_memory(asked.memory);
+    if let Some(part) = asked.part {
+        log.set_part(part);
+    }
+    if asked.is_by_network {
+        log.tell_networks_apart(keys)?;
+    }
+    Ok(log)
+}
+
+/// Returns an empty log by the options, or reports why there is none.
 fn begin_log<R: Runtime + AllocGlobal + RandomSource>(
     rt: &R,
     asked: &Asked,
@@ -613,26 +556,19 @@ fn begin_log<R: Runtime + AllocGlobal + RandomSource>(
             return Err(tell(rt, "the system's random numbers", Failure::Reading(e), 0));
         }
     };
-    let mut log = match Log::new(rt.alloc(), keys, kept_for(&asked.style)) {
-        Ok(log) => log,
-        Err(_) => return Err(tell(rt, name, Failure::OutOfMemory, 0)),
-    };
-    log.set_checksums(asked.checksums);
-    log.set_memory(asked.memory);
-    if let Some(part) = asked.part {
-        log.set_part(part);
+    match log_of(rt.alloc(), asked, keys) {
+        Ok(log) => Ok(log),
+        Err(_) => Err(tell(rt, name, Failure::OutOfMemory, 0)),
     }
-    if asked.is_by_network && log.tell_networks_apart(keys).is_err() {
-        return Err(tell(rt, name, Failure::OutOfMemory, 0));
-    }
-    Ok(log)
 }
 
-/// Logs a capture that is read from there, under that name, and hands back where its lines go.
+/// Logs the capture of a source, whose name appears in messages, and hands back the output.
 ///
-/// The run is clean where the reader has a whole capture, which was read to its end, and every line was written; it is broken where
-/// the reader has none, or one that is broken off. Where nobody reads on what is printed, it is closed. Where memory ran out, a read failed
-/// or a write failed, it failed.
+/// The exit is
+/// - `Clean` if the source has a whole capture, all of it was read, and every line was written,
+/// - `Broken` if the source has no capture, or a truncated one,
+/// - `Closed` if the reader of the output closed it,
+/// - `Failed` if memory ran out, or a read or a write failed.
 pub fn log_input<R: Runtime + AllocGlobal + RandomSource, I: Read + Source, W: Write>(
     rt: &R,
     asked: &Asked,
@@ -661,49 +597,7 @@ pub fn log_input<R: Runtime + AllocGlobal + RandomSource, I: Read + Source, W: W
     (exit, out)
 }
 
-/// Who opens captures.
-pub trait Opener {
-    /// What a capture is read from.
-    type Opened: Read + Source + Drop;
-
-    /// The name of the capture of that number, from 0 on; `None` behind the last.
-    fn name(&self, number: usize) -> Option<&str>;
-
-    /// That capture.
-    fn open(&self, number: usize) -> io::Result<Self::Opened>;
-}
-
-/// Who opens files, of which the progress is told where someone looks.
-#[derive(Drop)]
-pub struct Files<'a, R> {
-    /// What opens them.
-    pub rt: &'a R,
-    /// Their paths; standard input is `-`.
-    pub paths: &'a [&'a str],
-}
-
-impl<'a, R: Runtime> Opener for Files<'a, R> {
-    type Opened = Watched<'a, R, R::File>;
-
-    fn name(&self, number: usize) -> Option<&str> {
-        match self.paths.get(number) {
-            Some(&DASH) => Some(STANDARD_INPUT_NAME),
-            Some(path) => Some(path),
-            None => None,
-        }
-    }
-
-    fn open(&self, number: usize) -> io::Result<Watched<'a, R, R::File>> {
-        let Some(path) = self.paths.get(number) else {
-            return Err(io::Error::from(ErrorKind::NotFound));
-        };
-        let place = if *path == DASH { STANDARD_INPUT } else { path };
-        let file = fs::open(self.rt, place)?;
-        Ok(Watched::new(self.rt, path, place, file))
-    }
-}
-
-/// Logs one more of the captures that are logged as one.
+/// Opens and logs the next of the captures that are logged as one.
 fn log_next<R: Runtime + AllocGlobal, O: Opener, W: Write>(
     rt: &R,
     opener: &O,
@@ -719,13 +613,14 @@ fn log_next<R: Runtime + AllocGlobal, O: Opener, W: Write>(
     }
 }
 
-/// Logs the connections that are left behind the last of these captures, as long as lines can be written.
+/// Logs the connections that are still open after the last capture, unless a write failed.
 fn log_last<R: Runtime + AllocGlobal, W: Write>(
     rt: &R,
     exit: Exit,
     logger: &mut Logger<'_, W>,
 ) -> Exit
-    ensures { (was : Bool) → HasWritten was exit logger.old.out.has_failed → HasWritten was result logger.new.out.has_failed }
+    ensures { (was : Bool) → HasWritten was exit logger.old.out.has_failed
+        → HasWritten was result logger.new.out.has_failed }
 {
     if matches!(exit, Exit::Closed) || logger.out.has_failed() {
         return exit;
@@ -733,7 +628,8 @@ fn log_last<R: Runtime + AllocGlobal, W: Write>(
     exit.and(log_left(rt, JOINED_NAME, logger))
 }
 
-/// Logs captures as one, in that order: what one leaves open goes on in the next. Where one isn't read whole, the others still are.
+/// Logs captures as one, in order: open connections continue in the next capture. If one can't be
+/// read whole, the next one still is.
 pub fn log_joined<R: Runtime + AllocGlobal + RandomSource, O: Opener, W: Write>(
     rt: &R,
     asked: &Asked,
@@ -769,7 +665,7 @@ pub fn log_joined<R: Runtime + AllocGlobal + RandomSource, O: Opener, W: Write>(
     (exit, out)
 }
 
-/// Logs the capture in a file, of which the progress is told where someone looks.
+/// Logs the capture in a file. Its progress is shown on a terminal.
 pub fn log_file<R: Runtime + AllocGlobal + RandomSource, W: Write>(
     rt: &R,
     asked: &Asked,
@@ -787,7 +683,7 @@ pub fn log_file<R: Runtime + AllocGlobal + RandomSource, W: Write>(
     }
 }
 
-/// The same of the capture that is standard input.
+/// Logs the capture on standard input.
 pub fn log_standard_input<R: Runtime + AllocGlobal + RandomSource, W: Write>(
     rt: &R,
     asked: &Asked,

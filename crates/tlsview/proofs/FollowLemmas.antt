@@ -1,4 +1,4 @@
--- The symbols of messages, apart from where these lie in memory.
+-- The symbols of messages, wherever these lie in memory.
 use Rattle.std.proofs.Common.{◌≡◌, ℕ, ◌++◌, Ok, Bool, false, List, [], ◌∷◌, map, refl, sym, ◌∙◌, ap, subst}
 use Rattle.std.specs.List.{list_any}
 use Rattle.std.specs.Prelude.{◌||◌, flat_map}
@@ -24,7 +24,8 @@ same_symbols d [] = refl
 same_symbols d (m ∷ ms) = ap (λ w. symbols.symbol_of m (goes_to_server d) ∷ w) (same_symbols d ms)
 
 pub followed : (d : Direction) (q : TlsState) (ms : List TlsMessage)
-    → run q (map (λ m. symbols.symbol_of m (goes_to_server d)) ms) ≡ state_after d q (map view_message ms)
+    → run q (map (λ m. symbols.symbol_of m (goes_to_server d)) ms) ≡ state_after d q
+    (map view_message ms)
 followed d q ms = ap (run q) (sym (same_symbols d ms))
 
 pub changed : (ms : List TlsMessage) → list_any (λ m. changes_cipher (view_message m)) ms
@@ -33,7 +34,8 @@ changed [] = refl
 changed (m ∷ ms) = ap (λ t. changes_cipher (view_message m) || t) (changed ms)
 
 -- The messages of a record that isn't encrypted, printed and followed.
-pub messages_shown : (d : Direction) (text text' : List ℕ) (q q' : TlsState) (enc enc' to_server : Bool) (v : RawRecord)
+pub messages_shown : (d : Direction) (text text' : List ℕ) (q q' : TlsState)
+    (enc enc' to_server : Bool) (v : RawRecord)
     (r : Bytes) (ms s1 s2 s3 : List TlsMessage)
     → enc ≡ false → reading (record_content v.header) v.fragment ≡ Ok (map view_message ms, r)
     → to_server ≡ goes_to_server d → s1 ≡ ms → s2 ≡ ms → s3 ≡ ms
@@ -41,7 +43,8 @@ pub messages_shown : (d : Direction) (text text' : List ℕ) (q q' : TlsState) (
     → q' ≡ run q (map (λ m. symbols.symbol_of m to_server) s2)
     → enc' ≡ list_any (λ m. changes_cipher (view_message m)) s3
     → IsShown d text q text' q' enc (content_of enc v) (next.Record enc')
-messages_shown d text text' q q' enc enc' to_server v r ms s1 s2 s3 plain read way e1 e2 e3 printed follows changes =
+messages_shown d text text' q q' enc enc' to_server v r ms s1 s2 s3 plain read way e1 e2 e3 printed
+    follows changes =
     let holds : content_of enc v ≡ Ok (Messages (map view_message ms)) =
     ap (λ t. content_of t v) plain ∙ ap messages_of read in
     let text_is : text' ≡ text ++ flat_map (message_line d) (map view_message ms) =
@@ -52,4 +55,5 @@ messages_shown d text text' q q' enc enc' to_server v r ms s1 s2 s3 plain read w
     let cipher_is : enc' ≡ (enc || list_any changes_cipher (map view_message ms))
     = changes ∙ ap (λ s. list_any (λ m. changes_cipher (view_message m)) s) e3 ∙ changed ms
     ∙ ap (λ t. t || list_any changes_cipher (map view_message ms)) (sym plain) in
-    subst (λ k. IsShown d text q text' q' enc k (next.Record enc')) (sym holds) (text_is, state_is, cipher_is)
+    subst (λ k. IsShown d text q text' q' enc k (next.Record enc')) (sym holds)
+    (text_is, state_is, cipher_is)

@@ -1,4 +1,4 @@
--- A record that isn't encrypted, as one with its messages.
+-- A record that isn't encrypted, parsed with its messages.
 use Rattle.std.proofs.Common.{◌≡◌, false, List, [], Ok, Err, refl, sym, ◌∙◌, ap}
 use Rattle.layouts.specs.Bytes.{Bytes}
 use Rattle.layouts.specs.Meaning.{Answer, Broken, Lacks}
@@ -14,8 +14,9 @@ use Rattle.tlsview.specs.declared.direction.Direction.{Direction}
 abbrev with_messages : RawRecord × Bytes → Answer (List Message) → Answer Plaintext
 with_messages x a = a and_then λ m. Ok (record { header = x.0.header; messages = m.0 }, x.1)
 
--- what a raw record says where it isn't encrypted
-plain_part : (d : Direction) (h : Half) (x : RawRecord × Bytes) (k : Answer (List Message)) (behind : Half → Part Half)
+-- what a raw record prints if it isn't encrypted
+plain_part : (d : Direction) (h : Half) (x : RawRecord × Bytes) (k : Answer (List Message))
+    (behind : Half → Part Half)
     → h.is_encrypted ≡ false
     → reading (record_content x.0.header) x.0.fragment ≡ k
     → record_part d h (Ok x) behind ≡ content_part d h x.1 (messages_of k) behind
@@ -23,31 +24,39 @@ plain_part d h x k behind plain e =
     ap (λ t. content_part d h x.1 (content_of t x.0) behind) plain
     ∙ ap (λ a. content_part d h x.1 (messages_of a) behind) e
 
-pub plain_read : (d : Direction) (h : Half) (p : Plaintext) (rest : Bytes) (behind : Half → Part Half)
+pub plain_read : (d : Direction) (h : Half) (p : Plaintext) (rest : Bytes)
+    (behind : Half → Part Half)
     → h.is_encrypted ≡ false → reading plaintext h.left ≡ Ok (p, rest)
-    → record_part d h (reading raw_record h.left) behind ≡ content_part d h rest (Ok (Messages p.messages)) behind
-plain_read d h p rest behind plain e = go (reading raw_record h.left) (sym (plaintext_is_raw_then_content h.left) ∙ e)
+    → record_part d h (reading raw_record h.left) behind ≡ content_part d h rest
+    (Ok (Messages p.messages)) behind
+plain_read d h p rest behind plain e =
+    go (reading raw_record h.left) (sym (plaintext_is_raw_then_content h.left) ∙ e)
   where
-    held : (x : RawRecord × Bytes) (k : Answer (List Message)) → reading (record_content x.0.header) x.0.fragment ≡ k
+    held : (x : RawRecord × Bytes) (k : Answer (List Message))
+        → reading (record_content x.0.header) x.0.fragment ≡ k
         → with_messages x k ≡ Ok (p, rest)
         → record_part d h (Ok x) behind ≡ content_part d h rest (Ok (Messages p.messages)) behind
     held x (Err f) read g = absurd cc
     held x (Ok m) read g =
         let both : (record { header = x.0.header; messages = m.0 }, x.1) ≡ (p, rest) = cc in
         plain_part d h x (Ok m) behind plain read
-        ∙ ap (λ (y : Plaintext × Bytes). content_part d h y.1 (Ok (Messages y.0.messages)) behind) both
+        ∙ ap (λ (y : Plaintext × Bytes). content_part d h y.1 (Ok (Messages y.0.messages)) behind)
+        both
 
     go : (a : Answer RawRecord) → a and_then read_content ≡ Ok (p, rest)
         → record_part d h a behind ≡ content_part d h rest (Ok (Messages p.messages)) behind
     go (Ok x) g = held x (reading (record_content x.0.header) x.0.fragment) refl g
     go (Err f) g = absurd cc
 
-pub plain_refused : (d : Direction) (h : Half) (kind : ErrorKind) (behind : Half → Part Half) → h.is_encrypted ≡ false
+pub plain_refused : (d : Direction) (h : Half) (kind : ErrorKind) (behind : Half → Part Half)
+    → h.is_encrypted ≡ false
     → reading plaintext h.left ≡ Err (Broken kind)
     → record_part d h (reading raw_record h.left) behind ≡ ([], Err (Refused (Broken kind)))
-plain_refused d h kind behind plain e = go (reading raw_record h.left) (sym (plaintext_is_raw_then_content h.left) ∙ e)
+plain_refused d h kind behind plain e =
+    go (reading raw_record h.left) (sym (plaintext_is_raw_then_content h.left) ∙ e)
   where
-    held : (x : RawRecord × Bytes) (k : Answer (List Message)) → reading (record_content x.0.header) x.0.fragment ≡ k
+    held : (x : RawRecord × Bytes) (k : Answer (List Message))
+        → reading (record_content x.0.header) x.0.fragment ≡ k
         → with_messages x k ≡ Err (Broken kind)
         → record_part d h (Ok x) behind ≡ ([], Err (Refused (Broken kind)))
     held x (Ok m) read g = absurd cc

@@ -1,4 +1,4 @@
--- Records one after the other.
+-- Records in order.
 use Rattle.std.proofs.Common.{
   ◌≡◌,
   ℕ,
@@ -66,12 +66,13 @@ same_part d h f g same = go (reading raw_record h.left) refl
         (same (half_behind d h c x.1) (omega (arith, record_takes h.left x.1 x.0 e)))
     held x (Err e) read = refl
 
-    go : (a : Answer RawRecord) → reading raw_record h.left ≡ a → record_part d h a f ≡ record_part d h a g
+    go : (a : Answer RawRecord) → reading raw_record h.left ≡ a
+        → record_part d h a f ≡ record_part d h a g
     go (Ok x) e = held x (content_of h.is_encrypted x.0) e
     go (Err (Lacks n)) e = refl
     go (Err (Broken k)) e = refl
 
--- so it doesn't matter how many records may come, once there may be as many as bytes
+-- the count of records doesn't matter, once it is at least the count of bytes
 enough : (m n : ℕ) (d : Direction) (h : Half) → length h.left < m → length h.left < n
     → records_part m d h ≡ records_part n d h
 enough zero n d h less more = absurd (omega (arith, less))
@@ -79,7 +80,7 @@ enough (suc m) zero d h less more = absurd (omega (arith, more))
 enough (suc m) (suc n) d h less more = same_part d h (records_part m d) (records_part n d)
     (λ k short. enough m n d k (omega (arith, short, less)) (omega (arith, short, more)))
 
--- the records of some bytes are the next one and those behind it
+-- the records of some bytes are the next one and those after it
 pub record_by_record : (d : Direction) (h : Half)
     → half_part d h ≡ record_part d h (reading raw_record h.left) (half_part d)
 record_by_record d h = same_part d h (records_part (length h.left) d) (half_part d)
@@ -92,13 +93,14 @@ half_then : (d : Direction) (h : Half) (a : Answer RawRecord) → reading raw_re
     → half_part d h ≡ record_part d h a (half_part d)
 half_then d h a e = record_by_record d h ∙ ap (λ a. record_part d h a (half_part d)) e
 
--- One more record was shown, and taken off.
+-- One more record was printed, and removed.
 pub record OneShown (d : Direction) (text text' : List ℕ) (h h' : Half) : Type 0 where
   pub text_is : text' ++ (half_part d h').0 ≡ text ++ (half_part d h).0
   pub ending_is : (half_part d h').1 ≡ (half_part d h).1
   pub fewer : length h'.left < length h.left
 
-one_content : (d : Direction) (text text' : List ℕ) (b r new : Bytes) (enc enc' : Bool) (q q' : TlsState)
+one_content : (d : Direction) (text text' : List ℕ) (b r new : Bytes) (enc enc' : Bool)
+    (q q' : TlsState)
     (v : RawRecord) (c : Content)
     → reading raw_record b ≡ Ok (v, r) → content_of enc v ≡ Ok c → new ≡ r
     → text' ≡ text ++ content_text d c → q' ≡ state_behind d q c → enc' ≡ (enc || cipher_behind c)
@@ -110,7 +112,8 @@ one_content d text text' b r new enc enc' q q' v c read holds rest printed follo
     ∙ ap (λ s. half_of r (enc || cipher_behind c) s) followed in
     let step : half_part d h ≡ then_part (content_text d c) (half_part d (half_behind d h c r))
     = half_then d h (Ok (v, r)) read ∙ ap (λ k. content_part d h r k (half_part d)) holds in
-    let parts : half_part d (half_of new enc' q') ≡ half_part d (half_behind d h c r) = ap (half_part d) behind in
+    let parts : half_part d (half_of new enc' q') ≡ half_part d (half_behind d h c r) =
+    ap (half_part d) behind in
     record {
       text_is =
           ap (λ t. t ++ (half_part d (half_of new enc' q')).0) printed
@@ -121,43 +124,52 @@ one_content d text text' b r new enc enc' q q' v c read holds rest printed follo
       fewer = omega (arith, record_takes b r v read, ap length rest);
     }
 
-pub one_shown : (d : Direction) (text text' : List ℕ) (b new : Bytes) (enc enc' taken : Bool) (q q' : TlsState)
+pub one_shown : (d : Direction) (text text' : List ℕ) (b new : Bytes) (enc enc' taken : Bool)
+    (q q' : TlsState)
     (n : rust_next.Next) → n ≡ next.Record enc'
-    → IsNext d text q text' q' enc (reading raw_record b) n → FrontTaken (front record_frame b) b taken new
+    → IsNext d text q text' q' enc (reading raw_record b) n
+    → FrontTaken (front record_frame b) b taken new
     → OneShown d text text' (half_of b enc q) (half_of new enc' q')
 one_shown d text text' b new enc enc' taken q q' n same is takes =
-    go (reading raw_record b) refl (subst (IsNext d text q text' q' enc (reading raw_record b)) same is)
+    go (reading raw_record b) refl
+    (subst (IsNext d text q text' q' enc (reading raw_record b)) same is)
     (subst (λ a. FrontTaken a b taken new) (front_is_read b) takes)
   where
-    held : (x : RawRecord × Bytes) (k : Result Content Refusal) → content_of enc x.0 ≡ k → reading raw_record b ≡ Ok x
+    held : (x : RawRecord × Bytes) (k : Result Content Refusal) → content_of enc x.0 ≡ k
+        → reading raw_record b ≡ Ok x
         → new ≡ x.1
         → IsShown d text q text' q' enc k (next.Record enc')
         → OneShown d text text' (half_of b enc q) (half_of new enc' q')
-    held x (Ok c) holds read rest s = one_content d text text' b x.1 new enc enc' q q' x.0 c read holds rest s.0 s.1 s.2
+    held x (Ok c) holds read rest s =
+        one_content d text text' b x.1 new enc enc' q q' x.0 c read holds rest s.0 s.1 s.2
     held x (Err e) holds read rest s = absurd s
 
-    go : (a : Answer RawRecord) → reading raw_record b ≡ a → IsNext d text q text' q' enc a (next.Record enc')
+    go : (a : Answer RawRecord) → reading raw_record b ≡ a
+        → IsNext d text q text' q' enc a (next.Record enc')
         → FrontTaken (front_of a b) b taken new
         → OneShown d text text' (half_of b enc q) (half_of new enc' q')
     go (Ok x) read s t = held x (content_of enc x.0) refl read t.1 s
     go (Err (Lacks n)) read s t = absurd s
     go (Err (Broken k)) read s t = absurd s
 
--- Nothing more is shown: what is printed, and what is known then.
-pub record IsLast (d : Direction) (text text' : List ℕ) (h : Half) (end : Result Half Fault) : Type 0 where
+-- Nothing more is printed: the text, and the state then.
+pub record IsLast (d : Direction) (text text' : List ℕ) (h : Half)
+    (end : Result Half Fault) : Type 0 where
   pub text_is : text' ≡ text ++ (half_part d h).0
   pub ending_is : (half_part d h).1 ≡ end
 
-abbrev last_part : (d : Direction) (text text' : List ℕ) (h : Half) (end : Result Half Fault) → text' ≡ text
+abbrev last_part : (d : Direction) (text text' : List ℕ) (h : Half) (end : Result Half Fault)
+    → text' ≡ text
     → half_part d h ≡ ([], end) → IsLast d text text' h end
 last_part d text text' h end same is = record {
   text_is = same ∙ sym (append-nil text) ∙ ap (λ (p : Part Half). text ++ p.0) (sym is);
   ending_is = ap (λ (p : Part Half). p.1) is;
 }
 
--- A direction that holds a length that is too large stays so.
+-- A direction with a length that is too large stays so.
 pub too_large_shown : (d : Direction) (text : List ℕ) (b s : Bytes) (enc : Bool) (q : TlsState)
-    → IsTooLarge record_frame b → IsLast d text text (half_of (b ++ s) enc q) (Err (Refused (Broken TooLarge)))
+    → IsTooLarge record_frame b
+    → IsLast d text text (half_of (b ++ s) enc q) (Err (Refused (Broken TooLarge)))
 too_large_shown d text b s enc q large =
     last_part d text text (half_of (b ++ s) enc q) (Err (Refused (Broken TooLarge))) refl
     (half_then d (half_of (b ++ s) enc q) (Err (Broken TooLarge)) (large_stays b s large))

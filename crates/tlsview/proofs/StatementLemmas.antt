@@ -1,4 +1,4 @@
--- Which lines say something.
+-- Which lines are well-formed.
 use Rattle.std.proofs.Common.{
   ◌≡◌,
   ℕ,
@@ -42,13 +42,14 @@ sign_stands sign d h = tests (eqb sign 62) (eqb sign 60) refl refl h
     tests false true e f g = let is : d ≡ FromServer = cc in rw (is, eqb-true sign 60 f) refl
     tests false false e f g = cc
 
--- what there is where the digits are decoded
+-- the parts of a line whose digits are decoded
 decoded : (d : Option Direction) (digits : List ℕ) → IsSome (with_direction d digits)
     → (e : Direction) × (d ≡ Some e) × (bytes : List ℕ) × (decode_of digits ≡ Ok bytes)
 decoded None digits h = cc h
 decoded (Some e) digits h = let found = go (decode_of digits) refl in (e, refl, found.0, found.1)
   where
-    go : (r : Result (List ℕ) FromHexError) → decode_of digits ≡ r → (bytes : List ℕ) × (decode_of digits ≡ Ok bytes)
+    go : (r : Result (List ℕ) FromHexError) → decode_of digits ≡ r
+        → (bytes : List ℕ) × (decode_of digits ≡ Ok bytes)
     go (Ok bytes) f = (bytes, f)
     go (Err g) f = cc (rw f at h)
 

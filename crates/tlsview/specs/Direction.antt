@@ -8,6 +8,7 @@ abbrev pub sign_of : rust.Direction → ℕ
 sign_of ToServer = 62
 sign_of FromServer = 60
 
--- the direction whose sign that is
+-- the direction with this sign
 abbrev pub direction_of : ℕ → Option rust.Direction
-direction_of sign = if sign == 62 then Some ToServer else if sign == 60 then Some FromServer else None
+direction_of sign = if sign == 62 then Some ToServer else if sign == 60 then
+    Some FromServer else None

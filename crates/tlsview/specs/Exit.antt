@@ -1,4 +1,4 @@
--- The statuses of a run.
+-- The exit statuses of a run.
 use Rattle.std.specs.Prelude.{ℕ}
 use Rattle.tlsview.specs.declared.exit.Exit as rust
 use Rattle.tlsview.specs.declared.exit.Exit.TheVariants.{Clean, Fault, BadLine, Failed}

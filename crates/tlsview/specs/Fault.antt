@@ -7,7 +7,7 @@ use Rattle.layouts.specs.declared.result.ErrorKind.TheVariants.{TooLarge, Length
 use Rattle.tlsview.specs.declared.fault.Fault as rust
 use Rattle.tlsview.specs.declared.fault.Fault.TheVariants as rust_fault
 
--- a record is refused, or a line has another form
+-- a refused record, or a malformed line
 pub data Fault : Type 0 where
   Refused : Refusal → Fault
   BadLine : Fault

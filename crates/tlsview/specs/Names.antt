@@ -6,7 +6,8 @@ use Rattle.tls_hs.specs.Handshake as handshakes
 use Rattle.tls_hs.specs.HandshakeText.{msg_type_of}
 use Rattle.tls_hs.specs.Message as messages
 
--- the name of a handshake message is that of its HandshakeType, or of the draft whose ServerHello it is
+-- a handshake message has the name of its HandshakeType, or of the draft that its ServerHello
+-- belongs to
 abbrev pub handshake_name : handshakes.Handshake → List ℕ
 handshake_name (handshakes.ServerHelloV13Draft18 body) = codes "ServerHelloV13Draft18"
 handshake_name m = name (codes "TlsHandshakeType") handshake_types (msg_type_of m)

@@ -1,4 +1,4 @@
--- What is printed for an input, and the status.
+-- The printed text and the status for an input.
 use Rattle.std.specs.Prelude.{
   ℕ,
   zero,
@@ -43,12 +43,12 @@ use Rattle.tlsview.specs.declared.conversation.Conversation.{Conversation}
 use Rattle.tlsview.specs.declared.direction.Direction.{Direction}
 use Rattle.tlsview.specs.declared.direction.Direction.TheVariants.{ToServer, FromServer}
 
--- what a record holds: an encrypted one isn't read
+-- the content of a record: an encrypted one isn't parsed
 pub data Content : Type 0 where
   Encrypted : Content
   Messages : List Message → Content
 
--- the messages of a record that isn't encrypted are those of its fragment, by its header
+-- the messages of a record that isn't encrypted, from its fragment and its header
 abbrev pub messages_of : Answer (List Message) → Result Content Refusal
 messages_of (Ok x) = Ok (Messages x.0)
 messages_of (Err e) = Err e
@@ -64,7 +64,8 @@ abbrev pub content_text : Direction → Content → List ℕ
 content_text d Encrypted = sign_of d ∷ 32 ∷ (codes "Encrypted" ++ codes "\n")
 content_text d (Messages ms) = flat_map (message_line d) ms
 
--- one direction of a conversation: what it has left to read, whether it has changed its cipher; and the conversation's state
+-- one direction of a conversation: its bytes left to read, whether it has sent its
+-- ChangeCipherSpec; and the conversation's state
 pub record Half : Type 0 where
   pub left : Bytes
   pub is_encrypted : Bool
@@ -87,33 +88,34 @@ half_behind d h c rest = record {
       state_behind d h.state c;
 }
 
--- what a part of the input prints, and what is known behind it or the fault that ends it
+-- what a part of the input prints, and the state after it or the fault that ends it
 abbrev pub Part : Type 0 → Type 0
 Part A = List ℕ × Result A Fault
 
-abbrev pub content_part : Direction → Half → Bytes → Result Content Refusal → (Half → Part Half) → Part Half
+abbrev pub content_part : Direction → Half → Bytes → Result Content Refusal → (Half → Part Half)
+    → Part Half
 content_part d h rest (Err e) behind = ([], Err (Refused e))
 content_part d h rest (Ok c) behind = (
   content_text d c ++ (behind (half_behind d h c rest)).0,
   (behind (half_behind d h c rest)).1,
 )
 
--- the record that stands next, and those behind it; where bytes of it are missing, they are left to read
+-- the next record, and those after it; an unfinished record is left to read
 abbrev pub record_part : Direction → Half → Answer RawRecord → (Half → Part Half) → Part Half
 record_part d h (Ok x) behind = content_part d h x.1 (content_of h.is_encrypted x.0) behind
 record_part d h (Err (Lacks n)) behind = ([], Ok h)
 record_part d h (Err (Broken kind)) behind = ([], Err (Refused (Broken kind)))
 
--- the records one after the other, fewer than n of them
+-- the records in order, fewer than n of them
 abbrev pub records_part : ℕ → Direction → Half → Part Half
 records_part zero d h = ([], Ok h)
 records_part (suc n) d h = record_part d h (reading raw_record h.left) (records_part n d)
 
--- records as long as one is whole: there are no more of them than bytes
+-- all whole records: there are no more of them than bytes
 abbrev pub half_part : Direction → Half → Part Half
 half_part d h = records_part (suc (length h.left)) d h
 
--- one direction of a conversation, and the conversation once that is read
+-- one direction of a conversation, and the conversation after it is read
 abbrev pub half : Side → TlsState → Half
 half side state = record { left = side.stream; is_encrypted = side.is_encrypted; state = state }
 
@@ -125,8 +127,10 @@ abbrev pub side_behind : Half → Side
 side_behind h = record { stream = h.left; is_encrypted = h.is_encrypted }
 
 abbrev pub conversation_behind : Direction → Conversation → Half → Conversation
-conversation_behind ToServer c h = record { to_server = side_behind h; from_server = c.from_server; context = h.state }
-conversation_behind FromServer c h = record { to_server = c.to_server; from_server = side_behind h; context = h.state }
+conversation_behind ToServer c h =
+    record { to_server = side_behind h; from_server = c.from_server; context = h.state }
+conversation_behind FromServer c h =
+    record { to_server = c.to_server; from_server = side_behind h; context = h.state }
 
 abbrev pub result_behind : Direction → Conversation → Result Half Fault → Result Conversation Fault
 result_behind d c (Ok h) = Ok (conversation_behind d c h)
@@ -135,25 +139,26 @@ result_behind d c (Err fault) = Err fault
 abbrev pub with_half : Direction → Conversation → Part Half → Part Conversation
 with_half d c p = (p.0, result_behind d c p.1)
 
--- further bytes of a direction, behind those that it has left
+-- more bytes of a direction, after those that it has left
 abbrev pub fed : Side → Bytes → Side
 fed side bytes = record { stream = side.stream ++ bytes; is_encrypted = side.is_encrypted }
 
 abbrev pub said_part : Conversation → Option Said → Part Conversation
 said_part c None = ([], Err BadLine)
-said_part c (Some said) = with_half said.0 c (half_part said.0 (half (fed (side_of said.0 c) said.1) c.context))
+said_part c (Some said) =
+    with_half said.0 c (half_part said.0 (half (fed (side_of said.0 c) said.1) c.context))
 
 -- an empty line is skipped
 abbrev pub line_part : Conversation → List ℕ → Part Conversation
 line_part c [] = ([], Ok c)
 line_part c (b ∷ bs) = said_part c (said_by (b ∷ bs))
 
--- a line's part, and then the other lines unless it ends the run
+-- a line's part, and then the other lines, unless it ends the run
 abbrev pub followed_by : ℕ → Part Conversation → (Conversation → List ℕ × ℕ) → List ℕ × ℕ
 followed_by k (text, Ok c) others = (text ++ (others c).0, (others c).1)
 followed_by k (text, Err fault) others = (text ++ fault_line k fault, fault_status fault)
 
--- how many bytes are missing of the record of which these are left
+-- how many bytes the unfinished record lacks
 abbrev pub missing_in : Answer RawRecord → Option ℕ
 missing_in (Err (Lacks n)) = Some n
 missing_in _ = None
@@ -166,18 +171,21 @@ abbrev pub either_missing : Option ℕ → Option ℕ → Option ℕ
 either_missing (Some n) second = Some n
 either_missing None second = second
 
--- the end of the input: a direction with bytes of a record left, that to the server first, or the state
+-- the end of the input: a direction with an unfinished record, the one to the server first, or the
+-- state
 abbrev pub end_part : Option ℕ → TlsState → List ℕ × ℕ
 end_part (Some n) state = (codes "end: " ++ fault_text (Refused (Lacks n)) ++ codes "\n", 1)
 end_part None state = (codes "state " ++ state_name state ++ codes "\n", 0)
 
 abbrev pub end_of : Conversation → List ℕ × ℕ
-end_of c = end_part (either_missing (missing c.to_server.stream) (missing c.from_server.stream)) c.context
+end_of c = end_part (either_missing (missing c.to_server.stream) (missing c.from_server.stream))
+    c.context
 
--- the lines from line k on, each without one return at its end
+-- the lines from line k on, each without one carriage return at its end
 abbrev pub out_from : ℕ → Conversation → List (List ℕ) → List ℕ × ℕ
 out_from k c [] = end_of c
-out_from k c (line ∷ lines) = followed_by k (line_part c (strip_last 13 line)) (λ c. out_from (k + 1) c lines)
+out_from k c (line ∷ lines) =
+    followed_by k (line_part c (strip_last 13 line)) (λ c. out_from (k + 1) c lines)
 
 -- nothing was read
 abbrev pub silence : Conversation

@@ -1,4 +1,4 @@
--- A record that isn't encrypted, as one that is read with its messages.
+-- A record that isn't encrypted, parsed with its messages.
 use Rattle.std.specs.Prelude.{◌≡◌, false, [], Ok, Err}
 use Rattle.layouts.specs.Bytes.{Bytes}
 use Rattle.layouts.specs.Meaning.{Broken}
@@ -9,13 +9,15 @@ use Rattle.tlsview.specs.Fault.{Refused}
 use Rattle.tlsview.specs.Out.{Half, Part, Messages, content_part, record_part}
 use Rattle.tlsview.specs.declared.direction.Direction.{Direction}
 
--- where one is read, its messages are printed, and then what stands behind it
+-- if it parses, its messages are printed, and then what follows it
 abbrev pub PlaintextIsPrinted : Direction → Half → Type 0
-PlaintextIsPrinted d h = (p : Plaintext) (rest : Bytes) (behind : Half → Part Half) → h.is_encrypted ≡ false
+PlaintextIsPrinted d h = (p : Plaintext) (rest : Bytes) (behind : Half → Part Half)
+    → h.is_encrypted ≡ false
     → reading plaintext h.left ≡ Ok (p, rest)
-    → record_part d h (reading raw_record h.left) behind ≡ content_part d h rest (Ok (Messages p.messages)) behind
+    → record_part d h (reading raw_record h.left) behind ≡ content_part d h rest
+    (Ok (Messages p.messages)) behind
 
--- where one is refused by a rule, nothing is printed, and that refusal is the fault
+-- if it breaks a rule, nothing is printed, and its refusal is the fault
 abbrev pub PlaintextIsRefused : Direction → Half → Type 0
 PlaintextIsRefused d h = (kind : ErrorKind) (behind : Half → Part Half) → h.is_encrypted ≡ false
     → reading plaintext h.left ≡ Err (Broken kind)

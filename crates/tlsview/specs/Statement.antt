@@ -1,4 +1,4 @@
--- What a line says.
+-- The form of a line.
 use Rattle.std.specs.Prelude.{◌≡◌, ℕ, ◌%◌, List, ◌∷◌, length, ◌==◌, if◌then◌else◌, Option, Some, None, option_map}
 use Rattle.std.specs.List.{AllPass}
 use Rattle.std.specs.Result.{result_ok}
@@ -6,18 +6,20 @@ use Rattle.hex.specs.Hex.{decode_of, is_hex_digit}
 use Rattle.tlsview.specs.Direction.{sign_of, direction_of}
 use Rattle.tlsview.specs.declared.direction.Direction.{Direction}
 
--- the direction and the bytes that a line gives
+-- the direction and the bytes of a line
 abbrev pub Said : Type 0
 Said = Direction × List ℕ
 
--- the bytes that the digits spell, of that direction
+-- the bytes of the digits, in this direction
 abbrev pub with_direction : Option Direction → List ℕ → Option Said
 with_direction None digits = None
-with_direction (Some direction) digits = option_map (λ bytes. (direction, bytes)) (result_ok (decode_of digits))
+with_direction (Some direction) digits =
+    option_map (λ bytes. (direction, bytes)) (result_ok (decode_of digits))
 
 -- a sign, a space, and digits that `hex` decodes
 abbrev pub said_by : List ℕ → Option Said
-said_by (sign ∷ space ∷ digits) = if space == 32 then with_direction (direction_of sign) digits else None
+said_by (sign ∷ space ∷ digits) = if space == 32 then
+    with_direction (direction_of sign) digits else None
 said_by _ = None
 
 -- a sign, a space, and an even number of digits

@@ -1,4 +1,4 @@
--- How the messages of records lead from a state to the next.
+-- How the messages of records change the state.
 use Rattle.std.specs.Prelude.{Bool, true, false, List, map}
 use Rattle.tls_hs.specs.Message as messages
 use Rattle.tls_states.specs.Symbols.{symbol_of_viewed}
@@ -15,7 +15,7 @@ goes_to_server FromServer = false
 abbrev pub state_after : Direction → TlsState → List messages.Message → TlsState
 state_after d state ms = run state (map (λ m. symbol_of_viewed m (goes_to_server d)) ms)
 
--- the message behind which all records of its direction are encrypted
+-- the message after which all records of its direction are encrypted
 abbrev pub changes_cipher : messages.Message → Bool
 changes_cipher messages.ChangeCipherSpec = true
 changes_cipher _ = false

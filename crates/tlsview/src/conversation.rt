@@ -1,4 +1,4 @@
-//! What is known of a conversation, as far as it was read.
+//! The state of a conversation, as far as it was read.
 ghost use Rattle.std.specs.Prelude.{◌≡◌, [], false};
 ghost use Rattle.tlsview.specs.Out.{silence};
 
@@ -9,9 +9,9 @@ use tls_stream::Reassembler;
 /// One direction of a conversation.
 #[derive(Drop)]
 pub struct Side {
-    /// The bytes that it has left to read.
+    /// The bytes that are still to be read.
     pub stream: Reassembler,
-    /// Whether it has changed its cipher, so that each further record of it is encrypted.
+    /// Whether it has sent its ChangeCipherSpec, so that its further records are encrypted.
     pub is_encrypted: bool,
 }
 
@@ -36,7 +36,7 @@ impl Side {
 }
 
 impl Conversation {
-    /// One of which nothing was read.
+    /// A conversation of which nothing was read.
     pub fn new(alloc: Global) -> Conversation
         ensures { result ≡ silence }
     {

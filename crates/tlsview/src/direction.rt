@@ -3,7 +3,7 @@ ghost use Rattle.std.specs.Prelude.{◌≡◌, ◌∷◌, []};
 ghost use Rattle.tlsview.specs.Direction.{direction_of, sign_of};
 ghost use Rattle.tlsview.specs.Transition.{goes_to_server as is_to_server};
 
-/// Which way bytes went.
+/// The direction of bytes.
 #[derive(Clone, Copy, Debug, PartialEq, Eq)]
 pub enum Direction {
     ToServer,
@@ -11,7 +11,7 @@ pub enum Direction {
 }
 
 impl Direction {
-    /// The direction that a line's first byte stands for.
+    /// The direction of a line's first byte.
     pub fn from_sign(sign: u8) -> Option<Self>
         ensures { result ≡ direction_of sign }
     {
@@ -22,7 +22,7 @@ impl Direction {
         }
     }
 
-    /// What a printed line of it begins with.
+    /// What the printed lines of this direction begin with.
     pub fn mark(self) -> &'static str
         ensures { result.now ≡ sign_of self ∷ 32 ∷ [] }
     {

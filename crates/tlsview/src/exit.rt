@@ -1,17 +1,17 @@
-//! How a run ends.
+//! The exit statuses of a run.
 ghost use Rattle.std.specs.Prelude.{◌≡◌};
 ghost use Rattle.tlsview.specs.Exit.{status_of};
 
-/// How a run ends; each has its own exit status.
+/// How a run ends; each case has an exit status.
 #[derive(Clone, Copy, Debug, PartialEq, Eq)]
 pub enum Exit {
     /// All lines were printed.
     Clean,
-    /// A record is refused.
+    /// A record was refused.
     Fault,
-    /// A line has another form.
+    /// A line was malformed.
     BadLine,
-    /// Memory ran out, or reading or writing failed.
+    /// There was no memory, or reading or writing failed.
     Failed,
 }
 

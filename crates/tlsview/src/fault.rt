@@ -12,11 +12,11 @@ use std::fmt;
 /// What ends a run before its last line.
 #[derive(Clone, Copy, Debug, PartialEq, Eq)]
 pub enum Fault {
-    /// So many bytes of a record are missing.
+    /// A record lacks this many bytes.
     Incomplete(usize),
     /// A record breaks a rule.
     Error(ErrorKind),
-    /// A line has another form.
+    /// A line is malformed.
     BadLine,
 }
 
@@ -34,10 +34,12 @@ fn kind_name(kind: ErrorKind) -> &'static str
 }
 
 impl Fault {
-    /// The fault that a refusal is, unless memory ran out.
+    /// The fault of a refusal, unless there was no memory.
     pub fn of_refusal(refusal: Err<Error<&[u8]>>) -> Result<Self, AllocError>
         requires { IsNotOutOfMemory refusal → IsRefusal refusal }
-        ensures ok { IfOk result (λ fault. IsNotOutOfMemory refusal.entry × (view_fault fault ≡ Refused (refusal_of refusal.entry))) }
+        ensures ok { IfOk result
+            (λ fault. IsNotOutOfMemory refusal.entry
+            × (view_fault fault ≡ Refused (refusal_of refusal.entry))) }
         ensures err { OnErr result (refusal.entry ≡ Err.OutOfMemory) }
     {
         match refusal {
@@ -48,7 +50,7 @@ impl Fault {
         }
     }
 
-    /// How a run ends that ends by this fault.
+    /// How a run with this fault ends.
     pub fn exit(self) -> Exit
         ensures { status_of result ≡ fault_status (view_fault self) }
     {

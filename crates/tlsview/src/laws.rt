@@ -1,4 +1,4 @@
-//! What the definitions say.
+//! Laws about the definitions of the output.
 ghost use Rattle.std.specs.Prelude.{◌≡◌, ◌≢◌, ℕ, ◌↔◌, List, IsSome};
 ghost use Rattle.layouts.specs.Reading.{reading};
 ghost use Rattle.tls_records.specs.Record.{raw_record};
@@ -12,25 +12,26 @@ use crate::exit::Exit;
 use crate::program::view;
 use std::alloc::Global;
 
-/// A line says something exactly where it is a sign, a space and an even number of digits.
+/// A line is well-formed exactly if it is a sign, a space and an even number of digits.
 pub fn statement_form()
     ensures { (line : List ℕ) → IsSome (said_by line) ↔ IsStatement line }
 {}
 
-/// The next record is read off what a direction has left, and then what it leaves is read in the same way.
+/// The next record is taken off what a direction has left, and then the rest is read likewise.
 pub fn record_by_record()
     ensures { (direction : Direction) (h : Half)
-        → half_part direction h ≡ record_part direction h (reading raw_record h.left) (half_part direction) }
+        → half_part direction h ≡ record_part direction h (reading raw_record h.left)
+        (half_part direction) }
 {}
 
-/// A record that isn't encrypted is read as `parse_tls_plaintext` reads it: its messages are printed, and its refusal is
-/// the fault.
+/// A record that isn't encrypted is parsed as `parse_tls_plaintext` does: its messages are printed,
+/// and its refusal is the fault.
 pub fn plain_records_are_plaintext()
     ensures read { (direction : Direction) (h : Half) → PlaintextIsPrinted direction h }
     ensures refused { (direction : Direction) (h : Half) → PlaintextIsRefused direction h }
 {}
 
-/// At a slice and a vector the run is `out`.
+/// For a slice and a vector the run is `out`.
 pub fn view_bytes(alloc: Global, input: &[u8]) -> (Vec<u8>, u8)
     ensures { result.1 ≢ status_of Exit.Failed → (result.0.items, result.1) ≡ out input.now }
 {

@@ -18,7 +18,7 @@ pub fn first_line(input: &[u8]) -> Option<(&[u8], &[u8])>
     }
 }
 
-/// The line without one return at its end.
+/// The line without one carriage return at its end.
 pub fn without_return(line: &[u8]) -> &[u8]
     ensures { result.now ≡ strip_last 13 line.now }
 {

@@ -1,9 +1,13 @@
-//! Prints the names of the TLS messages in a log of a conversation, which is standard input, and the state that its
-//! handshake came to, to standard output.
+//! Prints the names of the TLS messages in a log of a conversation, and the state that the
+//! handshake reached. It reads standard input and writes standard output.
 //!
-//! A line of the log is `> ` (to the server) or `< ` (from the server), and then bytes in hexadecimal. The bytes of a
-//! direction are one stream of records, however they are cut into lines. Behind a ChangeCipherSpec the records of its
-//! direction are encrypted: they are told, and not read.
+//! A line of the log is `> ` (to the server) or `< ` (from the server), and then bytes in
+//! hexadecimal. The bytes of a direction are one stream of records; how they are cut into lines
+//! doesn't matter. After a ChangeCipherSpec the records of its direction are encrypted: they are
+//! reported, and not parsed.
+//!
+//! The promise is that output and status are those of `out` in `specs/Out.antt`, for any reader and
+//! writer; the contract of `view` states it.
 #![tactic(auto)]
 
 mod conversation;

@@ -8,9 +8,12 @@ ghost use Rattle.tlsview.specs.Names.{handshake_name, message_name};
 use std::alloc::AllocError;
 use tls_hs::{TlsMessage, TlsMessageHandshake};
 
-/// Adds the name of a handshake message: that of its type, or of the draft whose ServerHello it is.
+/// Appends the name of a handshake message: that of its type, or of the draft that its ServerHello
+/// belongs to.
 fn add_handshake_name(text: &mut String, message: &TlsMessageHandshake) -> Result<(), AllocError>
-    ensures { OnOk result (string_bytes text.new ≡ string_bytes text.old ++ handshake_name (view_handshake message.now)) }
+    ensures { OnOk result
+        (string_bytes text.new ≡ string_bytes text.old ++ handshake_name
+        (view_handshake message.now)) }
 {
     match message {
         TlsMessageHandshake::ServerHelloV13Draft18(_) => text.push_str("ServerHelloV13Draft18"),
@@ -21,9 +24,10 @@ fn add_handshake_name(text: &mut String, message: &TlsMessageHandshake) -> Resul
     }
 }
 
-/// Adds the name of a message's kind: of a handshake message that of its own.
+/// Appends the name of a message's kind; for a handshake message, its name.
 pub fn add_message_name(text: &mut String, message: &TlsMessage) -> Result<(), AllocError>
-    ensures { OnOk result (string_bytes text.new ≡ string_bytes text.old ++ message_name (view_message message.now)) }
+    ensures { OnOk result
+        (string_bytes text.new ≡ string_bytes text.old ++ message_name (view_message message.now)) }
 {
     match message {
         TlsMessage::Handshake(message) => add_handshake_name(text, message),

@@ -1,4 +1,4 @@
-//! The records of one direction, as text.
+//! Prints the records of one direction.
 ghost use Rattle.std.specs.Prelude.{◌≡◌, ◌∷◌, ◌++◌, Ok, codes, flat_map, map, IfOk, OnOk};
 ghost use Rattle.std.specs.List.{list_any};
 ghost use Rattle.std.specs.String.{string_bytes};
@@ -22,11 +22,11 @@ use tls_records::{TlsRawRecord, parse_tls_record_with_header};
 use tls_states::ParseContext;
 use tls_stream::FeedError;
 
-/// What stands next of one direction.
+/// What comes next in a direction.
 pub enum Next {
-    /// A record, which is printed, and whether the direction's next records are encrypted.
+    /// A record, which is printed; the bool is whether the direction's next records are encrypted.
     Record(bool),
-    /// No whole record yet.
+    /// No whole record.
     Nothing,
     /// A fault, which ends the run.
     Fault(Fault),
@@ -42,13 +42,15 @@ fn add_line(text: &mut String, direction: Direction, name: &str) -> Result<(), A
     text.push('\n')
 }
 
-/// Prints the line of a message.
+/// Prints a line for a message.
 fn show_message(
     text: &mut String,
     direction: Direction,
     message: &TlsMessage,
 ) -> Result<(), AllocError>
-    ensures { OnOk result (string_bytes text.new ≡ string_bytes text.old ++ message_line direction (view_message message.now)) }
+    ensures { OnOk result
+        (string_bytes text.new ≡ string_bytes text.old ++ message_line direction
+        (view_message message.now)) }
 {
     text.push_str(direction.mark())?;
     add_message_name(text, message)?;
@@ -62,7 +64,8 @@ fn show_messages(
     messages: &[TlsMessage],
 ) -> Result<(), AllocError>
     ensures { OnOk result (string_bytes text.new
-        ≡ string_bytes text.old ++ flat_map (message_line direction) (map view_message messages.now)) }
+        ≡ string_bytes text.old ++ flat_map (message_line direction)
+        (map view_message messages.now)) }
 {
     for message in messages {
         show_message(text, direction, message)?;
@@ -70,16 +73,17 @@ fn show_messages(
     Ok(())
 }
 
-/// Follows each message in turn.
+/// Follows each message in order.
 fn follow_messages(context: &mut ParseContext, to_server: bool, messages: &[TlsMessage])
-    ensures { context.new ≡ run context.old (map (λ m. symbols.symbol_of m to_server) messages.now) }
+    ensures { context.new ≡ run context.old
+        (map (λ m. symbols.symbol_of m to_server) messages.now) }
 {
     for i in 0..messages.len() {
         let _ = context.update(&messages[i], to_server);
     }
 }
 
-/// Whether a message is one behind which the records are encrypted.
+/// Whether the records after this message are encrypted.
 fn is_change_cipher_spec(message: &TlsMessage) -> bool
     ensures { result ≡ changes_cipher (view_message message.now) }
 {
@@ -89,7 +93,7 @@ fn is_change_cipher_spec(message: &TlsMessage) -> bool
     }
 }
 
-/// Whether one of the messages is such.
+/// Whether the records after one of these messages are encrypted.
 fn change_cipher(messages: &[TlsMessage]) -> bool
     ensures { result ≡ list_any (λ m. changes_cipher (view_message m)) messages.now }
 {
@@ -107,7 +111,9 @@ fn show_record(
     context: &mut ParseContext,
     raw: &TlsRawRecord,
 ) -> Result<Next, AllocError>
-    ensures { IfOk result (IsRecordShown direction (string_bytes text.old) context.old (string_bytes text.new) context.new
+    ensures { IfOk result
+        (IsRecordShown direction (string_bytes text.old) context.old (string_bytes text.new)
+        context.new
         is_encrypted (view_raw_record raw.now)) }
 {
     if is_encrypted {
@@ -125,7 +131,7 @@ fn show_record(
     }
 }
 
-/// Prints the record that stands next, where one is whole.
+/// Prints the next record, if it is whole.
 fn show_next(
     alloc: Global,
     text: &mut String,
@@ -133,7 +139,9 @@ fn show_next(
     side: &Side,
     context: &mut ParseContext,
 ) -> Result<Next, AllocError>
-    ensures { IfOk result (IsNextShown direction (string_bytes text.old) context.old (string_bytes text.new) context.new
+    ensures { IfOk result
+        (IsNextShown direction (string_bytes text.old) context.old (string_bytes text.new)
+        context.new
         side.now.is_encrypted side.now.stream) }
 {
     match side.stream.front() {
@@ -144,7 +152,7 @@ fn show_next(
     }
 }
 
-/// Prints each record as long as one is whole, and answers the fault that ends them.
+/// Prints each whole record, and returns the fault that ends them.
 fn show_records(
     alloc: Global,
     text: &mut String,
@@ -152,7 +160,9 @@ fn show_records(
     side: &mut Side,
     context: &mut ParseContext,
 ) -> Result<Option<Fault>, AllocError>
-    ensures { IfOk result (AreShown direction (string_bytes text.old) (half side.old context.old) (string_bytes text.new) (half side.new context.new)) }
+    ensures { IfOk result
+        (AreShown direction (string_bytes text.old) (half side.old context.old)
+        (string_bytes text.new) (half side.new context.new)) }
 {
     'records: loop {
         let next = show_next(alloc, text, direction, side, context)?;
@@ -167,7 +177,8 @@ fn show_records(
     }
 }
 
-/// Prints the records that stand in what the direction has left and then these bytes, and answers the fault that ends them.
+/// Prints the records in what the direction has left followed by these bytes, and returns the fault
+/// that ends them.
 pub fn show_bytes(
     alloc: Global,
     text: &mut String,
@@ -176,7 +187,8 @@ pub fn show_bytes(
     context: &mut ParseContext,
     bytes: &[u8],
 ) -> Result<Option<Fault>, AllocError>
-    ensures { IfOk result (AreShown direction (string_bytes text.old) (half (fed side.old bytes.now) context.old)
+    ensures { IfOk result
+        (AreShown direction (string_bytes text.old) (half (fed side.old bytes.now) context.old)
         (string_bytes text.new) (half side.new context.new)) }
 {
     match side.stream.feed(bytes) {

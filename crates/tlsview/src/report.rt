@@ -1,4 +1,4 @@
-//! What an input says, as text.
+//! The text that is printed for an input.
 ghost use Rattle.std.specs.Prelude.{◌≡◌, ◌≢◌, length, Some, None, Ok, IfOk, IsSome};
 ghost use Rattle.std.specs.String.{string_bytes};
 ghost use Rattle.tlsview.specs.Out.{missing, out};
@@ -15,15 +15,15 @@ use crate::statement::said;
 use layouts::{Err, Needed};
 use std::alloc::{AllocError, Global};
 
-/// What is printed for an input, and how the run ends.
+/// The printed text, and how the run ends.
 #[derive(Drop)]
 pub struct Report {
     pub text: String,
     pub exit: Exit,
 }
 
-/// Prints what a line says, and answers the fault that ends the run there. Its bytes are left in `bytes`, whose room serves each
-/// line in turn.
+/// Prints the messages of a line, and returns the fault that ends the run there. The line's bytes
+/// are left in `bytes`, whose capacity is reused for each line.
 fn show_line(
     alloc: Global,
     text: &mut String,
@@ -31,7 +31,9 @@ fn show_line(
     bytes: &mut Vec<u8>,
     line: &[u8],
 ) -> Result<Option<Fault>, AllocError>
-    ensures { IfOk result (IsLineShown line.now (string_bytes text.old) conversation.old (string_bytes text.new) conversation.new) }
+    ensures { IfOk result
+        (IsLineShown line.now (string_bytes text.old) conversation.old (string_bytes text.new)
+        conversation.new) }
 {
     if line.is_empty() {
         return Ok(None);
@@ -60,7 +62,7 @@ fn show_line(
     }
 }
 
-/// How many bytes are missing of the record of which the direction holds some.
+/// How many bytes the direction's unfinished record lacks.
 fn missing_of(side: &Side) -> Option<usize>
     ensures { result ≡ missing side.now.stream }
 {
@@ -73,9 +75,10 @@ fn missing_of(side: &Side) -> Option<usize>
     }
 }
 
-/// Prints the end of a run without a fault before it.
+/// Prints the end of a run that had no fault before.
 fn show_end(text: &mut String, conversation: &Conversation) -> Result<Exit, AllocError>
-    ensures { IfOk result (IsEndShown (string_bytes text.old) (string_bytes text.new) conversation.now) }
+    ensures { IfOk result
+        (IsEndShown (string_bytes text.old) (string_bytes text.new) conversation.now) }
 {
     let missing = match missing_of(&conversation.to_server) {
         Some(missing) => Some(missing),
@@ -95,7 +98,7 @@ fn show_end(text: &mut String, conversation: &Conversation) -> Result<Exit, Allo
     }
 }
 
-/// What is printed for an input, and how the run ends. It never answers [`Exit::Failed`].
+/// The printed text for an input, and how the run ends. It never returns [`Exit::Failed`].
 pub fn report_of(alloc: Global, input: &[u8]) -> Result<Report, AllocError>
     ensures exit { IfOk result (λ report. report.exit ≢ Exit.Failed) }
     ensures told { IfOk result (λ report. (string_bytes report.text, status_of report.exit) ≡ out input.now) }

@@ -1,12 +1,12 @@
-//! What a line says.
+//! Parses a line.
 ghost use Rattle.std.specs.Prelude.{◌≡◌, Option, None, Some, IfOk, MatchOption};
 ghost use Rattle.tlsview.specs.Statement.{said_by};
 
 use crate::direction::Direction;
 use std::alloc::AllocError;
 
-/// Reads a line: a sign, a space, and an even number of hexadecimal digits, whose bytes it leaves in `bytes`. `None` is a
-/// line of another form.
+/// Parses a line: a sign, a space, and an even number of hexadecimal digits, whose bytes it leaves
+/// in `bytes`. `None` if the line is malformed.
 pub fn said(line: &[u8], bytes: &mut Vec<u8>) -> Result<Option<Direction>, AllocError>
     ensures { IfOk result (λ found. MatchOption found (said_by line.now ≡ None)
         (λ direction. said_by line.now ≡ Some (direction, bytes.new.items))) }

@@ -1,4 +1,4 @@
--- What is read in front, by how many tunnels may still come.
+-- The walk from one layer, by how many tunnels may still come.
 use Rattle.std.proofs.Common.{◌≡◌, ◌≢◌, ℕ, zero, suc, ◌-◌, List, [], ◌∷◌, ◌++◌, Option, Some, None, Ok, Err, refl, ap, arith}
 use Rattle.layouts.specs.Bytes.{Bytes}
 use Rattle.layouts.specs.Meaning.{Refusal}
@@ -43,8 +43,9 @@ one_more (suc n) found h b some =
     let same : n ≡ suc n - 1 = omega arith in
     ap (λ k. followed k (found ++ h.tunnel ∷ []) (reading (inner_layer h.kind) h.inside)) same
 
--- A fragment is found.
-pub in_front : (n : ℕ) (f : Fragment) (b : Bytes) (read : Answer Layer) → found n (Ok (f, b)) read ≡ Some f
+-- A fragment is at the front.
+pub in_front : (n : ℕ) (f : Fragment) (b : Bytes) (read : Answer Layer)
+    → found n (Ok (f, b)) read ≡ Some f
 unfolding found
 in_front zero f b read = refl
 in_front (suc n) f b read = refl
@@ -55,14 +56,17 @@ no_more e read = refl
 
 pub found_behind : (n : ℕ) (e : Refusal) (h : Header) (b : Bytes) → n ≢ 0
     → found n (Err e) (Ok (Wraps h, b))
-    ≡ found (n - 1) (reading (inner_fragment h.kind) h.inside) (reading (inner_layer h.kind) h.inside)
+    ≡ found (n - 1) (reading (inner_fragment h.kind) h.inside)
+    (reading (inner_layer h.kind) h.inside)
 unfolding found
 found_behind zero e h b some = absurd (some refl)
 found_behind (suc n) e h b some =
     let same : n ≡ suc n - 1 = omega arith in
-    ap (λ k. found k (reading (inner_fragment h.kind) h.inside) (reading (inner_layer h.kind) h.inside)) same
+    ap (λ k. found k (reading (inner_fragment h.kind) h.inside)
+    (reading (inner_layer h.kind) h.inside)) same
 
-pub not_behind : (n : ℕ) (e : Refusal) (d : Datagram) (b : Bytes) → found n (Err e) (Ok (Holds d, b)) ≡ None
+pub not_behind : (n : ℕ) (e : Refusal) (d : Datagram) (b : Bytes)
+    → found n (Err e) (Ok (Holds d, b)) ≡ None
 unfolding found
 not_behind zero e d b = refl
 not_behind (suc n) e d b = refl

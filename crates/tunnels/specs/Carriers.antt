@@ -1,4 +1,4 @@
--- Which headers stand behind which numbers.
+-- Tunnel headers, by IP protocol and UDP port.
 use Rattle.std.specs.Prelude.{ℕ, ◌==◌, ◌||◌, None}
 use Rattle.layouts.specs.Layout.{Layout, refuse, choose}
 use Rattle.layouts.specs.declared.result.ErrorKind.TheVariants.{Switch}
@@ -11,8 +11,8 @@ use Rattle.tunnels.specs.Gtp.{gtp}
 use Rattle.tunnels.specs.Teredo.{teredo}
 use Rattle.tunnels.specs.declared.tunnel.TunnelKind.TheVariants.{Ipv4, Ipv6}
 
--- What a protocol of IP carries: 4 is IPv4 (RFC 2003), 41 IPv6 (RFC 2473; RFC 4213), 47 GRE (RFC 2784), 137 MPLS (RFC 4023). The first
--- two have no header of their own.
+-- The tunnel header that an IP protocol carries: 4 is IPv4 (RFC 2003), 41 IPv6 (RFC 2473; RFC
+-- 4213), 47 GRE (RFC 2784), 137 MPLS (RFC 4023). The first two have no tunnel header.
 unfoldable pub by_protocol : ℕ → Layout Header
 by_protocol protocol =
     choose (protocol == 4) (carrying (record { kind = Ipv4; id = None }) IPV4) (
@@ -21,8 +21,8 @@ by_protocol protocol =
     choose (protocol == 137) mpls (
     refuse Switch))))
 
--- What a user datagram carries, by the ports that it comes from and goes to: of all but Teredo the latter counts. 8472 is that of VXLAN in
--- Linux.
+-- The tunnel header that a UDP datagram carries, by source and destination port. Only Teredo may
+-- have its port as the source. 8472 is the port of VXLAN in Linux.
 unfoldable pub by_ports : ℕ → ℕ → Layout Header
 by_ports source destination =
     choose ((destination == 4789) || (destination == 8472)) vxlan (

@@ -1,4 +1,5 @@
--- Generic Routing Encapsulation (RFC 2784; RFC 2890), and the copies of frames that switches send in it (draft-foschiano-erspan).
+-- Generic Routing Encapsulation (RFC 2784; RFC 2890), and ERSPAN, in which switches send copies of
+-- frames (draft-foschiano-erspan).
 use Rattle.std.specs.Prelude.{ℕ, ◌/◌, ◌%◌, ◌==◌, ◌&&◌, Bool, Option, Some, None, if◌then◌else◌}
 use Rattle.layouts.specs.Layout.{Layout, done, number, block, test, choose, mapped, ◌>>=◌, ◌>>◌}
 use Rattle.layouts.specs.declared.result.ErrorKind.TheVariants.{Verify}
@@ -15,7 +16,7 @@ has_key flags = flags / 0x2000 % 2 == 1
 abbrev pub has_sequence : ℕ → Bool
 has_sequence flags = flags / 0x1000 % 2 == 1
 
--- Version 0, and of the bits 1 to 5 none but those of RFC 2890 (RFC 2784, section 2.3).
+-- Version 0, and of the bits 1 to 5 only those of RFC 2890 (RFC 2784, section 2.3).
 abbrev pub is_plain : ℕ → Bool
 is_plain flags = (flags % 8 == 0) && ((flags / 0x4000 % 2 == 0) && (flags / 0x400 % 4 == 0))
 
@@ -25,7 +26,8 @@ key_if present = choose present (mapped Some (number 4)) (done None)
 abbrev pub erspan_tunnel : Option ℕ → Tunnel
 erspan_tunnel id = record { kind = Erspan; id = id }
 
--- Type II (section 4.2): version 1 and VLAN; class of service, encapsulation, truncated, session (10 bits); port.
+-- Type II (section 4.2): version 1 and VLAN; class of service, encapsulation, truncated, session
+-- (10 bits); port.
 unfoldable pub erspan2 : Layout Header
 erspan2 = do
   front ← number 2
@@ -34,16 +36,19 @@ erspan2 = do
   block 4
   carrying (erspan_tunnel (Some (session % 1024))) ETHERNET
 
--- A header of GRE without a sequence number has the frame of type I behind it, and else a header of type II (section 4.1).
+-- A GRE header without a sequence number has a type I frame behind it, and one with it a type II
+-- header (section 4.1).
 unfoldable pub erspan : Bool → Layout Header
 erspan is_numbered = choose is_numbered erspan2 (carrying (erspan_tunnel None) ETHERNET)
 
--- What a copy is of that frame type: 0 is a frame of Ethernet, 2 a datagram.
+-- The EtherType of a copy, by its frame type: 0 is an Ethernet frame, 2 an IP datagram.
 unfoldable pub copied : ℕ → Layout ℕ
-copied frame_type = choose (frame_type == 2) version_type (done (if frame_type == 0 then ETHERNET else 0))
+copied frame_type =
+    choose (frame_type == 2) version_type (done (if frame_type == 0 then ETHERNET else 0))
 
--- Type III (section 4.3): version 2 and VLAN; class of service, encapsulation, truncated, session; time, group tag; frame type (5 bits
--- behind the first), and in the last bit whether 8 bytes more follow.
+-- Type III (section 4.3): version 2 and VLAN; class of service, encapsulation, truncated, session;
+-- time, group tag; frame type (5 bits, after the first). The last bit is set if 8 bytes more
+-- follow.
 unfoldable pub erspan3 : Layout Header
 erspan3 = do
   front ← number 2
@@ -55,14 +60,15 @@ erspan3 = do
   kind ← copied (last / 1024 % 32)
   carrying (erspan_tunnel (Some (session % 1024))) kind
 
--- What stands behind the header, by its protocol.
+-- What follows the GRE header, by its protocol.
 unfoldable pub gre_payload : ℕ → Bool → Option ℕ → Layout Header
 gre_payload protocol is_numbered key =
     choose (protocol == 0x88be) (erspan is_numbered) (
     choose (protocol == 0x22eb) erspan3 (
     carrying (record { kind = Gre; id = key }) protocol))
 
--- Flags and version, protocol, which is a type of Ethernet; checksum, key, sequence number, each where its flag says so.
+-- Flags and version; protocol, an EtherType; checksum, key and sequence number, each if its flag is
+-- set.
 unfoldable pub gre : Layout Header
 gre = do
   flags ← number 2

@@ -1,4 +1,4 @@
--- Networks laid over UDP: VXLAN (RFC 7348), GENEVE (RFC 8926).
+-- Overlay networks over UDP: VXLAN (RFC 7348), GENEVE (RFC 8926).
 use Rattle.std.specs.Prelude.{ℕ, ◌+◌, ◌*◌, ◌%◌, ◌==◌, ◌||◌, nat_le, Bool, Some}
 use Rattle.layouts.specs.Layout.{Layout, done, number, block, test, ◌>>=◌, ◌>>◌}
 use Rattle.layouts.specs.declared.result.ErrorKind.TheVariants.{Verify}
@@ -6,8 +6,8 @@ use Rattle.capture.specs.Link.{IPV4, IPV6}
 use Rattle.tunnels.specs.Tunnel.{Header, ETHERNET, carrying}
 use Rattle.tunnels.specs.declared.tunnel.TunnelKind.TheVariants.{Vxlan, Geneve}
 
--- Flags, of which I is set (RFC 7348, section 5), and G may be, which says that a group stands in the next 3 bytes
--- (draft-smith-vxlan-group-policy); network (24 bits); reserved.
+-- The flags: I is set (RFC 7348, section 5), and G may be, for a group in the next 3 bytes
+-- (draft-smith-vxlan-group-policy). Then network (24 bits) and a reserved byte.
 unfoldable pub vxlan : Layout Header
 vxlan = do
   flags ← number 1
@@ -20,8 +20,9 @@ vxlan = do
 abbrev pub is_overlaid : ℕ → Bool
 is_overlaid kind = (kind == ETHERNET) || ((kind == IPV4) || (kind == IPV6))
 
--- Version 0, and the length of the options in words of 4 bytes; flags O and C, and none of the reserved ones; the type of Ethernet of
--- what is carried (RFC 8926, section 3.4): the length and the type.
+-- Version 0, and the length of the options in words of 4 bytes; the flags O and C, none of the
+-- reserved ones; the payload's EtherType (RFC 8926, section 3.4). The value is the length and the
+-- EtherType.
 unfoldable pub geneve_front : Layout (ℕ × ℕ)
 geneve_front = do
   words ← number 1
@@ -32,7 +33,7 @@ geneve_front = do
   test (is_overlaid kind) Verify
   done (words, kind)
 
--- The same, network (24 bits), reserved, options.
+-- The front of the header, network (24 bits), reserved, options.
 unfoldable pub geneve : Layout Header
 geneve = do
   front ← geneve_front

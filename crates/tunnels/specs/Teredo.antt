@@ -1,4 +1,4 @@
--- IPv6 through NATs, over UDP (RFC 4380).
+-- Teredo: IPv6 through NATs, over UDP (RFC 4380).
 use Rattle.std.specs.Prelude.{ℕ, ◌+◌, ◌/◌, ◌==◌, None}
 use Rattle.layouts.specs.Layout.{Layout, done, number, block, look, test, choose, mapped, ◌>>=◌, ◌>>◌}
 use Rattle.layouts.specs.declared.result.ErrorKind.TheVariants.{Verify}
@@ -6,8 +6,8 @@ use Rattle.capture.specs.Link.{IPV6}
 use Rattle.tunnels.specs.Tunnel.{Header, carrying, skipped_if}
 use Rattle.tunnels.specs.declared.tunnel.TunnelKind.TheVariants.{Teredo}
 
--- Type 1; the lengths of the client's name and of the value that shows who it is; these two, a nonce of 8 bytes and a
--- byte (section 5.1.1).
+-- Type 1; the lengths of the client identifier and of the authentication value; these two, a nonce
+-- of 8 bytes and a confirmation byte (section 5.1.1).
 unfoldable pub authentication : Layout Unit
 authentication = do
   block 2
@@ -18,7 +18,8 @@ authentication = do
 unfoldable pub authentication_if : ℕ → Layout Unit
 authentication_if front = choose (front == 1) authentication (done tt)
 
--- An authentication, where there is one; type 0, a port and an address of the origin, where they are there; the datagram.
+-- An optional authentication header; an optional origin indication, which is type 0, a port and an
+-- address; the datagram.
 unfoldable pub teredo : Layout Header
 teredo = do
   front ← look (number 2)

@@ -1,4 +1,4 @@
--- From a packet's link down to the innermost datagram.
+-- The walk from a packet's link header to its innermost datagram.
 use Rattle.std.specs.Prelude.{◌≡◌, ℕ, zero, suc, ◌==◌, ◌||◌, List, [], ◌∷◌, ◌++◌, Some, Ok, Err}
 use Rattle.layouts.specs.Bytes.{Bytes}
 use Rattle.layouts.specs.Layout.{Layout, done, choose, mapped, ◌>>=◌}
@@ -17,11 +17,11 @@ use Rattle.tunnels.specs.declared.walk.Inside.{Inside as LentInside}
 use Rattle.tunnels.specs.declared.walk.Inside.TheVariants as inside
 use Rattle.tunnels.specs.declared.walk.Unwrapped.{Unwrapped as LentUnwrapped}
 
--- What stands in front.
+-- One layer of a packet.
 pub data Layer : Type 0 where
-  -- a header that begins a tunnel
+  -- a tunnel header
   Wraps : Header → Layer
-  -- a datagram that holds no such header
+  -- a datagram without a tunnel header in it
   Holds : Datagram → Layer
   -- another protocol
   Unknown : Layer
@@ -31,23 +31,25 @@ view_layer (layer.Wraps h) = Wraps (view_header h)
 view_layer (layer.Holds d) = Holds (view_datagram d)
 view_layer layer.Unknown = Unknown
 
--- A datagram, unless a header that begins a tunnel was read in it.
+-- The tunnel header parsed in a datagram, or the datagram if there is none.
 abbrev pub wrapped_or : Datagram → Answer Header → Layer
 wrapped_or d (Ok x) = Wraps x.0
 wrapped_or d (Err e) = Holds d
 
 abbrev pub content_layer : Datagram → Content → Layer
 content_layer d (Udp u) = wrapped_or d (reading (by_ports u.source u.destination) u.payload)
-content_layer d (OtherContent protocol payload) = wrapped_or d (reading (by_protocol protocol) payload)
+content_layer d (OtherContent protocol payload) =
+    wrapped_or d (reading (by_protocol protocol) payload)
 content_layer d (Tcp s) = Holds d
 content_layer d Fragment = Holds d
 
--- Where what a datagram holds is no header that its ports or its protocol tell of, it is a datagram like any other.
+-- A payload that only looks like a tunnel, by its ports or protocol, is treated as an ordinary
+-- datagram.
 abbrev pub datagram_layer : Datagram → Layer
 datagram_layer d = content_layer d d.content
 
--- What stands in front, by its type of Ethernet: 0x8847 and 0x8848 are MPLS (RFC 3032, section 5), 0x88e7 is an I-TAG (IEEE 802.1Q, table
--- 9-1).
+-- One layer, by its EtherType: 0x8847 and 0x8848 are MPLS (RFC 3032, section 5), 0x88e7 is an I-TAG
+-- (IEEE 802.1Q, table 9-1).
 unfoldable pub layer_of_type : ℕ → Layout Layer
 layer_of_type kind =
     choose (kind == IPV4) (mapped datagram_layer ipv4) (
@@ -56,23 +58,23 @@ layer_of_type kind =
     choose (kind == 0x88e7) (mapped Wraps backbone) (
     done Unknown))))
 
--- The same of a packet of that link type, which is 1 for Ethernet.
+-- The first layer of a packet of this link type; 1 is Ethernet.
 unfoldable pub packet_layer : ℕ → Layout Layer
 packet_layer link_type = carried link_type >>= layer_of_type
 
--- The same of what stands in a tunnel.
+-- The layer in a tunnel that carries this EtherType.
 unfoldable pub inner_layer : ℕ → Layout Layer
 inner_layer kind = choose (kind == ETHERNET) (packet_layer 1) (layer_of_type kind)
 
--- What a packet holds, behind all headers.
+-- What a packet holds behind all headers.
 pub data Inside : Type 0 where
   -- the innermost datagram
   Held : Datagram → Inside
   -- another protocol
   Other : Inside
-  -- what wasn't captured whole, or breaks a rule of a header
+  -- truncated, or a header breaks a rule
   Unread : Inside
-  -- one more tunnel than are followed
+  -- more tunnels than are followed
   Deeper : Inside
 
 abbrev pub view_inside : LentInside → Inside
@@ -81,7 +83,7 @@ view_inside inside.Other = Other
 view_inside inside.Unread = Unread
 view_inside inside.Deeper = Deeper
 
--- A packet's tunnels, from outside in, and what it holds.
+-- A packet's tunnels, outermost first, and its content.
 pub record Unwrapped : Type 0 where
   pub tunnels : List Tunnel
   pub inside : Inside
@@ -89,7 +91,7 @@ pub record Unwrapped : Type 0 where
 abbrev pub view_unwrapped : LentUnwrapped → Unwrapped
 view_unwrapped u = record { tunnels = listed u.tunnels; inside = view_inside u.inside }
 
--- Behind these tunnels, by what stands in front; f goes on behind a header.
+-- The content behind these tunnels, by the next layer. f goes on behind a tunnel header.
 abbrev pub by_layer : (Header → Unwrapped) → List Tunnel → Layer → Unwrapped
 by_layer f found (Wraps h) = f h
 by_layer f found (Holds d) = record { tunnels = found; inside = Held d }
@@ -99,17 +101,20 @@ abbrev pub by_answer : (Header → Unwrapped) → List Tunnel → Answer Layer �
 by_answer f found (Ok x) = by_layer f found x.0
 by_answer f found (Err e) = record { tunnels = found; inside = Unread }
 
--- The same through at most so many tunnels more.
+-- The content behind these tunnels, through at most this many more.
 unfoldable pub followed : ℕ → List Tunnel → Answer Layer → Unwrapped
 followed zero found read = by_answer (λ h. record { tunnels = found; inside = Deeper }) found read
 followed (suc n) found read =
-    by_answer (λ h. followed n (found ++ h.tunnel ∷ []) (reading (inner_layer h.kind) h.inside)) found read
+    by_answer (λ h. followed n (found ++ h.tunnel ∷ []) (reading (inner_layer h.kind) h.inside))
+    found read
 
--- A packet of that link type, through at most 8 tunnels.
+-- A packet of this link type, through at most 8 tunnels.
 abbrev pub unwrapped : ℕ → Bytes → Unwrapped
 unwrapped link_type b = followed 8 [] (reading (packet_layer link_type) b)
 
--- A packet of which this datagram is found in no tunnel is read as this datagram where tunnels aren't followed.
+-- If a packet's datagram is found outside all tunnels, parsing the packet without following tunnels
+-- returns the same datagram.
 abbrev pub IsReadAlone : ℕ → Bytes → Datagram → Type 0
 IsReadAlone link_type b d =
-    unwrapped link_type b ≡ record { tunnels = []; inside = Held d } → (r : Bytes) × (reading (packet link_type) b ≡ Ok (Some d, r))
+    unwrapped link_type b ≡ record { tunnels = []; inside = Held d }
+    → (r : Bytes) × (reading (packet link_type) b ≡ Ok (Some d, r))

@@ -1,4 +1,4 @@
-//! Which headers stand behind which numbers.
+//! Tunnel headers, by IP protocol and UDP port.
 #![tactic(auto, using(layouts::proofs::OneAnswerLemmas::read_allowed), unfolding(crate::specs::Carriers::by_protocol, crate::specs::Carriers::by_ports))]
 
 ghost use Rattle.std.specs.Prelude.{◌≡◌, None};
@@ -14,10 +14,10 @@ use crate::teredo::parse_teredo;
 use crate::tunnel::{Header, IPV4, IPV6, Tunnel, TunnelKind, carrying};
 use layouts::{ErrorKind, IResult, refused};
 
-/// The port of Teredo.
+/// The UDP port of Teredo.
 const TEREDO: u16 = 3544;
 
-/// A tunnel of datagrams of that version, in others.
+/// Returns a tunnel of IPv4 or IPv6 in IP, which has no identifier.
 fn of_version(kind: TunnelKind) -> Tunnel
     ensures kind { result.kind ≡ kind }
     ensures id { result.id ≡ None }
@@ -25,7 +25,7 @@ fn of_version(kind: TunnelKind) -> Tunnel
     Tunnel { kind, id: None }
 }
 
-/// What a protocol of IP carries.
+/// Parses the tunnel header that an IP protocol carries.
 pub(crate) fn by_protocol(i: &[u8], protocol: u8) -> IResult<&[u8], Header>
     ensures { Gives view_header (by_protocol_layout protocol) i.now result }
 {
@@ -38,7 +38,7 @@ pub(crate) fn by_protocol(i: &[u8], protocol: u8) -> IResult<&[u8], Header>
     }
 }
 
-/// What a user datagram carries, by the ports that it comes from and goes to.
+/// Parses the tunnel header that a UDP datagram carries, by its source and destination port.
 pub(crate) fn by_ports(i: &[u8], source: u16, destination: u16) -> IResult<&[u8], Header>
     ensures { Gives view_header (by_ports_layout source destination) i.now result }
 {

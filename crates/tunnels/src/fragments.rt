@@ -1,4 +1,4 @@
-//! Fragments of datagrams, behind the tunnels that they come in; and what datagrams hold that were put together from such.
+//! Fragments inside tunnels, and the content of reassembled datagrams.
 #![tactic(auto, using(layouts::proofs::OneAnswerLemmas::read_allowed), unfolding(crate::specs::Fragments::fragment_of_type, crate::specs::Fragments::packet_fragment, crate::specs::Fragments::inner_fragment))]
 
 ghost use Rattle.std.specs.Prelude.{◌≡◌, ◌≤◌, [], Ok};
@@ -16,7 +16,7 @@ use crate::walk::{
 use capture::{Datagram, Fragment, parse_fragment_v4, parse_fragment_v6, parse_link};
 use layouts::{ErrorKind, IResult, refused};
 
-/// A fragment, by its type of Ethernet.
+/// Parses a fragment of this EtherType.
 fn fragment_of_type(i: &[u8], kind: u16) -> IResult<&[u8], Fragment>
     ensures { Gives view_fragment (fragment_of_type_layout kind) i.now result }
 {
@@ -27,7 +27,7 @@ fn fragment_of_type(i: &[u8], kind: u16) -> IResult<&[u8], Fragment>
     }
 }
 
-/// That of a packet of that link type.
+/// Parses the fragment in a packet of this link type.
 fn packet_fragment(i: &[u8], link_type: u16) -> IResult<&[u8], Fragment>
     ensures { Gives view_fragment (packet_fragment_layout link_type) i.now result }
 {
@@ -35,7 +35,7 @@ fn packet_fragment(i: &[u8], link_type: u16) -> IResult<&[u8], Fragment>
     fragment_of_type(i, kind)
 }
 
-/// That of what stands in a tunnel.
+/// Parses the fragment in a tunnel that carries this EtherType.
 fn inner_fragment(i: &[u8], kind: u16) -> IResult<&[u8], Fragment>
     ensures { Gives view_fragment (inner_fragment_layout kind) i.now result }
 {
@@ -45,7 +45,8 @@ fn inner_fragment(i: &[u8], kind: u16) -> IResult<&[u8], Fragment>
     fragment_of_type(i, kind)
 }
 
-/// The fragment that was read in front, or else the one behind the tunnel that was read there, and at most so many.
+/// Returns the fragment at the front, or else the one behind the tunnel header at the front and at
+/// most `most - 1` further tunnels.
 #[tactic(auto, using(crate::proofs::WalkLemmas::in_front, crate::proofs::WalkLemmas::no_more, crate::proofs::WalkLemmas::found_behind, crate::proofs::WalkLemmas::not_behind, crate::proofs::WalkLemmas::none_behind, crate::proofs::WalkLemmas::unread_behind))]
 fn find<'a>(
     fragment: IResult<&'a [u8], Fragment<'a>>,
@@ -54,7 +55,8 @@ fn find<'a>(
 ) -> Option<Fragment<'a>>
     requires is_fragment { IsAnswer fragment }
     requires is_answer { IsAnswer read }
-    ensures { found most (answer_of view_fragment fragment.entry) (answer_of view_layer read.entry) ≡ option_map view_fragment result }
+    ensures { found most (answer_of view_fragment fragment.entry) (answer_of view_layer read.entry)
+        ≡ option_map view_fragment result }
 {
     if let Ok((_, fragment)) = fragment {
         return Some(fragment);
@@ -72,8 +74,9 @@ fn find<'a>(
     }
 }
 
-/// The fragment of a datagram that the packet `i` of a capture with that link type holds, behind the tunnels that it comes in: where
-/// [`innermost`](crate::innermost) tells of one. Another than the innermost datagram isn't looked for in its place.
+/// Returns the fragment in the packet `i` of a capture with this link type, behind its tunnels. It
+/// is the datagram for which [`innermost`](crate::innermost) returns a fragment. `None` if that
+/// isn't a fragment: no outer datagram is tried.
 pub fn innermost_fragment(i: &[u8], link_type: u16) -> Option<Fragment>
     ensures { option_map view_fragment result ≡ fragment_in_packet link_type i.now }
 {
@@ -84,9 +87,11 @@ pub fn innermost_fragment(i: &[u8], link_type: u16) -> Option<Fragment>
     )
 }
 
-/// The same of a datagram that was put together from its fragments, which came in these tunnels.
+/// Returns the fragment in a reassembled datagram, behind its tunnels. `tunnels` are those in which
+/// its fragments came.
 pub fn fragment_in<'a>(datagram: Datagram<'a>, tunnels: &Tunnels) -> Option<Fragment<'a>>
-    ensures { option_map view_fragment result ≡ fragment_in_datagram tunnels.now (view_datagram datagram.entry) }
+    ensures { option_map view_fragment result ≡ fragment_in_datagram tunnels.now
+        (view_datagram datagram.entry) }
 {
     match datagram_layer(datagram) {
         Layer::Wraps(header) => find(
@@ -98,10 +103,11 @@ pub fn fragment_in<'a>(datagram: Datagram<'a>, tunnels: &Tunnels) -> Option<Frag
     }
 }
 
-/// What a datagram holds that was put together from its fragments, which came in these tunnels: the innermost datagram, and all tunnels that
-/// it comes in.
+/// Returns the innermost datagram in a reassembled datagram, and all the tunnels around it.
+/// `tunnels` are those in which its fragments came.
 pub fn inside_of<'a>(datagram: Datagram<'a>, tunnels: &Tunnels) -> Unwrapped<'a>
-    ensures { tunnels.now.count ≤ 8 → view_unwrapped result ≡ unwrapped_in tunnels.now (view_datagram datagram.entry) }
+    ensures { tunnels.now.count ≤ 8
+        → view_unwrapped result ≡ unwrapped_in tunnels.now (view_datagram datagram.entry) }
 {
     let mut tunnels = *tunnels;
     if tunnels.count > MAX_TUNNELS {

@@ -1,4 +1,5 @@
-//! Generic Routing Encapsulation (RFC 2784; RFC 2890), and the copies of frames that switches send in it (draft-foschiano-erspan).
+//! Generic Routing Encapsulation (RFC 2784; RFC 2890), and ERSPAN, in which switches send copies of
+//! frames (draft-foschiano-erspan).
 #![tactic(auto, using(layouts::proofs::OneAnswerLemmas::read_allowed), unfolding(crate::specs::Gre::key_if, crate::specs::Gre::erspan2, crate::specs::Gre::erspan, crate::specs::Gre::copied, crate::specs::Gre::gre_payload))]
 
 ghost use Rattle.std.specs.Prelude.{◌≡◌};
@@ -9,20 +10,20 @@ ghost use Rattle.tunnels.specs.Gre.{gre, gre_payload as gre_payload_layout, ersp
 use crate::tunnel::{ETHERNET, Header, Tunnel, TunnelKind, carrying, skipped_if, version_type};
 use layouts::{ErrorKind, IResult, block, number2, number4, refused};
 
-/// The protocol of frames in ERSPAN of types I and II.
+/// The GRE protocol of ERSPAN types I and II.
 const ERSPAN: u16 = 0x88be;
 
-/// The same of type III.
+/// The GRE protocol of ERSPAN type III.
 const ERSPAN3: u16 = 0x22eb;
 
-/// Whether flags are those of version 0, without the routing of RFC 1701.
+/// Returns whether GRE flags are those of version 0 without the source routing of RFC 1701.
 fn is_plain(flags: u16) -> bool
     ensures { result ≡ is_plain_flags flags }
 {
     flags % 8 == 0 && flags / 0x4000 % 2 == 0 && flags / 0x400 % 4 == 0
 }
 
-/// The key, where it is there.
+/// Parses the key, if it is present.
 fn key_if(i: &[u8], present: bool) -> IResult<&[u8], Option<u32>>
     ensures { Gives (λ v. v) (key_if_layout present) i.now result }
 {
@@ -33,7 +34,7 @@ fn key_if(i: &[u8], present: bool) -> IResult<&[u8], Option<u32>>
     Ok((i, None))
 }
 
-/// The tunnel of copies of that session.
+/// Returns the tunnel of an ERSPAN session.
 fn erspan_tunnel(id: Option<u32>) -> Tunnel
     ensures { result ≡ erspan_tunnel_of id }
 {
@@ -43,7 +44,7 @@ fn erspan_tunnel(id: Option<u32>) -> Tunnel
     }
 }
 
-/// Behind a header of type II.
+/// Parses an ERSPAN type II header.
 fn erspan2(i: &[u8]) -> IResult<&[u8], Header>
     ensures { Gives view_header erspan2_layout i.now result }
 {
@@ -56,7 +57,7 @@ fn erspan2(i: &[u8]) -> IResult<&[u8], Header>
     carrying(i, erspan_tunnel(Some(u32::from(session % 1024))), ETHERNET)
 }
 
-/// Of types I and II.
+/// Parses ERSPAN type II if GRE has a sequence number, or else type I, which has no header.
 fn erspan(i: &[u8], is_numbered: bool) -> IResult<&[u8], Header>
     ensures { Gives view_header (erspan_layout is_numbered) i.now result }
 {
@@ -66,7 +67,7 @@ fn erspan(i: &[u8], is_numbered: bool) -> IResult<&[u8], Header>
     carrying(i, erspan_tunnel(None), ETHERNET)
 }
 
-/// What a copy is of that frame type.
+/// Returns the EtherType of a type III copy, by its frame type; 0 for an unknown one.
 fn copied(i: &[u8], frame_type: u16) -> IResult<&[u8], u16>
     ensures { Gives (λ v. v) (copied_layout frame_type) i.now result }
 {
@@ -77,7 +78,7 @@ fn copied(i: &[u8], frame_type: u16) -> IResult<&[u8], u16>
     }
 }
 
-/// Behind a header of type III.
+/// Parses an ERSPAN type III header.
 #[tactic(auto, using(layouts::proofs::OneAnswerLemmas::read_allowed), unfolding(crate::specs::Gre::erspan3))]
 fn erspan3(i: &[u8]) -> IResult<&[u8], Header>
     ensures { Gives view_header erspan3_layout i.now result }
@@ -94,7 +95,7 @@ fn erspan3(i: &[u8]) -> IResult<&[u8], Header>
     carrying(i, erspan_tunnel(Some(u32::from(session % 1024))), kind)
 }
 
-/// What stands behind the header, by its protocol.
+/// Parses what follows the GRE header, by its protocol.
 fn gre_payload(
     i: &[u8],
     protocol: u16,
@@ -116,13 +117,16 @@ fn gre_payload(
     }
 }
 
-/// Reads a header of GRE (RFC 2784, section 2; RFC 2890, section 2): 4 bytes; checksum, key and sequence number, where their flags are set;
-/// and all behind it. Behind the protocols 0x88be and 0x22eb ERSPAN's own header is read too (draft-foschiano-erspan, section 4), and the
-/// tunnel is ERSPAN's. The checksum isn't verified.
+/// Parses a GRE header (RFC 2784, section 2; RFC 2890, section 2): 4 bytes; checksum, key and
+/// sequence number if their flags are set; and the payload, all of the rest. The checksum isn't
+/// verified.
 ///
-/// - `Incomplete` of what is missing of the headers.
-/// - `Error` of kind `Verify` where the version isn't 0, or one of the bits 1, 4 and 5 is set (RFC 2784, section 2.3); or where the
-///   version of ERSPAN is another than the protocol says.
+/// Protocols 0x88be and 0x22eb are ERSPAN: its header is parsed too (draft-foschiano-erspan,
+/// section 4), and the tunnel is ERSPAN's.
+///
+/// - `Incomplete`, with the count of missing bytes of the headers.
+/// - `Error` of kind `Verify` if the version isn't 0, one of the bits 1, 4 and 5 is set (RFC 2784,
+///   section 2.3), or the ERSPAN version doesn't match the protocol.
 #[tactic(auto, using(layouts::proofs::OneAnswerLemmas::read_allowed), unfolding(crate::specs::Gre::gre))]
 pub fn parse_gre(i: &[u8]) -> IResult<&[u8], Header>
     ensures { Gives view_header gre i.now result }

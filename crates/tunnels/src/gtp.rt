@@ -1,4 +1,4 @@
-//! Tunnels of mobile networks: GTP-U (3GPP TS 29.281).
+//! GTP-U, the tunnels of mobile networks (3GPP TS 29.281).
 #![tactic(auto, using(layouts::proofs::OneAnswerLemmas::read_allowed), unfolding(crate::specs::Gtp::extension, crate::specs::Gtp::further_extension, crate::specs::Gtp::extensions_if, crate::specs::Gtp::optional_fields, crate::specs::Gtp::gtp_payload))]
 
 ghost use Rattle.layouts.specs.Layout.{complete};
@@ -9,10 +9,11 @@ ghost use Rattle.tunnels.specs.Gtp.{extension as extension_layout, extensions as
 use crate::tunnel::{Header, Tunnel, TunnelKind, carrying, version_type};
 use layouts::{Err, ErrorKind, IResult, InPlace, Items, block, number1, number2, number4, refused};
 
-/// The message type of what users send.
+/// The message type of user data (G-PDU).
 const USER_DATA: u8 = 255;
 
-/// An extension header: the type of the next one.
+/// Parses an extension header: returns the type of the next one. `Error` of kind `LengthValue` if
+/// its length is 0.
 fn extension(i: &[u8]) -> IResult<&[u8], u8>
     ensures { Gives (λ v. v) extension_layout i.now result }
 {
@@ -24,7 +25,7 @@ fn extension(i: &[u8]) -> IResult<&[u8], u8>
     number1(i)
 }
 
-/// An extension header that another follows.
+/// An extension header with another behind it.
 struct FurtherExtension;
 
 impl<'a> InPlace<'a> for FurtherExtension {
@@ -45,7 +46,7 @@ impl<'a> InPlace<'a> for FurtherExtension {
     }
 }
 
-/// Extension headers, to the last.
+/// Skips all extension headers. Returns 0, the next type in the last.
 #[tactic(auto, using(layouts::proofs::OneAnswerLemmas::read_allowed), unfolding(crate::specs::Gtp::extensions))]
 fn extensions(i: &[u8]) -> IResult<&[u8], u8>
     ensures { Gives (λ v. v) extensions_layout i.now result }
@@ -53,7 +54,7 @@ fn extensions(i: &[u8]) -> IResult<&[u8], u8>
     extension(Items::<FurtherExtension>::new(i).rest())
 }
 
-/// The same, where they are there.
+/// Skips the extension headers, if there are any.
 fn extensions_if(i: &[u8], present: bool) -> IResult<&[u8], u8>
     ensures { Gives (λ v. v) (extensions_if_layout present) i.now result }
 {
@@ -63,7 +64,8 @@ fn extensions_if(i: &[u8], present: bool) -> IResult<&[u8], u8>
     Ok((i, 0))
 }
 
-/// The fields that stand there where one of these flags is set, and the extension headers.
+/// Skips the optional fields, which are present if one of these flags is set, and the extension
+/// headers.
 fn optional_fields(i: &[u8], flags: u8) -> IResult<&[u8], u8>
     ensures { Gives (λ v. v) (optional_fields_layout flags) i.now result }
 {
@@ -75,7 +77,7 @@ fn optional_fields(i: &[u8], flags: u8) -> IResult<&[u8], u8>
     extensions_if(i, flags / 4 == 1 && next != 0)
 }
 
-/// The same, and a datagram.
+/// Skips the optional fields and extension headers, and parses the datagram behind them.
 fn gtp_payload(i: &[u8], flags: u8, id: u32) -> IResult<&[u8], Header>
     ensures { Gives view_header (gtp_payload_layout flags id) i.now result }
 {
@@ -88,7 +90,8 @@ fn gtp_payload(i: &[u8], flags: u8, id: u32) -> IResult<&[u8], Header>
     carrying(i, tunnel, kind)
 }
 
-/// The same, where no further bytes belong to it.
+/// Skips the optional fields and extension headers and parses the datagram, in all of `i`. If they
+/// don't fit, this is an `Error` of kind `Complete`.
 fn whole_payload(i: &[u8], flags: u8, id: u32) -> IResult<&[u8], Header>
     ensures { Gives view_header (complete (gtp_payload_layout flags id)) i.now result }
 {
@@ -98,13 +101,14 @@ fn whole_payload(i: &[u8], flags: u8, id: u32) -> IResult<&[u8], Header>
     }
 }
 
-/// Reads a message of GTP-U that carries what users send (TS 29.281, section 5.1): 8 bytes, sequence number and extension headers where flags
-/// say so, and the datagram behind them, to the end that the length says.
+/// Parses a GTP-U message with user data (TS 29.281, section 5.1): 8 bytes; sequence number and
+/// extension headers if the flags are set; and the datagram, up to the message's length.
 ///
-/// - `Incomplete` of what is missing of the 8 bytes, or of those that the length counts.
-/// - `Error` of kind `Verify` where the version isn't 1, or that of GTP', or the message type isn't 255.
-/// - `Error` of kind `LengthValue` where an extension header says the length 0.
-/// - `Error` of kind `Complete` where the fields and a first byte don't fit in the length.
+/// - `Incomplete`, with the count of missing bytes of the first 8, or of the message's length.
+/// - `Error` of kind `Verify` if the version isn't 1, it is GTP', or the message type isn't 255.
+/// - `Error` of kind `LengthValue` if an extension header's length is 0.
+/// - `Error` of kind `Complete` if the fields and the datagram's first byte don't fit in the
+///   length.
 #[tactic(auto, using(layouts::proofs::OneAnswerLemmas::read_allowed), unfolding(crate::specs::Gtp::gtp))]
 pub fn parse_gtp(i: &[u8]) -> IResult<&[u8], Header>
     ensures { Gives view_header gtp i.now result }

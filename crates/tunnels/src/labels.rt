@@ -1,4 +1,4 @@
-//! Labels and tags in front of a datagram or a frame: MPLS (RFC 3032), and provider backbones (IEEE 802.1Q, section 9.7).
+//! MPLS labels (RFC 3032) and the tags of provider backbones (IEEE 802.1Q, section 9.7).
 #![tactic(auto, using(layouts::proofs::OneAnswerLemmas::read_allowed), unfolding(crate::specs::Labels::upper_label))]
 
 ghost use Rattle.std.specs.Prelude.{◌≡◌};
@@ -9,7 +9,7 @@ ghost use Rattle.tunnels.specs.Labels.{backbone, mpls, type_behind_labels as typ
 use crate::tunnel::{ETHERNET, Header, Tunnel, TunnelKind, carrying, skipped_if, type_of_version};
 use layouts::{ErrorKind, IResult, InPlace, Items, number1, number4, refused};
 
-/// A label that others follow.
+/// A label with another behind it.
 struct UpperLabel;
 
 impl<'a> InPlace<'a> for UpperLabel {
@@ -30,7 +30,7 @@ impl<'a> InPlace<'a> for UpperLabel {
     }
 }
 
-/// The type of what stands behind the labels, by its first half byte.
+/// Returns the EtherType of what follows the labels, by its first 4 bits; 0 for an unknown one.
 fn type_behind_labels(half: u8) -> u16
     ensures { result ≡ type_behind half }
 {
@@ -40,10 +40,12 @@ fn type_behind_labels(half: u8) -> u16
     type_of_version(half)
 }
 
-/// Reads labels of MPLS, of 4 bytes each, to the last (RFC 3032, section 2.1), and all behind them: a datagram, by its first half byte, or a frame
-/// of Ethernet behind a control word, which begins with 0 (RFC 4448, section 4.6).
+/// Parses MPLS labels, 4 bytes each, to the bottom of the stack (RFC 3032, section 2.1), and all
+/// the rest. The first 4 bits behind them identify the payload: an IP datagram by its version, or 0
+/// for a control word, which an Ethernet frame follows (RFC 4448, section 4.6).
 ///
-/// `Incomplete` of what is missing of a label, of the byte behind the last, or of the control word.
+/// `Incomplete`, with the count of missing bytes of a label, of the byte behind the last, or of the
+/// control word.
 #[tactic(auto, using(layouts::proofs::OneAnswerLemmas::read_allowed), unfolding(crate::specs::Labels::mpls))]
 pub fn parse_mpls(i: &[u8]) -> IResult<&[u8], Header>
     ensures { Gives view_header mpls i.now result }
@@ -58,10 +60,10 @@ pub fn parse_mpls(i: &[u8]) -> IResult<&[u8], Header>
     carrying(i, tunnel, type_behind_labels(first / 16))
 }
 
-/// Reads what stands behind the type of an I-TAG (IEEE 802.1Q, section 9.7): 4 bytes, of which the lower 3 are the service, and the customer's
-/// frame of Ethernet.
+/// Parses an I-TAG behind its type (IEEE 802.1Q, section 9.7): 4 bytes, of which the lower 3 are
+/// the service, and the customer's Ethernet frame.
 ///
-/// `Incomplete` of what is missing of the 4 bytes.
+/// `Incomplete`, with the count of missing bytes of the first 4.
 #[tactic(auto, using(layouts::proofs::OneAnswerLemmas::read_allowed), unfolding(crate::specs::Labels::backbone))]
 pub fn parse_backbone(i: &[u8]) -> IResult<&[u8], Header>
     ensures { Gives view_header backbone i.now result }

@@ -1,8 +1,14 @@
-//! Tunnels: what a packet holds behind the headers that carry one network over another.
+//! Tunnels: finds the innermost datagram of a packet, behind the headers that carry one network
+//! over another.
 //!
-//! [`innermost`] goes from a packet's link down to its innermost datagram, through at most [`MAX_TUNNELS`] tunnels, and tells which these
-//! were. Each header also has a call of its own. None takes memory. What isn't such a header, behind a port or a protocol that tells of one,
-//! is a datagram like any other.
+//! [`innermost`] follows at most [`MAX_TUNNELS`] tunnels and returns them with the datagram. Each
+//! tunnel header also has a parser. No call allocates memory. A payload that only looks like a
+//! tunnel, by its port or protocol, is treated as an ordinary datagram.
+//!
+//! Promise: each parser returns what a layout in `specs/` allows, and nothing else, and
+//! [`innermost`] what `Walk.unwrapped` defines. The layouts are in `Gre`, `Gtp`, `Labels`,
+//! `Overlay`, `Teredo` and `Carriers`; `Fragments` and `Tags` define fragments and VLAN tags inside
+//! tunnels. [`laws`] holds what follows from the definitions alone.
 #![tactic(auto, using(layouts::proofs::OneAnswerLemmas::read_allowed))]
 
 mod carriers;

@@ -1,4 +1,4 @@
-//! Networks laid over UDP: VXLAN (RFC 7348), GENEVE (RFC 8926).
+//! Overlay networks over UDP: VXLAN (RFC 7348), GENEVE (RFC 8926).
 #![tactic(auto, using(layouts::proofs::OneAnswerLemmas::read_allowed), unfolding(crate::specs::Overlay::vxlan, crate::specs::Overlay::geneve_front))]
 
 ghost use Rattle.std.specs.Prelude.{◌≡◌, ◌<◌, IfOk};
@@ -9,10 +9,10 @@ ghost use Rattle.tunnels.specs.Overlay.{geneve, geneve_front as geneve_front_lay
 use crate::tunnel::{ETHERNET, Header, IPV4, IPV6, Tunnel, TunnelKind, carrying};
 use layouts::{ErrorKind, IResult, block, number1, number2, number3, refused};
 
-/// Reads a header of VXLAN (RFC 7348, section 5), of 8 bytes, and the frame of Ethernet behind it.
+/// Parses a VXLAN header (RFC 7348, section 5), 8 bytes, and the Ethernet frame behind it.
 ///
-/// - `Incomplete` of what is missing of the header.
-/// - `Error` of kind `Verify` where the flags are others than I, with or without G.
+/// - `Incomplete`, with the count of missing bytes of the header.
+/// - `Error` of kind `Verify` if the flags are others than I, with or without G.
 pub fn parse_vxlan(i: &[u8]) -> IResult<&[u8], Header>
     ensures { Gives view_header vxlan i.now result }
 {
@@ -30,14 +30,15 @@ pub fn parse_vxlan(i: &[u8]) -> IResult<&[u8], Header>
     carrying(i, tunnel, ETHERNET)
 }
 
-/// Whether what has this type of Ethernet is carried.
+/// Returns whether GENEVE payloads of this EtherType are parsed.
 fn is_overlaid(kind: u16) -> bool
     ensures { result ≡ is_overlaid_type kind }
 {
     kind == ETHERNET || kind == IPV4 || kind == IPV6
 }
 
-/// The length of the options in words of 4 bytes, and the type of what is carried.
+/// Parses the front of a GENEVE header: returns the options' length in words of 4 bytes, and the
+/// payload's EtherType.
 fn geneve_front(i: &[u8]) -> IResult<&[u8], (u8, u16)>
     ensures gives { Gives (λ v. v) geneve_front_layout i.now result }
     ensures bound { IfOk result (λ x. x.1.0 < 64) }
@@ -57,11 +58,11 @@ fn geneve_front(i: &[u8]) -> IResult<&[u8], (u8, u16)>
     Ok((i, (words, kind)))
 }
 
-/// Reads a header of GENEVE (RFC 8926, section 3.4), of 8 bytes and options, and all behind it.
+/// Parses a GENEVE header (RFC 8926, section 3.4), 8 bytes and options, and all the rest.
 ///
-/// - `Incomplete` of what is missing of the header or the options.
-/// - `Error` of kind `Verify` where the version isn't 0, a reserved flag is set, or what is carried is neither a frame of Ethernet nor
-///   IPv4 nor IPv6.
+/// - `Incomplete`, with the count of missing bytes of the header or the options.
+/// - `Error` of kind `Verify` if the version isn't 0, a reserved flag is set, or the payload is
+///   neither an Ethernet frame nor IPv4 nor IPv6.
 #[tactic(auto, using(layouts::proofs::OneAnswerLemmas::read_allowed), unfolding(crate::specs::Overlay::geneve))]
 pub fn parse_geneve(i: &[u8]) -> IResult<&[u8], Header>
     ensures { Gives view_header geneve i.now result }

@@ -1,4 +1,4 @@
-//! The VLAN tags of a packet, in tunnels too.
+//! The VLAN tags of a packet and of the frames in its tunnels.
 #![tactic(auto, using(layouts::proofs::OneAnswerLemmas::read_allowed))]
 
 ghost use Rattle.std.specs.Prelude.{◌≡◌, ◌≤◌, ◌++◌, length, take};
@@ -13,23 +13,26 @@ use crate::walk::{LINK_ETHERNET, Layer, inner_layer, packet_layer};
 use capture::VlanTags;
 use layouts::IResult;
 
-/// Adds those of a frame in a tunnel.
+/// Appends the VLAN identifiers of a tunnel's frame.
 #[tactic(auto, using(crate::proofs::TagLemmas::none))]
 fn add_of_frame(header: &Header<'_>, tags: &mut VlanTags)
     requires { length (found_in tags.old) ≤ 16 }
-    ensures { found_in tags.new ≡ take 16 (found_in tags.old ++ frame_vlans (view_header header.now)) }
+    ensures { found_in tags.new ≡ take 16
+        (found_in tags.old ++ frame_vlans (view_header header.now)) }
 {
     if header.kind == ETHERNET {
         tags.add_of_link(header.inside, LINK_ETHERNET);
     }
 }
 
-/// Adds those of the frames in what was read in front, through at most so many tunnels.
+/// Appends the VLAN identifiers of the frames behind the header at the front, through at most
+/// `most` tunnels.
 #[tactic(auto, using(crate::proofs::TagLemmas::refused, crate::proofs::TagLemmas::unknown, crate::proofs::TagLemmas::holds, crate::proofs::TagLemmas::deeper, crate::proofs::TagLemmas::wrapped, crate::proofs::TagLemmas::bounded))]
 fn add_inner(read: IResult<&[u8], Layer>, tags: &mut VlanTags, most: u8)
     requires is_answer { IsAnswer read }
     requires fits { length (found_in tags.old) ≤ 16 }
-    ensures { found_in tags.new ≡ take 16 (found_in tags.old ++ inner_vlans most (answer_of view_layer read.entry)) }
+    ensures { found_in tags.new ≡ take 16
+        (found_in tags.old ++ inner_vlans most (answer_of view_layer read.entry)) }
 {
     match read {
         Ok((_, Layer::Wraps(header))) if most > 0 => {
@@ -40,8 +43,9 @@ fn add_inner(read: IResult<&[u8], Layer>, tags: &mut VlanTags, most: u8)
     }
 }
 
-/// The VLANs of the packet `i` of a capture with that link type, from outside in: those of its link's tags, and of the tags of the frames in its tunnels, as
-/// [`crate::innermost`] follows them; no more than the first [`capture::MAX_VLAN_TAGS`].
+/// Returns the VLAN identifiers of the packet `i` of a capture with this link type, outermost
+/// first: those of its link's tags, and of the frames in its tunnels, as [`crate::innermost`]
+/// follows them. At most the first [`capture::MAX_VLAN_TAGS`] are returned.
 #[tactic(auto, using(crate::proofs::TagLemmas::both, crate::proofs::TagLemmas::bounded))]
 pub fn vlan_tags(i: &[u8], link_type: u16) -> VlanTags
     ensures { found_in result ≡ vlans_of link_type i.now }

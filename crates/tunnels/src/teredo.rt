@@ -1,4 +1,4 @@
-//! IPv6 through NATs, over UDP (RFC 4380).
+//! Teredo: IPv6 through NATs, over UDP (RFC 4380).
 #![tactic(auto, using(layouts::proofs::OneAnswerLemmas::read_allowed), unfolding(crate::specs::Teredo::authentication, crate::specs::Teredo::authentication_if))]
 
 ghost use Rattle.layouts.specs.Answers.{Gives};
@@ -8,7 +8,7 @@ ghost use Rattle.tunnels.specs.Teredo.{authentication as authentication_layout, 
 use crate::tunnel::{Header, IPV6, Tunnel, TunnelKind, carrying, skipped_if};
 use layouts::{ErrorKind, IResult, block, number1, number2, refused};
 
-/// What shows who the client is.
+/// Skips an authentication header.
 fn authentication(i: &[u8]) -> IResult<&[u8], ()>
     ensures { Gives (λ v. v) authentication_layout i.now result }
 {
@@ -19,7 +19,7 @@ fn authentication(i: &[u8]) -> IResult<&[u8], ()>
     Ok((i, ()))
 }
 
-/// The same, where these 2 bytes are its type.
+/// Skips an authentication header if `front`, its type, is 1.
 fn authentication_if(i: &[u8], front: u16) -> IResult<&[u8], ()>
     ensures { Gives (λ v. v) (authentication_if_layout front) i.now result }
 {
@@ -29,11 +29,11 @@ fn authentication_if(i: &[u8], front: u16) -> IResult<&[u8], ()>
     Ok((i, ()))
 }
 
-/// Reads what Teredo puts in front of a datagram of IPv6 (RFC 4380, section 5.1.1): an authentication and the origin, each where it is there;
-/// and all behind it.
+/// Parses what Teredo puts before an IPv6 datagram (RFC 4380, section 5.1.1): an optional
+/// authentication header and an optional origin indication. The datagram is all the rest.
 ///
-/// - `Incomplete` of what is missing of the first part that isn't whole.
-/// - `Error` of kind `Verify` where what follows isn't of version 6.
+/// - `Incomplete`, with the count of missing bytes of the first field that isn't whole.
+/// - `Error` of kind `Verify` if the datagram's version isn't 6.
 #[tactic(auto, using(layouts::proofs::OneAnswerLemmas::read_allowed), unfolding(crate::specs::Teredo::teredo))]
 pub fn parse_teredo(i: &[u8]) -> IResult<&[u8], Header>
     ensures { Gives view_header teredo i.now result }

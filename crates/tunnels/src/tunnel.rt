@@ -1,4 +1,4 @@
-//! Tunnels, and the headers that begin them.
+//! Tunnels and the headers that begin them.
 #![tactic(auto, using(layouts::proofs::OneAnswerLemmas::read_allowed), unfolding(crate::specs::Tunnel::carrying, crate::specs::Tunnel::skipped_if, crate::specs::Tunnel::version_type))]
 
 ghost use Rattle.std.specs.Prelude.{◌≡◌, ◌≤◌, ◌<◌, ◌+◌, ◌++◌, ◌∷◌, ◌==◌, [], length};
@@ -7,64 +7,66 @@ ghost use Rattle.tunnels.specs.Tunnel.{carrying as carrying_layout, listed, skip
 
 use layouts::{IResult, block, number1, rest};
 
-/// The most tunnels, one in another, that are followed.
+/// The most nested tunnels that are followed.
 pub const MAX_TUNNELS: usize = 8;
 
-/// The type of Ethernet of a frame of Ethernet in another header (Transparent Ethernet Bridging; RFC 1701, section 1).
+/// The EtherType of an Ethernet frame inside another header (Transparent Ethernet Bridging; RFC
+/// 1701, section 1).
 pub const ETHERNET: u16 = 0x6558;
 
-/// The type of Ethernet of IPv4.
+/// The EtherType of IPv4.
 pub(crate) const IPV4: u16 = 0x0800;
 
-/// The type of Ethernet of IPv6.
+/// The EtherType of IPv6.
 pub(crate) const IPV6: u16 = 0x86dd;
 
-/// By which header a tunnel begins.
+/// The protocol of a tunnel.
 #[derive(Clone, Copy, Debug, PartialEq, Eq, Hash)]
 pub enum TunnelKind {
-    /// IPv4 in a datagram (RFC 2003; RFC 2473): it has no header of its own.
+    /// IPv4 in IP (RFC 2003; RFC 2473), without a tunnel header.
     Ipv4,
-    /// IPv6 in a datagram (RFC 2473; RFC 4213): it has no header of its own.
+    /// IPv6 in IP (RFC 2473; RFC 4213), without a tunnel header.
     Ipv6,
-    /// Generic Routing Encapsulation (RFC 2784; RFC 2890). Its number is the key.
+    /// Generic Routing Encapsulation (RFC 2784; RFC 2890). The identifier is the key.
     Gre,
-    /// A switch's copy of a frame, in GRE (draft-foschiano-erspan). Its number is the session.
+    /// A switch's copy of a frame, in GRE (draft-foschiano-erspan). The identifier is the session.
     Erspan,
-    /// Labels of MPLS (RFC 3032). Its number is the last label.
+    /// MPLS labels (RFC 3032). The identifier is the last label.
     Mpls,
-    /// VXLAN (RFC 7348). Its number is the network (VNI).
+    /// VXLAN (RFC 7348). The identifier is the network (VNI).
     Vxlan,
-    /// GENEVE (RFC 8926). Its number is the network (VNI).
+    /// GENEVE (RFC 8926). The identifier is the network (VNI).
     Geneve,
-    /// GTP-U (3GPP TS 29.281). Its number is the tunnel endpoint (TEID).
+    /// GTP-U (3GPP TS 29.281). The identifier is the tunnel endpoint (TEID).
     GtpU,
     /// Teredo (RFC 4380).
     Teredo,
-    /// A provider's backbone (IEEE 802.1Q, section 9.7). Its number is the service (I-SID).
+    /// A provider's backbone (IEEE 802.1Q, section 9.7). The identifier is the service (I-SID).
     Backbone,
 }
 
 /// A tunnel.
 #[derive(Clone, Copy, Debug, PartialEq, Eq, Hash)]
 pub struct Tunnel {
-    /// By which header it begins.
+    /// The tunnel's protocol.
     pub kind: TunnelKind,
-    /// The number by which its ends tell it from others, where the header has one.
+    /// The tunnel's identifier, if its header has one.
     pub id: Option<u32>,
 }
 
-/// A header that begins a tunnel.
+/// A tunnel header and its payload.
 #[derive(Clone, Copy, Debug, PartialEq)]
 pub struct Header<'a> {
-    /// Which tunnel.
+    /// The tunnel.
     pub tunnel: Tunnel,
-    /// The type of Ethernet of what stands in it: 0x0800 for IPv4, 0x86dd for IPv6, [`ETHERNET`] for a frame; 0 for what isn't known.
+    /// The payload's EtherType: 0x0800 for IPv4, 0x86dd for IPv6, [`ETHERNET`] for a frame; 0 if
+    /// unknown.
     pub kind: u16,
-    /// What stands in it.
+    /// The payload.
     pub inside: &'a [u8],
 }
 
-/// The tunnels that a packet comes in, from outside in, at most [`MAX_TUNNELS`].
+/// The tunnels of a packet, outermost first, at most [`MAX_TUNNELS`].
 #[derive(Clone, Copy, Debug, PartialEq, Eq, Hash)]
 pub struct Tunnels {
     pub(crate) slots: [Tunnel; MAX_TUNNELS],
@@ -72,7 +74,7 @@ pub struct Tunnels {
 }
 
 impl Tunnels {
-    /// None.
+    /// Returns an empty list.
     pub fn new() -> Tunnels
         ensures listed { listed result ≡ [] }
         ensures count { result.count ≡ 0 }
@@ -87,7 +89,7 @@ impl Tunnels {
         }
     }
 
-    /// Lets all go.
+    /// Empties the list.
     pub(crate) fn clear(&mut self)
         ensures listed { listed self.new ≡ [] }
         ensures count { self.new.count ≡ 0 }
@@ -97,7 +99,7 @@ impl Tunnels {
         }
     }
 
-    /// One more, inside the others.
+    /// Appends a tunnel, inside the others.
     pub(crate) fn push(&mut self, tunnel: Tunnel)
         requires { self.old.count < 8 }
         ensures listed { listed self.new ≡ listed self.old ++ tunnel ∷ [] }
@@ -107,14 +109,14 @@ impl Tunnels {
         self.count += 1;
     }
 
-    /// Whether there is none.
+    /// Returns whether there are no tunnels.
     pub fn is_empty(&self) -> bool
         ensures { result ≡ (length (listed self.now) == 0) }
     {
         self.count == 0
     }
 
-    /// The tunnels.
+    /// Returns the tunnels, outermost first.
     pub fn as_slice(&self) -> &[Tunnel]
         ensures { result.now ≡ listed self.now }
     {
@@ -125,7 +127,7 @@ impl Tunnels {
     }
 }
 
-/// All of `i`, in that tunnel.
+/// Takes all of `i` as the payload of this tunnel.
 pub(crate) fn carrying(i: &[u8], tunnel: Tunnel, kind: u16) -> IResult<&[u8], Header>
     ensures { Gives view_header (carrying_layout tunnel kind) i.now result }
 {
@@ -140,7 +142,7 @@ pub(crate) fn carrying(i: &[u8], tunnel: Tunnel, kind: u16) -> IResult<&[u8], He
     ))
 }
 
-/// That many bytes, where they are there.
+/// Skips this many bytes, if they are present.
 pub(crate) fn skipped_if(i: &[u8], present: bool, count: usize) -> IResult<&[u8], ()>
     ensures { Gives (λ v. v) (skipped_if_layout present count) i.now result }
 {
@@ -151,7 +153,7 @@ pub(crate) fn skipped_if(i: &[u8], present: bool, count: usize) -> IResult<&[u8]
     Ok((i, ()))
 }
 
-/// The type of a datagram with this version; 0 for another.
+/// Returns the EtherType of an IP version; 0 for an unknown one.
 pub(crate) fn type_of_version(version: u8) -> u16
     ensures { result ≡ type_of_version_number version }
 {
@@ -162,7 +164,7 @@ pub(crate) fn type_of_version(version: u8) -> u16
     }
 }
 
-/// The type of a datagram, by the version that it says.
+/// Returns the EtherType of the datagram at the front, by its version. It takes no bytes.
 pub(crate) fn version_type(i: &[u8]) -> IResult<&[u8], u16>
     ensures { Gives (λ v. v) version_type_layout i.now result }
 {

@@ -1,4 +1,4 @@
-//! From a packet's link down to the innermost datagram.
+//! The walk from a packet's link header to its innermost datagram.
 #![tactic(auto, using(layouts::proofs::OneAnswerLemmas::read_allowed), unfolding(crate::specs::Walk::layer_of_type, crate::specs::Walk::packet_layer, crate::specs::Walk::inner_layer))]
 
 ghost use Rattle.std.specs.Prelude.{◌≡◌, ◌≤◌, ◌+◌, [], IfSome};
@@ -14,61 +14,62 @@ use crate::tunnel::{ETHERNET, Header, IPV4, IPV6, MAX_TUNNELS, Tunnels};
 use capture::{Content, Datagram, parse_ipv4, parse_ipv6, parse_link};
 use layouts::IResult;
 
-/// The types of Ethernet of MPLS: to one receiver, and to many.
+/// The EtherTypes of MPLS: unicast and multicast.
 const MPLS: u16 = 0x8847;
 
 const MPLS_TO_MANY: u16 = 0x8848;
 
-/// The type of Ethernet of an I-TAG.
+/// The EtherType of an I-TAG.
 const BACKBONE: u16 = 0x88e7;
 
 /// The link type of Ethernet.
 pub(crate) const LINK_ETHERNET: u16 = 1;
 
-/// The number of TCP among the protocols of a datagram.
+/// The IP protocol number of TCP.
 const TCP: u8 = 6;
 
-/// How many bytes a header of IPv4 without options and one of TCP have.
+/// The length of an IPv4 header without options and of a TCP header, in bytes.
 const HEADERS_LEN: u16 = 40;
 
-/// What stands in front.
+/// One layer of a packet.
 #[derive(Drop)]
 pub(crate) enum Layer<'a> {
-    /// A header that begins a tunnel.
+    /// A tunnel header.
     Wraps(Header<'a>),
-    /// A datagram that holds no such header.
+    /// A datagram without a tunnel header in it.
     Holds(Datagram<'a>),
     /// Another protocol.
     Unknown,
 }
 
-/// What a packet holds, behind all headers.
+/// What a packet holds behind all headers.
 #[derive(Clone, Copy, Debug, PartialEq)]
 pub enum Inside<'a> {
     /// The innermost datagram.
     Datagram(Datagram<'a>),
-    /// Another protocol, which isn't read.
+    /// Another protocol, not parsed.
     Other,
-    /// What wasn't captured whole, or breaks a rule of a header.
+    /// Truncated, or a header breaks a rule.
     Unread,
-    /// One more tunnel than [`MAX_TUNNELS`].
+    /// More than [`MAX_TUNNELS`] tunnels.
     Deeper,
 }
 
-/// A packet's tunnels, and what it holds.
+/// A packet's tunnels and its content.
 #[derive(Clone, Copy, Debug)]
 pub struct Unwrapped<'a> {
-    /// The tunnels, from outside in.
+    /// The tunnels, outermost first.
     pub tunnels: Tunnels,
-    /// What stands in the innermost.
+    /// The content of the innermost tunnel.
     pub inside: Inside<'a>,
 }
 
-/// A datagram, unless this header that begins a tunnel was read in it.
+/// Returns the tunnel header parsed in a datagram, or the datagram if there is none.
 #[inline(always)]
 fn wrapped_or<'a>(datagram: Datagram<'a>, header: IResult<&'a [u8], Header<'a>>) -> Layer<'a>
     requires { IsAnswer header }
-    ensures { view_layer result ≡ wrapped_or_by (view_datagram datagram.entry) (answer_of view_header header.entry) }
+    ensures { view_layer result ≡ wrapped_or_by (view_datagram datagram.entry)
+        (answer_of view_header header.entry) }
 {
     match header {
         Ok((_, header)) => Layer::Wraps(header),
@@ -76,7 +77,7 @@ fn wrapped_or<'a>(datagram: Datagram<'a>, header: IResult<&'a [u8], Header<'a>>)
     }
 }
 
-/// A datagram, or the header in it that begins a tunnel.
+/// Returns the tunnel header in a datagram, or the datagram if there is none.
 #[inline(always)]
 pub(crate) fn datagram_layer(datagram: Datagram<'_>) -> Layer<'_>
     ensures { view_layer result ≡ datagram_layer_of (view_datagram datagram.entry) }
@@ -93,7 +94,7 @@ pub(crate) fn datagram_layer(datagram: Datagram<'_>) -> Layer<'_>
     }
 }
 
-/// What stands in front, by its type of Ethernet.
+/// Parses one layer, by its EtherType.
 #[inline(always)]
 fn layer_of_type(i: &[u8], kind: u16) -> IResult<&[u8], Layer>
     ensures { Gives view_layer (layer_of_type_layout kind) i.now result }
@@ -119,7 +120,7 @@ fn layer_of_type(i: &[u8], kind: u16) -> IResult<&[u8], Layer>
     }
 }
 
-/// The same of a packet of that link type.
+/// Parses the first layer of a packet of this link type.
 #[inline(always)]
 pub(crate) fn packet_layer(i: &[u8], link_type: u16) -> IResult<&[u8], Layer>
     ensures { Gives view_layer (packet_layer_layout link_type) i.now result }
@@ -128,7 +129,7 @@ pub(crate) fn packet_layer(i: &[u8], link_type: u16) -> IResult<&[u8], Layer>
     layer_of_type(i, kind)
 }
 
-/// The same of what stands in a tunnel.
+/// Parses the layer in a tunnel that carries this EtherType.
 pub(crate) fn inner_layer(i: &[u8], kind: u16) -> IResult<&[u8], Layer>
     ensures { Gives view_layer (inner_layer_layout kind) i.now result }
 {
@@ -138,7 +139,8 @@ pub(crate) fn inner_layer(i: &[u8], kind: u16) -> IResult<&[u8], Layer>
     layer_of_type(i, kind)
 }
 
-/// What a packet holds behind these tunnels and what was read in front, through at most so many tunnels more, which are added.
+/// Returns what a packet holds behind the layer at the front, through at most `most` further
+/// tunnels, which are appended to `tunnels`.
 #[tactic(auto, using(crate::proofs::WalkLemmas::refused, crate::proofs::WalkLemmas::unknown, crate::proofs::WalkLemmas::holds, crate::proofs::WalkLemmas::deeper, crate::proofs::WalkLemmas::one_more))]
 pub(crate) fn follow<'a>(
     read: IResult<&'a [u8], Layer<'a>>,
@@ -147,7 +149,8 @@ pub(crate) fn follow<'a>(
 ) -> Inside<'a>
     requires is_answer { IsAnswer read }
     requires fits { tunnels.old.count + most ≤ 8 }
-    ensures { followed most (listed tunnels.old) (answer_of view_layer read.entry) ≡ record { tunnels = listed tunnels.new; inside = view_inside result } }
+    ensures { followed most (listed tunnels.old) (answer_of view_layer read.entry)
+        ≡ record { tunnels = listed tunnels.new; inside = view_inside result } }
 {
     match read {
         Err(_) => Inside::Unread,
@@ -163,12 +166,19 @@ pub(crate) fn follow<'a>(
     }
 }
 
-/// What the packet `i` of a capture with that link type holds: the innermost datagram, and the tunnels that it comes in. The link types are those
-/// of [`capture::parse_packet`], which says what is read of links and of datagrams.
+/// Returns the innermost datagram of the packet `i` of a capture with this link type, and its
+/// tunnels. [`capture::parse_packet`] lists the link types, and the rules for links and datagrams.
 ///
-/// A tunnel is IPv4 or IPv6 in a datagram (protocols 4 and 41), GRE (47) with or without ERSPAN, MPLS (types of Ethernet 0x8847 and
-/// 0x8848, protocol 137), a provider's backbone (0x88e7), VXLAN (to UDP's ports 4789 and 8472), GENEVE (6081), GTP-U (2152), Teredo (3544). Where
-/// what a datagram holds isn't such a header, the datagram is the innermost.
+/// Tunnels:
+///
+/// - IPv4 and IPv6 in IP (protocols 4 and 41).
+/// - GRE (protocol 47), with or without ERSPAN.
+/// - MPLS (EtherTypes 0x8847 and 0x8848, protocol 137).
+/// - Provider backbones (EtherType 0x88e7).
+/// - VXLAN (UDP destination ports 4789 and 8472), GENEVE (6081), GTP-U (2152), Teredo (3544, or
+///   from it).
+///
+/// If the content of a datagram isn't such a header, the datagram is the innermost.
 pub fn innermost(i: &[u8], link_type: u16) -> Unwrapped
     ensures { view_unwrapped result ≡ unwrapped link_type i.now }
 {
@@ -177,12 +187,14 @@ pub fn innermost(i: &[u8], link_type: u16) -> Unwrapped
     Unwrapped { tunnels, inside }
 }
 
-/// What a packet holds whose datagram of IPv4 stands in front, through no tunnel yet. Most packets hold a segment of TCP.
+/// Returns what a packet holds whose IPv4 datagram is at the front. `tunnels` is empty. TCP comes
+/// first, since most packets hold it.
 #[tactic(auto, using(crate::proofs::WalkLemmas::refused, crate::proofs::WalkLemmas::holds), unfolding(crate::specs::Walk::layer_of_type))]
 #[inline(always)]
 fn inside_ipv4<'a>(i: &'a [u8], tunnels: &mut Tunnels) -> Inside<'a>
     requires { tunnels.old.count ≡ 0 }
-    ensures { followed 8 (listed tunnels.old) (reading (layer_of_type_layout 0x0800) i.now) ≡ record { tunnels = listed tunnels.new; inside = view_inside result } }
+    ensures { followed 8 (listed tunnels.old) (reading (layer_of_type_layout 0x0800) i.now)
+        ≡ record { tunnels = listed tunnels.new; inside = view_inside result } }
 {
     let Ok((i, datagram)) = parse_ipv4(i) else {
         return Inside::Unread;
@@ -197,15 +209,18 @@ fn inside_ipv4<'a>(i: &'a [u8], tunnels: &mut Tunnels) -> Inside<'a>
     )
 }
 
-/// The same of another type of Ethernet.
+/// Returns what a packet holds whose layer of another EtherType is at the front. `tunnels` is
+/// empty.
 fn inside_other<'a>(i: &'a [u8], kind: u16, tunnels: &mut Tunnels) -> Inside<'a>
     requires { tunnels.old.count ≡ 0 }
-    ensures { followed 8 (listed tunnels.old) (reading (layer_of_type_layout kind) i.now) ≡ record { tunnels = listed tunnels.new; inside = view_inside result } }
+    ensures { followed 8 (listed tunnels.old) (reading (layer_of_type_layout kind) i.now)
+        ≡ record { tunnels = listed tunnels.new; inside = view_inside result } }
 {
     follow(layer_of_type(i, kind), tunnels, MAX_TUNNELS as u8)
 }
 
-/// Whether bytes may be a datagram of IPv4 that has no options, and holds a segment of TCP: both headers are there whole then.
+/// Returns whether `i` may be an IPv4 datagram without options that holds a TCP segment. Both
+/// headers are then in `i`.
 #[inline(always)]
 fn may_be_plain(i: &[u8]) -> bool {
     match i {
@@ -217,13 +232,15 @@ fn may_be_plain(i: &[u8]) -> bool {
     }
 }
 
-/// The datagram of IPv4 in front, if it is a plain one.
+/// Parses the IPv4 datagram at the front if it has no options and holds TCP.
 #[tactic(auto, using(crate::proofs::WalkLemmas::holds), unfolding(crate::specs::Walk::layer_of_type))]
 #[inline(always)]
 fn plain_ipv4(i: &[u8]) -> Option<Datagram>
-    ensures { IfSome result (λ datagram. followed 8 [] (reading (layer_of_type_layout 0x0800) i.now) ≡ record { tunnels = []; inside = Held (view_datagram datagram) }) }
+    ensures { IfSome result
+        (λ datagram. followed 8 [] (reading (layer_of_type_layout 0x0800) i.now)
+        ≡ record { tunnels = []; inside = Held (view_datagram datagram) }) }
 {
-    // (a datagram that is tested beforehand is read without a test for each field)
+    // (once this is tested, the compiler drops the length test for each field)
     if !may_be_plain(i) {
         return None;
     }
@@ -236,12 +253,15 @@ fn plain_ipv4(i: &[u8]) -> Option<Datagram>
     Some(datagram)
 }
 
-/// The datagram that the packet `i` holds, where it can be told at once, as of most packets: it is one of IPv4 without options, holds a segment
-/// of TCP, and comes behind a header of Ethernet in no tunnel. Where it is `None`, [`innermost_into`] tells. The tunnels are let go.
+/// Returns the datagram of the packet `i` by a fast path for most packets: TCP over IPv4 without
+/// options, on Ethernet and in no tunnel. For any other packet it returns `None`, and
+/// [`innermost_into`] has the answer. Both empty `tunnels`.
 #[tactic(auto, unfolding(crate::specs::Walk::packet_layer))]
 #[inline(always)]
 pub fn plain_segment<'a>(i: &'a [u8], link_type: u16, tunnels: &mut Tunnels) -> Option<Datagram<'a>>
-    ensures { IfSome result (λ datagram. unwrapped link_type i.now ≡ record { tunnels = listed tunnels.new; inside = Held (view_datagram datagram) }) }
+    ensures { IfSome result
+        (λ datagram. unwrapped link_type i.now
+        ≡ record { tunnels = listed tunnels.new; inside = Held (view_datagram datagram) }) }
 {
     tunnels.clear();
     if link_type != LINK_ETHERNET {
@@ -256,11 +276,13 @@ pub fn plain_segment<'a>(i: &'a [u8], link_type: u16, tunnels: &mut Tunnels) -> 
     plain_ipv4(i)
 }
 
-/// The same as [`innermost`], with the tunnels put in the place of others: for packet after packet.
+/// Returns the innermost datagram of the packet `i`, as [`innermost`] does, and replaces `tunnels`
+/// by its tunnels. One list serves for all packets.
 #[tactic(auto, using(crate::proofs::WalkLemmas::refused), unfolding(crate::specs::Walk::packet_layer))]
 #[inline]
 pub fn innermost_into<'a>(i: &'a [u8], link_type: u16, tunnels: &mut Tunnels) -> Inside<'a>
-    ensures { unwrapped link_type i.now ≡ record { tunnels = listed tunnels.new; inside = view_inside result } }
+    ensures { unwrapped link_type
+        i.now ≡ record { tunnels = listed tunnels.new; inside = view_inside result } }
 {
     tunnels.clear();
     let Ok((i, kind)) = parse_link(i, link_type) else {

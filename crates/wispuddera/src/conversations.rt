@@ -1,4 +1,5 @@
-//! Both sides together: what they say, and how the handshake ended. Conversations are `tls_stream`'s, and the events of DTLS are made by `dtls_stream`.
+//! The events of both sides, and how the handshake ended. Conversations come from `tls_stream`;
+//! `dtls_stream` makes the events of DTLS.
 
 pub use dtls_stream::{datagram_message, dtls_event, dtls_event_with};
 pub use tls_flow::{Direction, Flow, Kind, Outcome, Stop};

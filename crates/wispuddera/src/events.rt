@@ -1,4 +1,4 @@
-//! What one direction of TLS says: its messages, however they are cut. They are `tls_stream`'s.
+//! The events of one direction of TLS, however its messages are cut, from `tls_stream`.
 
 pub use tls_stream::{
     DEFAULT_LIMIT, Direction, Event, Fault, Next, Source, StreamView, join_pieces, laws,

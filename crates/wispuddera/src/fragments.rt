@@ -1,4 +1,4 @@
-//! Messages of DTLS from their fragments. They are `dtls_stream`'s.
+//! Messages of DTLS, reassembled from their fragments, from `dtls_stream`.
 
 pub use dtls_stream::{
     DEFAULT_LIMITS, EncryptedRecord, Event, Fragment, FragmentError, Fragments, Limits, Message,

@@ -1,26 +1,30 @@
-//! One crate to name: the public calls, types and layouts of Wispuddera's crates for TLS, DTLS and certificates. Nothing is defined here.
-//! `capture` and `segments`, which read captured packets and put TCP streams in order, stand apart and are named by themselves.
+//! Re-exports the public calls, types and layouts of Wispuddera's crates for TLS, DTLS and
+//! certificates, so that a program needs only one dependency. It defines nothing. `capture` and
+//! `segments`, which read captured packets and reassemble TCP streams, are separate and not
+//! included.
 //!
-//! | module | what it has |
+//! | module | content |
 //! |---|---|
 //! | `tls` | records and messages of TLS and DTLS, extensions, views, the writer, `ParseContext` |
-//! | `streams` | records and messages off the front of a stream that comes in pieces |
-//! | `events` | what one direction of TLS says: its messages, however they are cut |
-//! | `datagrams` | what one direction of DTLS says, from its datagrams |
-//! | `fragments` | messages of DTLS from their fragments |
-//! | `conversations` | both sides together: what they say, and how the handshake ended |
-//! | `detection` | whether bytes are TLS or DTLS, by what they begin with |
-//! | `places` | where the parts of a message stand in its bytes |
+//! | `streams` | records and messages from a stream that arrives in pieces |
+//! | `events` | the events of one direction of TLS, however its messages are cut |
+//! | `datagrams` | the events of one direction of DTLS, from its datagrams |
+//! | `fragments` | messages of DTLS, reassembled from their fragments |
+//! | `conversations` | the events of both sides, and how the handshake ended |
+//! | `detection` | whether bytes are TLS or DTLS, by how they begin |
+//! | `places` | offsets and lengths of a message's parts |
 //! | `flows` | how a handshake ended: full, resumed, TLS 1.3, broken off |
-//! | `certificates` | certificates of X.509, and their extensions |
-//! | `certificate_texts` | what certificates say as texts, and whether a host is one of their names |
-//! | `certificate_places` | where the fields of a certificate stand in its bytes |
+//! | `certificates` | X.509 certificates and their extensions |
+//! | `certificate_texts` | certificates printed as text, and whether they are for a host |
+//! | `certificate_places` | offsets and lengths of a certificate's fields |
 //!
-//! Their definitions stand under this crate's name, too: `Rattle.wispuddera.specs.Layout`, and where two crates have a file of
-//! one name, with the layer in front (`FlowGrammar`, `HandshakeInPlace`, `X509Name`).
+//! The definitions are under this crate's name too, such as `Rattle.wispuddera.specs.Layout`. If
+//! two crates have a file of the same name, the layer comes first (`FlowGrammar`,
+//! `HandshakeInPlace`, `X509Name`). Each promise is the contract of the call, in the crate that
+//! defines it.
 //!
-//! The other modules are the crates on which these stand. They are named here so that a program that names this crate alone has
-//! their impls too.
+//! The other modules are the crates below these. They are re-exported so that a program with this
+//! one dependency has their impls too.
 #![tactic(auto)]
 
 pub mod conversations;

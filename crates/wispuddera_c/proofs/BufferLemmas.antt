@@ -1,4 +1,4 @@
--- Bytes that are moved within a buffer.
+-- Moving bytes within a buffer.
 use Rattle.std.proofs.Common.{◌≡◌, ℕ, ◌+◌, ◌-◌, ◌≤◌, ◌++◌, [], length, take, drop, refl, sym, ◌∙◌, ap, arith, zero-add}
 use Rattle.std.specs.List.{between}
 use Rattle.std.proofs.Math.Seq.{paste}
@@ -22,7 +22,7 @@ pub front_off : (b : Bytes) (i j k : ℕ) → between (i + k) j b ≡ drop k (be
 front_off b i j k =
     between_is b (i + k) j ∙ sym (drop-drop k i (take j b)) ∙ ap (drop k) (sym (between_is b i j))
 
--- k bytes of s are put at the offset e: what stands in front of it, through it and behind it.
+-- k bytes of s are written at the offset e: the bytes before it, through it and after it.
 module _ (b s : Bytes) (e k : ℕ) (high : e ≤ length b) (few : k ≤ length s) where
   same_front : (j : ℕ) → j ≤ e → take j (paste b e s k) ≡ take j b
   same_front j low =
@@ -52,8 +52,10 @@ module _ (b s : Bytes) (e k : ℕ) (high : e ≤ length b) (few : k ≤ length s
       ∙ drop-drop (i - (e + k)) (e + k) b
       ∙ ap (λ n. drop n b) (sym all))
 
--- A fragment of n bytes behind the header of 5 at u is put at the end e of the part from p on.
-module _ (b : Bytes) (p e u end n : ℕ) (low : p ≤ e) (mid : e ≤ u) (whole : u + 5 + n ≤ end) (high : end ≤ length b) where
+-- A fragment of n bytes after the header of 5 at u is written at the end e of the part, which
+-- starts at p.
+module _ (b : Bytes) (p e u end n : ℕ) (low : p ≤ e) (mid : e ≤ u) (whole : u + 5 + n ≤ end)
+    (high : end ≤ length b) where
   abbrev source : Bytes
   source = drop (u + 5) b
 
@@ -75,7 +77,8 @@ module _ (b : Bytes) (p e u end n : ℕ) (low : p ≤ e) (mid : e ≤ u) (whole 
       ∙ ap (take n) (drop-drop 5 u b)
 
   pub joined_part : between p (e + n) joined ≡ between p e b ++ take n (drop 5 (between u end b))
-  joined_part = behind_put b source e n reaches enough p low ∙ ap (λ x. between p e b ++ x) (sym fragment_is)
+  joined_part = behind_put b source e n reaches enough p low
+      ∙ ap (λ x. between p e b ++ x) (sym fragment_is)
 
   pub joined_unread : between (u + 5 + n) end joined ≡ drop (5 + n) (between u end b)
   joined_unread =
@@ -83,8 +86,9 @@ module _ (b : Bytes) (p e u end n : ℕ) (low : p ≤ e) (mid : e ≤ u) (whole 
       after_put b source e n reaches enough (u + 5 + n) end (omega (arith, mid))
       ∙ ap (λ k. between k end b) same ∙ front_off b u end (5 + n)
 
--- What is held is moved to the front.
-module _ (b : Bytes) (p e u end : ℕ) (low : p ≤ e) (mid : e ≤ u) (top : u ≤ end) (high : end ≤ length b) where
+-- The bytes in use are moved to the beginning.
+module _ (b : Bytes) (p e u end : ℕ) (low : p ≤ e) (mid : e ≤ u) (top : u ≤ end)
+    (high : end ≤ length b) where
   abbrev first_moved : Bytes
   first_moved = paste b 0 (drop p b) (e - p)
 
@@ -110,18 +114,21 @@ module _ (b : Bytes) (p e u end : ℕ) (low : p ≤ e) (mid : e ≤ u) (top : u 
 
   pub moved_part : between 0 (e - p) both_moved ≡ between p e b
   moved_part =
-      before_put first_moved (drop u first_moved) (e - p) (end - u) part_reaches unread_there 0 (e - p) (omega arith)
+      before_put first_moved (drop u first_moved) (e - p) (end - u) part_reaches unread_there 0
+      (e - p) (omega arith)
       ∙ between_from_start first_moved (e - p) ∙ first_part
 
   pub moved_unread : between (e - p) (e - p + (end - u)) both_moved ≡ between u end b
   moved_unread =
-      behind_put first_moved (drop u first_moved) (e - p) (end - u) part_reaches unread_there (e - p) (omega arith)
+      behind_put first_moved (drop u first_moved) (e - p) (end - u) part_reaches unread_there
+      (e - p) (omega arith)
       ∙ ap (λ x. x ++ take (end - u) (drop u first_moved)) (between_none first_moved (e - p))
       ∙ after_put b (drop p b) 0 (e - p) (omega arith) part_there u end (omega (arith, low, mid))
 
--- A piece is put behind what is held.
+-- A piece is appended.
 module _ (b piece : Bytes) (end n : ℕ) (all : n ≡ length piece) (high : end ≤ length b) where
-  pub fed_unread : (u : ℕ) → u ≤ end → between u (end + n) (paste b end piece n) ≡ between u end b ++ piece
+  pub fed_unread : (u : ℕ) → u ≤ end
+      → between u (end + n) (paste b end piece n) ≡ between u end b ++ piece
   fed_unread u top =
       behind_put b piece end n high (omega (arith, all)) u top
       ∙ ap (λ x. between u end b ++ x) (take_all n piece (omega (arith, all)))
@@ -129,14 +136,22 @@ module _ (b piece : Bytes) (end n : ℕ) (all : n ≡ length piece) (high : end 
   pub fed_part : (p e : ℕ) → e ≤ end → between p e (paste b end piece n) ≡ between p e b
   fed_part p e low = before_put b piece end n high (omega (arith, all)) p e low
 
--- Bytes in front of those between two offsets.
-module _ (b y : Bytes) (p e : ℕ) (front : take (length y) (between p e b) ≡ y) (high : e ≤ length b) where
+-- Bytes at the front of those between two offsets.
+module _ (b y : Bytes) (p e : ℕ) (front : take (length y) (between p e b) ≡ y)
+    (high : e ≤ length b) where
   pub front_fits : length y ≤ e - p
-  front_fits = omega (arith, ap length front, length-take (length y) (between p e b), length-between b p e high)
+  front_fits =
+      omega (
+        arith,
+        ap length front,
+        length-take (length y) (between p e b),
+        length-between b p e high,
+      )
 
   pub front_stands : take (length y) (drop p b) ≡ y
   front_stands = sym (take-take (length y) (e - p) (drop p b) front_fits) ∙ front
 
--- How far what stands between two offsets reaches.
-pub reaches_behind : (b : Bytes) (u end n : ℕ) → end ≤ length b → 5 + n ≤ length (between u end b) → u + 5 + n ≤ end
+-- How far the bytes between two offsets reach.
+pub reaches_behind : (b : Bytes) (u end n : ℕ) → end ≤ length b → 5 + n ≤ length (between u end b)
+    → u + 5 + n ≤ end
 reaches_behind b u end n high whole = omega (arith, whole, length-between b u end high)

@@ -1,4 +1,4 @@
--- How a conversation stands behind one more event.
+-- The flow after one more event.
 use Rattle.std.proofs.Common.{
   ◌≡◌,
   ℕ,
@@ -26,7 +26,7 @@ use Rattle.tls_flow.specs.declared.state.Outcome.{Outcome}
 use Rattle.tls_flow.specs.declared.state.Outcome.TheVariants as outcome
 use Rattle.tls_flow.specs.declared.state.State.{State}
 
--- Its stop is known by its state.
+-- Its state decides whether it has a stop.
 abbrev pub flow_at : State → ℕ → FlowStop → Followed
 flow_at q n s = record {
   state = q;
@@ -47,13 +47,15 @@ abbrev event_stop : Event → ℕ → FlowStop
 event_stop e n = record { event = e; place = n }
 
 -- By whether the event stops it.
-stops : (failed stopped : Bool) (x a b : FlowStop) (z : Option FlowStop) → is_some (cond failed (Some x) None) ≡ stopped
+stops : (failed stopped : Bool) (x a b : FlowStop) (z : Option FlowStop)
+    → is_some (cond failed (Some x) None) ≡ stopped
     → z ≡ None → cond failed (Some (cond stopped a b)) None ≡ cond failed (Some a) z
 stops true true x a b z is none = refl
 stops true false x a b z is none = absurd cc
 stops false stopped x a b z is none = sym none
 
--- A flow is followed from its state alone: it stands there too, and is stopped just where that one is.
+-- A flow that goes on from a state alone has the same state, and stops exactly when the whole one
+-- does.
 module _ (q : State) (n : ℕ) (s : FlowStop) (e : Event) where
   abbrev from_state : Bool → Followed
   from_state t = follow_by t (record { state = q; events = 0; stop = None }) e
@@ -61,12 +63,14 @@ module _ (q : State) (n : ℕ) (s : FlowStop) (e : Event) where
   abbrev from_flow : Bool → Followed
   from_flow t = follow_by t (flow_at q n s) e
 
-  by_waiting : (t stopped : Bool) → is_waiting (outcome_at q) ≡ t → is_some (from_state t).stop ≡ stopped
+  by_waiting : (t stopped : Bool) → is_waiting (outcome_at q) ≡ t
+      → is_some (from_state t).stop ≡ stopped
       → flow_at (from_state t).state (counted n) (cond stopped (event_stop e n) s) ≡ from_flow t
   by_waiting true stopped under_way is =
       let next : State = step q e.symbol in
       ap (λ o. record { state = next; events = counted n; stop = o })
-      (stops (is_failed (outcome_at next)) stopped (event_stop e 0) (event_stop e n) s (flow_at q n s).stop is
+      (stops (is_failed (outcome_at next)) stopped (event_stop e 0) (event_stop e n) s
+      (flow_at q n s).stop is
       (ap (λ t. cond t (Some s) None) (not_failed (outcome_at q) under_way)))
   by_waiting false stopped ended is =
       ap (λ b. flow_at q (counted n) (cond b (event_stop e n) s)) (sym is)

@@ -1,4 +1,4 @@
--- A list behind its length is found where its bytes stand.
+-- A list after its length is found at its bytes' place.
 use Rattle.std.proofs.Common.{◌≡◌, ℕ, Result, Ok, Err, refl, sym, subst, ◌∙◌, ap}
 use Rattle.layouts.specs.Bytes.{Bytes}
 use Rattle.layouts.specs.Items.{items_in}
@@ -9,7 +9,8 @@ use Rattle.wispuddera_c.specs.declared.place.Place.{Place}
 use Rattle.wispuddera_c.specs.Place.{StandsAt, ItemsStandAt}
 use Rattle.wispuddera_c.specs.Status.{IsAnswered}
 
-then_then : {X Y Z : Type 0} (a : Result X Refusal) (f : X → Result Y Refusal) (g : Y → Result Z Refusal)
+then_then : {X Y Z : Type 0} (a : Result X Refusal) (f : X → Result Y Refusal)
+    (g : Y → Result Z Refusal)
     → (a and_then λ x. f x and_then g) ≡ ((a and_then f) and_then g)
 then_then (Ok x) f g = refl
 then_then (Err e) f g = refl

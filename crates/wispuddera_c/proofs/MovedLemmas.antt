@@ -1,4 +1,4 @@
--- What a buffer holds of a side, where bytes are moved in it.
+-- The stream in a buffer, when bytes are moved in it.
 use Rattle.std.proofs.Common.{◌≡◌, ℕ, ◌+◌, ◌-◌, ◌≤◌, ◌==◌, ◌||◌, length, drop, refl, sym, subst, ◌∙◌, ap, ap₂, arith}
 use Rattle.std.specs.Prelude.{slice_index}
 use Rattle.std.specs.Borrow.{Bor}
@@ -30,7 +30,8 @@ both e f = ap₂ (λ x y. record { part = x; unread = y }) e f
 pub joined_stream : (k : Known) (b b' : Bytes) (s : Side) (kind n : ℕ) → IsWithin (length b) s
     → s.unread + 5 + n ≤ s.end
     → b' ≡ paste b s.part_end (drop (s.unread + 5) b) (s.unread + 5 + n - (s.unread + 5))
-    → stream_of k b' (record s { part_end = s.part_end + n; unread = s.unread + 5 + n; kind = kind })
+    → stream_of k b'
+    (record s { part_end = s.part_end + n; unread = s.unread + 5 + n; kind = kind })
     ≡ joined_to (stream_of k b s) kind n
 joined_stream k b b' s kind n within whole is =
     let count : s.unread + 5 + n - (s.unread + 5) ≡ n = omega arith in
@@ -49,7 +50,7 @@ joined_stream k b b' s kind n within whole is =
     (ap (between (s.unread + 5 + n) s.end) moved
     ∙ joined_unread b s.part s.part_end s.unread s.end n within.0 within.1 whole within.3))
 
--- What is held is moved to the front.
+-- The bytes in use are moved to the beginning.
 pub moved_stream : (k : Known) (b c d : Bytes) (s : Side) → IsWithin (length b) s
     → c ≡ paste b 0 (drop s.part b) (s.part_end - s.part)
     → d ≡ paste c (s.part_end - s.part) (drop s.unread c) (s.end - s.unread)
@@ -63,7 +64,8 @@ pub moved_stream : (k : Known) (b c d : Bytes) (s : Side) → IsWithin (length b
     ≡ stream_of k b s
 moved_stream k b c d s within first second =
     let n = s.part_end - s.part in
-    let all : d ≡ paste (paste b 0 (drop s.part b) n) n (drop s.unread (paste b 0 (drop s.part b) n)) (s.end - s.unread) =
+    let all : d ≡ paste (paste b 0 (drop s.part b) n) n
+    (drop s.unread (paste b 0 (drop s.part b) n)) (s.end - s.unread) =
     second ∙ ap (λ x. paste x n (drop s.unread x) (s.end - s.unread)) first in
     ap (λ h. record {
       limit = k.limit;
@@ -73,11 +75,12 @@ moved_stream k b c d s within first second =
       held = h;
     })
     (both
-    (ap (between 0 n) all ∙ moved_part b s.part s.part_end s.unread s.end within.0 within.1 within.2 within.3)
+    (ap (between 0 n) all ∙ moved_part b s.part s.part_end s.unread s.end within.0 within.1
+    within.2 within.3)
     (ap (between n (n + (s.end - s.unread))) all
     ∙ moved_unread b s.part s.part_end s.unread s.end within.0 within.1 within.2 within.3))
 
--- A piece is put behind it.
+-- A piece is appended.
 pub fed_stream : (k : Known) (b b' piece : Bytes) (s : Side) → IsWithin (length b) s
     → b' ≡ paste b s.end piece (length piece)
     → stream_of k b' (record s { end = s.end + length piece }) ≡ fed (stream_of k b s) piece
@@ -96,9 +99,11 @@ fed_stream k b b' piece s within is =
     (ap (between s.unread (s.end + length piece)) is
     ∙ fed_unread b piece s.end (length piece) refl within.3 s.unread within.2))
 
--- What is told is taken off.
-pub message_off : (k : Known) (b : Bytes) (s : Side) (from : rust.Source) (m : Bor Bytes) → from ≡ source.Message m
-    → stream_of k b (record s { part = s.part + length m.now }) ≡ behind (stream_of k b s) (view_source from)
+-- A returned event is removed.
+pub message_off : (k : Known) (b : Bytes) (s : Side) (from : rust.Source) (m : Bor Bytes)
+    → from ≡ source.Message m
+    → stream_of k b (record s { part = s.part + length m.now }) ≡ behind (stream_of k b s)
+    (view_source from)
 message_off k b s from m is =
     ap (λ x. record {
       limit = k.limit;
@@ -110,7 +115,8 @@ message_off k b s from m is =
     (front_off b s.part s.part_end (length m.now))
     ∙ ap (λ x. behind (stream_of k b s) (view_source x)) (sym is)
 
-pub record_off : (k : Known) (b : Bytes) (s : Side) (from : rust.Source) (r : Bor Bytes) → from ≡ source.Record r
+pub record_off : (k : Known) (b : Bytes) (s : Side) (from : rust.Source) (r : Bor Bytes)
+    → from ≡ source.Record r
     → stream_of k b
     (record s {
       unread = s.unread + length r.now;

@@ -1,4 +1,4 @@
--- Places in C's numbers.
+-- Places as C structs.
 use Rattle.std.proofs.Common.{
   ◌≡◌,
   ℕ,
@@ -38,8 +38,9 @@ use Rattle.wispuddera_c.specs.Place.{Follows, ItemsStandAt, place_of}
 nothing : (b : Bytes) → Stands b (record { offset = 0; length = 0 }) []
 nothing b = record { is = refl; within = omega arith }
 
--- what may be there, or no bytes
-pub held_some : (b : Bytes) (p q : Place) (x : Option Bytes) → q ≡ p → MayStand b (Some p) x → Stands b q (held x)
+-- an optional part, or no bytes
+pub held_some : (b : Bytes) (p q : Place) (x : Option Bytes) → q ≡ p → MayStand b (Some p) x
+    → Stands b q (held x)
 held_some b p q (Some x) same s = subst (λ z. Stands b z x) (sym same) s
 held_some b p q None same s = absurd s
 
@@ -48,8 +49,9 @@ pub held_none : (b : Bytes) (x : Option Bytes) → MayStand b None x
 held_none b None s = nothing b
 held_none b (Some x) s = absurd s
 
--- the items of bytes that stand at a place
-pub items_stand : {A : Type 0} (l : Layout A) (b : Bytes) (p : CPlace) (q : Place) (x : Bytes) → place_of p ≡ q
+-- the items of the bytes at a place
+pub items_stand : {A : Type 0} (l : Layout A) (b : Bytes) (p : CPlace) (q : Place) (x : Bytes)
+    → place_of p ≡ q
     → Stands b q x → ItemsStandAt l b p (items_in l x)
 items_stand l b p q x same s =
     let there : Stands b (place_of p) x = subst (λ z. Stands b z x) (sym same) s in
@@ -59,7 +61,8 @@ pub some_of_map : {A B : Type 0} (f : A → B) (x : Option A) → is_some x ≡ 
 some_of_map f (Some y) = refl
 some_of_map f None = refl
 
-pub cut_some : (b : Bytes) (p q : Place) (x : Option (Bor (List ℕ))) → bytes_at b q ≡ bytes_at b p → Lies b q
+pub cut_some : (b : Bytes) (p q : Place) (x : Option (Bor (List ℕ)))
+    → bytes_at b q ≡ bytes_at b p → Lies b q
     → MayStandAt b (Some p) x → Stands b q (held (option_map (λ y. y.now) x))
 cut_some b p q (Some x) same lies s = record { is = same ∙ s; within = lies }
 cut_some b p q None same lies s = absurd s
@@ -80,4 +83,5 @@ pub ends_from : (b : Bytes) (offset : ℕ) → EndsWith b (drop offset b)
 ends_from b offset = (take offset b, sym (take-append-drop offset b))
 
 pub rest_follows : (b r : Bytes) → EndsWith b r → Follows b (length b - length r) r
-rest_follows b r e = let end : IsEnd b r = is_end b r e in record { is = end.is; within = omega arith }
+rest_follows b r e = let end : IsEnd b r = is_end b r e in
+    record { is = end.is; within = omega arith }

@@ -1,4 +1,4 @@
--- One side's stream, of which a buffer holds what isn't handed out yet.
+-- One side's stream, in a buffer.
 use Rattle.std.proofs.Common.{
   ◌≡◌,
   ℕ,
@@ -105,7 +105,7 @@ use Rattle.wispuddera_c.specs.Side.{IsHeardAs, StandInFront, Waits, bytes_of, ea
 use Rattle.wispuddera_c.specs.declared.side.Known.{Known}
 use Rattle.wispuddera_c.specs.declared.side.Side.{Side}
 
--- The event in front, and the stream behind it.
+-- The next event, and the stream after it.
 pub source_first : (d : Stream) (v : Saying) (s : Source) → Some (v, s) ≡ first_source d
     → first d ≡ Some (v, behind d s)
 source_first d v s is =
@@ -119,15 +119,17 @@ source_first d v s is =
         let v_is : v ≡ x.0 = cc in
         at ∙ ap₂ (λ v d. Some (v, d)) (sym v_is) (sym off.1)
 
--- Where nothing stands in front, nothing is taken.
+-- If there is no next event, nothing is removed.
 pub source_none_first : (d : Stream) → None ≡ first_source d → first d ≡ None
-source_none_first d is = go (first d) refl (ap (option_map (λ (x : Saying × Source). x.0)) is ∙ source_front d)
+source_none_first d is =
+    go (first d) refl (ap (option_map (λ (x : Saying × Source). x.0)) is ∙ source_front d)
   where
-    go : (a : Option (Saying × Stream)) → first d ≡ a → None ≡ option_map (λ x. x.0) a → first d ≡ None
+    go : (a : Option (Saying × Stream)) → first d ≡ a → None ≡ option_map (λ x. x.0) a
+        → first d ≡ None
     go None at same = at
     go (Some x) at same = absurd cc
 
--- A frame in front stands there.
+-- The first frame is at the front.
 frame_stands : (f : Shape) (b y : Bytes) → Some y ≡ frame_of (front f b) → take (length y) b ≡ y
 frame_stands f b y is =
     let x = some_front f b y (sym is) in
@@ -142,20 +144,22 @@ alert_length b y is =
     let at = first_in (up_to alerts 0) b x.0 x.1 in
     ap length (sym x.2) ∙ ap length at.frame_is ∙ length-take-le 2 b at.is_whole
 
--- What a message says by its bytes.
+-- A message is the event of its bytes.
 message_said : (limit kind : ℕ) (b y : Bytes) → Some y ≡ frame_of (front (messages_of limit kind) b)
     → IsSaidBy (event_of kind y) y
 message_said limit kind b y is = go (kind == 21) is
   where
     go : (t : Bool) → Some y ≡ frame_of (front (cond t (up_to alerts 0) (message_frame limit)) b)
-        → IsSaidBy (cond t (Alert (record { level = slice_index y 0; description = slice_index y 1 })) (Handshake y)) y
+        → IsSaidBy (cond t
+        (Alert (record { level = slice_index y 0; description = slice_index y 1 }))
+        (Handshake y)) y
     go true at = (alert_length b y at, refl, refl)
     go false at =
         let x = some_front (message_frame limit) b y (sym at) in
         let long : 4 ≤ length x.0.0 = has_header (message_frame limit) b x.0 x.1 in
         (subst (λ z. 4 ≤ length z) x.2 long, refl)
 
--- What a record says by itself, by its bytes.
+-- A record is the event of its bytes, if it is one by itself.
 abbrev Told : Item → Bytes → Type 0
 Told (Alone v) r = IsSaidBy v r
 Told (Fragment k f) r = Unit {0}
@@ -163,7 +167,8 @@ Told (Broken k) r = Unit {0}
 
 plain_told : (changes is_right is_data beats : Bool) (kind : ℕ) (r : Bytes) → 5 ≤ length r
     → Told (cond changes (cond is_right (Alone ChangeCipherSpec) (Broken Verify))
-    (cond is_data (Alone (ApplicationData (drop 5 r))) (cond beats (Alone (Heartbeat (drop 5 r))) (Fragment kind (drop 5 r))))) r
+    (cond is_data (Alone (ApplicationData (drop 5 r)))
+    (cond beats (Alone (Heartbeat (drop 5 r))) (Fragment kind (drop 5 r))))) r
 plain_told true true is_data beats kind r long = long
 plain_told true false is_data beats kind r long = tt
 plain_told false is_right true beats kind r long = (long, refl)
@@ -175,11 +180,14 @@ read_told : (refusal : Option ErrorKind) (sealed : Bool) (r : Bytes) → 5 ≤ l
 read_told (Some k) sealed r long = tt
 read_told None true r long = (long, refl)
 read_told None false r long =
-    plain_told (content_type r == 20) (is_change (fragment r)) (content_type r == 23) (content_type r == 24)
+    plain_told (content_type r == 20) (is_change (fragment r)) (content_type r == 23)
+    (content_type r == 24)
     (content_type r) r long
 
-record_said : (s : Standing) (r : Bytes) (v : Saying) → 5 ≤ length r → item_of s r ≡ Alone v → IsSaidBy v r
-record_said s r v long is = subst (λ i. Told i r) is (read_told (refused s r) (is_sealed s r) r long)
+record_said : (s : Standing) (r : Bytes) (v : Saying) → 5 ≤ length r → item_of s r ≡ Alone v
+    → IsSaidBy v r
+record_said s r v long is =
+    subst (λ i. Told i r) is (read_told (refused s r) (is_sealed s r) r long)
 
 abbrev with_source : Saying × Bytes → Saying × Source
 with_source y = (y.0, OfRecord y.1)
@@ -187,12 +195,13 @@ with_source y = (y.0, OfRecord y.1)
 abbrev with_bytes : Bytes → Saying → Saying × Bytes
 with_bytes r e = (e, r)
 
--- The event is said by its bytes, and these stand in front.
+-- The event is that of its bytes, which are at the front.
 pub record IsSource (d : Stream) (v : Saying) (s : Source) : Type 0 where
   pub said : IsSaidBy v (bytes_of s)
   pub stands : StandInFront d.held s
 
-record_source : (d : Stream) (v : Saying) (s : Source) (x : Bytes × Bytes) → front wide_record d.held.unread ≡ Some x
+record_source : (d : Stream) (v : Saying) (s : Source) (x : Bytes × Bytes)
+    → front wide_record d.held.unread ≡ Some x
     → (b : Bytes) (i : Item) → item_of (standing d) x.0 ≡ i
     → option_map with_source (option_map (with_bytes x.0) (alone b i)) ≡ Some (v, s)
     → IsSource d v s
@@ -213,10 +222,12 @@ alone_source : (d : Stream) (v : Saying) (s : Source) (a : Option (Bytes × Byte
     → front wide_record d.held.unread ≡ a
     → option_map with_source (alone_in d a) ≡ Some (v, s) → IsSource d v s
 alone_source d v s None at g = absurd cc
-alone_source d v s (Some x) at g = record_source d v s x at d.held.part (item_of (standing d) x.0) refl g
+alone_source d v s (Some x) at g =
+    record_source d v s x at d.held.part (item_of (standing d) x.0) refl g
 
 frame_source : (d : Stream) (v : Saying) (s : Source) (a : Option Bytes)
-    → frame_of (front (messages_of d.limit d.kind) d.held.part) ≡ a → source_by d a ≡ Some (v, s) → IsSource d v s
+    → frame_of (front (messages_of d.limit d.kind) d.held.part) ≡ a → source_by d a ≡ Some (v, s)
+    → IsSource d v s
 frame_source d v s (Some y) at g =
     let both : ◌≡◌ {A = Saying × Source} (event_of d.kind y, OfMessage y) (v, s) = cc in
     subst (λ (p : Saying × Source). IsSource d p.0 p.1) both
@@ -226,23 +237,31 @@ frame_source d v s (Some y) at g =
     })
 frame_source d v s None at g = alone_source d v s (front wide_record d.held.unread) refl g
 
-pub source_is : (d : Stream) (v : Saying) (s : Source) → Some (v, s) ≡ first_source d → IsSource d v s
+pub source_is : (d : Stream) (v : Saying) (s : Source) → Some (v, s) ≡ first_source d
+    → IsSource d v s
 source_is d v s is =
     frame_source d v s (frame_of (front (messages_of d.limit d.kind) d.held.part)) refl (sym is)
 
--- What a side says, where no fault ended it.
+-- What a side says, if no fault ended it.
 says_on : (k : Known) (b : Bytes) (s : Side) (t : Bytes) → s.is_over ≡ false
     → says (ear_of k b s) t ≡ events (fed (stream_of k b s) t)
 says_on k b s t speaks =
-    ap (λ o. says (record { direction = record { stream = stream_of k b s; fault = None }; standing = standing_by o }) t)
+    ap (λ o. says
+    (record {
+      direction = record { stream = stream_of k b s; fault = None };
+      standing =
+          standing_by o;
+    }) t)
     speaks
 
 fed_nothing : (d : Stream) → events (fed d []) ≡ events d
 fed_nothing d =
-    ap (λ u. events (record d { held = record { part = d.held.part; unread = u } })) (append-nil d.held.unread)
+    ap (λ u. events (record d { held = record { part = d.held.part; unread = u } }))
+    (append-nil d.held.unread)
 
 -- A side that was made ready.
-module _ (k : Known) (b b' : Bytes) (s s' : Side) (speaks : s.is_over ≡ false) (over : s'.is_over ≡ s.is_over)
+module _ (k : Known) (b b' : Bytes) (s s' : Side) (speaks : s.is_over ≡ false)
+    (over : s'.is_over ≡ s.is_over)
     (same : SaysTheSame (stream_of k b' s') (stream_of k b s)) where
   said_before : (t : Bytes) → says (ear_of k b s) t ≡ events (fed (stream_of k b' s') t)
   said_before t = says_on k b s t speaks ∙ sym (same t)
@@ -263,42 +282,56 @@ module _ (k : Known) (b b' : Bytes) (s s' : Side) (speaks : s.is_over ≡ false)
     same = λ t. said_before t ∙ sym (says_on k b' s' t (over ∙ speaks));
   }
 
--- A further piece of a side.
+-- Another piece of a side.
 pub fed_twice : (d : Stream) (p t : Bytes) → events (fed (fed d p) t) ≡ events (fed d (p ++ t))
 fed_twice d p t =
-    ap (λ u. events (record d { held = record { part = d.held.part; unread = u } })) (append_assoc d.held.unread p t)
+    ap (λ u. events (record d { held = record { part = d.held.part; unread = u } }))
+    (append_assoc d.held.unread p t)
 
-pub fed_is : (k : Known) (b b' : Bytes) (s s' : Side) (p : Bytes) → s.is_over ≡ false → s'.is_over ≡ s.is_over
+pub fed_is : (k : Known) (b b' : Bytes) (s s' : Side) (p : Bytes) → s.is_over ≡ false
+    → s'.is_over ≡ s.is_over
     → stream_of k b' s' ≡ fed (stream_of k b s) p → IsFed (ear_of k b s) p (ear_of k b' s')
 fed_is k b b' s s' p speaks over is = λ t.
     says_on k b s (p ++ t) speaks ∙ sym (fed_twice (stream_of k b s) p t)
     ∙ ap (λ d. events (fed d t)) (sym is) ∙ sym (says_on k b' s' t (over ∙ speaks))
 
-pub fed_over : (k : Known) (b : Bytes) (s : Side) (p : Bytes) → s.is_over ≡ true → IsFed (ear_of k b s) p (ear_of k b s)
+pub fed_over : (k : Known) (b : Bytes) (s : Side) (p : Bytes) → s.is_over ≡ true
+    → IsFed (ear_of k b s) p (ear_of k b s)
 fed_over k b s p ended = λ t.
     let silent : (u : Bytes) → says (ear_of k b s) u ≡ [] = λ u.
-    ap (λ o. says (record { direction = record { stream = stream_of k b s; fault = None }; standing = standing_by o }) u)
+    ap (λ o. says
+    (record {
+      direction = record { stream = stream_of k b s; fault = None };
+      standing =
+          standing_by o;
+    }) u)
     ended in
     silent (p ++ t) ∙ sym (silent t)
 
--- A fragment is joined as it is to be.
-pub joins_next : (k : Known) (b b' : Bytes) (s s' : Side) (d : Stream) (kind n : ℕ) → d ≡ stream_of k b s
+-- A fragment is joined as required.
+pub joins_next : (k : Known) (b b' : Bytes) (s s' : Side) (d : Stream) (kind n : ℕ)
+    → d ≡ stream_of k b s
     → IsNext d (next.Joins kind n)
     → stream_of k b' s' ≡ joined_to (stream_of k b s) kind n
     → (length (held_in b' s').unread < length (held_in b s).unread)
     × SaysTheSame (stream_of k b' s') (stream_of k b s)
 joins_next k b b' s s' d kind n view is joined =
-    let at : IsNext (stream_of k b s) (next.Joins kind n) = subst (λ d. IsNext d (next.Joins kind n)) view is in
-    let left : (held_in b' s').unread ≡ drop (5 + n) (held_in b s).unread = ap (λ (d : Stream). d.held.unread) joined in
+    let at : IsNext (stream_of k b s) (next.Joins kind n) =
+    subst (λ d. IsNext d (next.Joins kind n)) view is in
+    let left : (held_in b' s').unread ≡ drop (5 + n) (held_in b s).unread =
+    ap (λ (d : Stream). d.held.unread) joined in
     let enough : 5 + n ≤ length (held_in b s).unread = at.0 in (
       omega (arith, ap length left, length-drop (5 + n) (held_in b s).unread, enough),
       λ t. ap (λ d. events (fed d t)) joined ∙ at.1 t,
     )
 
--- What was taken off a side that was made ready is heard of it.
-pub some_heard : (side : Direction) (k : Known) (b b' : Bytes) (s s' n : Side) (r : Option Heard) → s.is_over ≡ false
-    → s'.is_over ≡ s.is_over → SaysTheSame (stream_of k b' s') (stream_of k b s) → n.is_over ≡ s'.is_over
-    → IfSome r (λ h. (v : Saying) × (first (stream_of k b' s') ≡ Some (v, stream_of k b' n)) × Shows side b' h v)
+-- What was removed from a side that was made ready is what it said.
+pub some_heard : (side : Direction) (k : Known) (b b' : Bytes) (s s' n : Side) (r : Option Heard)
+    → s.is_over ≡ false
+    → s'.is_over ≡ s.is_over → SaysTheSame (stream_of k b' s') (stream_of k b s)
+    → n.is_over ≡ s'.is_over
+    → IfSome r (λ h. (v : Saying) × (first (stream_of k b' s') ≡ Some (v, stream_of k b' n))
+    × Shows side b' h v)
     → IfSome r (λ h. IsHeardAs side k b s b' n h)
 some_heard side k b b' s s' n None speaks over same still is = is
 some_heard side k b b' s s' n (Some h) speaks over same still is =

@@ -1,4 +1,4 @@
--- What a buffer holds.
+-- The bytes in a buffer.
 use Rattle.std.proofs.Common.{◌≡◌, ◌-◌, ◌+◌, ◌≤◌, ◌++◌, ℕ, length, drop, take, subst, ◌∙◌, ap, ap₂, arith}
 use Rattle.std.proofs.Math.Seq.{paste}
 use Rattle.std.proofs.lemmas.List.{take_all, length-take-le, length-drop}
@@ -18,8 +18,9 @@ rest_stands b r e =
       within = let fits : length r ≤ length b = end.fits in omega (arith, fits);
     }
 
--- a bytes from the offset o on are copied to the front, and n of the piece behind them
-pub fed_stands : (b moved new piece : Bytes) (o a n : ℕ) → o + a ≤ length b → n ≤ length piece → a + n ≤ length b
+-- a bytes from the offset o on are copied to the beginning, and n of the piece after them
+pub fed_stands : (b moved new piece : Bytes) (o a n : ℕ) → o + a ≤ length b → n ≤ length piece
+    → a + n ≤ length b
     → moved ≡ paste b 0 (drop o b) a → new ≡ paste moved a (take n piece) n
     → Stands new (record { offset = 0; length = a + n }) (take a (drop o b) ++ take n piece)
 fed_stands b moved new piece o a n lies short fits em en =
@@ -34,7 +35,8 @@ fed_stands b moved new piece o a n lies short fits em en =
     (take-paste b 0 (drop o b) a (omega arith) behind) in
     let within : a ≤ length moved = omega (arith, same, fits) in
     let all : length new ≡ length moved =
-    ap length en ∙ length-paste moved a (take n piece) n (omega (arith, same, fits)) (omega (arith, size)) in
+    ap length en ∙ length-paste moved a (take n piece) n (omega (arith, same, fits))
+    (omega (arith, size)) in
     record {
       is = ap (take (a + n)) en ∙ take-paste moved a (take n piece) n within (omega (arith, size))
           ∙ ap₂ ◌++◌ front (take_all n (take n piece) (omega (arith, size)));

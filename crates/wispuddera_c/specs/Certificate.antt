@@ -1,4 +1,4 @@
--- Certificates in C's numbers (RFC 5280).
+-- Certificates as C structs (RFC 5280).
 use Rattle.std.specs.Prelude.{◌≡◌, ℕ, List, Result, Ok, Err}
 use Rattle.std.specs.Borrow.{Bor}
 use Rattle.std.specs.Option.{option_map}
@@ -20,7 +20,7 @@ use Rattle.wispuddera_c.specs.declared.certificate.X509Extension.{X509Extension}
 use Rattle.wispuddera_c.specs.declared.part.Part.{Part}
 use Rattle.wispuddera_c.specs.Place.{StandsAt, ItemsStandAt, Follows, place_of}
 
--- Which key it is, and how many bits the modulus of one of RSA has; 0 where it is refused.
+-- The kind of a key, and the bit length of an RSA key's modulus; 0 if the key is refused.
 abbrev pub IsKey : Result PublicKey Refusal → ℕ → ℕ → Type 0
 IsKey (Ok (public.Rsa n)) kind bits = (kind ≡ 1) × (bits ≡ n)
 IsKey (Ok (public.Ec curve)) kind bits = (kind ≡ 2) × (bits ≡ 0)
@@ -29,25 +29,29 @@ IsKey (Ok public.Ed448) kind bits = (kind ≡ 4) × (bits ≡ 0)
 IsKey (Ok (public.Other algorithm)) kind bits = (kind ≡ 5) × (bits ≡ 0)
 IsKey (Err e) kind bits = (kind ≡ 0) × (bits ≡ 0)
 
--- What the library told of a key.
+-- The library's answer for a key.
 abbrev pub KeyTold : Type 0
 KeyTold = Result LentPublicKey (Failed (Error (Bor (List ℕ))))
 
--- The numbers tell that.
+-- The numbers are those of this answer.
 abbrev pub TellsKey : KeyTold → ℕ → ℕ → Type 0
-TellsKey found kind bits = (a : Result PublicKey Refusal) → Tells view_public_key a found → IsKey a kind bits
+TellsKey found kind bits = (a : Result PublicKey Refusal) → Tells view_public_key a found
+    → IsKey a kind bits
 
--- The numbers show the certificate v in b, and r behind it.
+-- The struct shows the certificate v in b, and that r follows it.
 pub record ShowsX509 (b : Bytes) (c : X509) (v : Certificate) (r : Bytes) : Type 0 where
   pub signed_bytes : StandsAt b c.signed_bytes v.signed_bytes
   pub serial_number : StandsAt b c.serial_number v.tbs_certificate.first.serial_number
   pub signature_algorithm : StandsAt b c.signature_algorithm v.signature_algorithm.algorithm
   pub issuer : NameStands b (place_of c.issuer) v.tbs_certificate.names.issuer
   pub subject : NameStands b (place_of c.subject) v.tbs_certificate.names.subject
-  pub key_algorithm : StandsAt b c.key_algorithm v.tbs_certificate.names.subject_public_key_info.algorithm.algorithm
+  pub key_algorithm : StandsAt b c.key_algorithm
+      v.tbs_certificate.names.subject_public_key_info.algorithm.algorithm
   pub key_parameters : StandsAt b c.key_parameters
-      (held (option_map (λ e. e.content) v.tbs_certificate.names.subject_public_key_info.algorithm.parameters))
-  pub public_key : StandsAt b c.public_key v.tbs_certificate.names.subject_public_key_info.subject_public_key.bytes
+      (held (option_map (λ e. e.content)
+      v.tbs_certificate.names.subject_public_key_info.algorithm.parameters))
+  pub public_key : StandsAt b c.public_key
+      v.tbs_certificate.names.subject_public_key_info.subject_public_key.bytes
   pub extensions : ItemsStandAt extension b c.extensions v.tbs_certificate.others.extensions
   pub signature : StandsAt b c.signature v.signature_value.bytes
   pub not_before : c.not_before ≡ v.tbs_certificate.names.validity.not_before
@@ -56,14 +60,15 @@ pub record ShowsX509 (b : Bytes) (c : X509) (v : Certificate) (r : Bytes) : Type
   pub key : IsKey (key_of v.tbs_certificate.names.subject_public_key_info) c.key_kind c.key_bits
   pub next : Follows b c.next r
 
--- The numbers show the extension v in b, and r behind it.
-pub record ShowsX509Extension (b : Bytes) (c : X509Extension) (v : Extension) (r : Bytes) : Type 0 where
+-- The struct shows the extension v in b, and that r follows it.
+pub record ShowsX509Extension (b : Bytes) (c : X509Extension) (v : Extension)
+    (r : Bytes) : Type 0 where
   pub oid : StandsAt b c.oid v.extn_id
   pub value : StandsAt b c.value v.extn_value
   pub critical : c.critical ≡ v.critical
   pub next : Follows b c.next r
 
--- The tag of a name's element, and what is in it.
+-- The tag of a name's element, and its content.
 abbrev pub name_tag : GeneralName → ℕ
 name_tag (general.Rfc822Name b) = 0x81
 name_tag (general.DnsName b) = 0x82
@@ -78,7 +83,7 @@ content_of_name (general.UniformResourceIdentifier b) = b
 content_of_name (general.IpAddress b) = b
 content_of_name (general.Other e) = e.content
 
--- The numbers show the name v in b, and r behind it.
+-- The struct shows the name v in b, and that r follows it.
 pub record ShowsName (b : Bytes) (c : Part) (v : GeneralName) (r : Bytes) : Type 0 where
   pub kind : c.kind ≡ name_tag v
   pub content : StandsAt b c.content (content_of_name v)

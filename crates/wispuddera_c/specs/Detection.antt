@@ -1,8 +1,8 @@
--- Whether bytes are those of TLS, as a status.
+-- Whether bytes are TLS, as a status.
 use Rattle.std.specs.Prelude.{◌≡◌, ℕ, Bool, true, false, Option, Some, None}
 use Rattle.wispuddera_c.specs.Status.{none}
 
--- They are; they aren't; they are too few to tell.
+-- They are; they aren't; there are too few.
 abbrev pub IsDetected : Option Bool → ℕ → Type 0
 IsDetected (Some true) status = status ≡ 0
 IsDetected (Some false) status = status ≡ none

@@ -1,4 +1,4 @@
--- Records and handshake messages of DTLS in C's numbers.
+-- Records and handshake messages of DTLS as C structs.
 use Rattle.std.specs.Prelude.{◌≡◌}
 use Rattle.std.specs.Option.{is_some}
 use Rattle.layouts.specs.Bytes.{Bytes}
@@ -13,8 +13,9 @@ use Rattle.wispuddera_c.specs.declared.dtls.DtlsClientHello.{DtlsClientHello}
 use Rattle.wispuddera_c.specs.declared.dtls.DtlsMessage.{DtlsMessage}
 use Rattle.wispuddera_c.specs.Place.{StandsAt, ItemsStandAt, Follows}
 
--- The numbers show the record v in b, and r behind it.
-pub record ShowsDtlsRecord (b : Bytes) (c : DtlsRecord) (v : dtls.RawRecord) (r : Bytes) : Type 0 where
+-- The struct shows the record v in b, and that r follows it.
+pub record ShowsDtlsRecord (b : Bytes) (c : DtlsRecord) (v : dtls.RawRecord)
+    (r : Bytes) : Type 0 where
   pub content_type : c.content_type ≡ v.header.content_type
   pub version : c.version ≡ v.header.version
   pub epoch : c.epoch ≡ v.header.epoch
@@ -23,8 +24,9 @@ pub record ShowsDtlsRecord (b : Bytes) (c : DtlsRecord) (v : dtls.RawRecord) (r 
   pub fragment : StandsAt b c.fragment v.fragment
   pub next : Follows b c.next r
 
--- The numbers show the message v, or the part of one, in b, and r behind it.
-pub record ShowsDtlsMessage (b : Bytes) (c : DtlsMessage) (v : in_place.RawHandshake) (r : Bytes) : Type 0 where
+-- The struct shows the message v, or the part of one, in b, and that r follows it.
+pub record ShowsDtlsMessage (b : Bytes) (c : DtlsMessage) (v : in_place.RawHandshake)
+    (r : Bytes) : Type 0 where
   pub kind : c.kind ≡ v.msg_type
   pub length : c.length ≡ v.length
   pub message_seq : c.message_seq ≡ v.message_seq
@@ -34,14 +36,16 @@ pub record ShowsDtlsMessage (b : Bytes) (c : DtlsMessage) (v : in_place.RawHands
   pub body : StandsAt b c.body v.body
   pub next : Follows b c.next r
 
--- The numbers show the ClientHello v in b, and r behind it.
-pub record ShowsDtlsClientHello (b : Bytes) (c : DtlsClientHello) (v : hello.ClientHello) (r : Bytes) : Type 0 where
+-- The struct shows the ClientHello v in b, and that r follows it.
+pub record ShowsDtlsClientHello (b : Bytes) (c : DtlsClientHello) (v : hello.ClientHello)
+    (r : Bytes) : Type 0 where
   pub version : c.version ≡ v.hello.client_version
   pub random : StandsAt b c.random v.hello.random
   pub session_id : StandsAt b c.session_id (held v.hello.session_id)
   pub cookie : StandsAt b c.cookie v.cookie
   pub cipher_suites : ItemsStandAt (number 2) b c.cipher_suites v.hello.cipher_suites
-  pub compression_methods : ItemsStandAt (number 1) b c.compression_methods v.hello.compression_methods
+  pub compression_methods : ItemsStandAt (number 1) b c.compression_methods
+      v.hello.compression_methods
   pub has_extensions : c.has_extensions ≡ is_some v.hello.extensions
   pub extensions : StandsAt b c.extensions (held v.hello.extensions)
   pub next : Follows b c.next r

@@ -1,4 +1,4 @@
--- What is found in bytes, in C's numbers.
+-- Looked-up places, as C structs.
 use Rattle.std.specs.Prelude.{◌≡◌, ℕ, List, Option, Some, None, Result, Ok, Err}
 use Rattle.std.specs.Borrow.{Bor}
 use Rattle.std.specs.Option.{option_map}
@@ -15,28 +15,31 @@ use Rattle.wispuddera_c.specs.declared.found.Found.{Found}
 use Rattle.wispuddera_c.specs.Place.{StandsAt, ItemsStandAt}
 use Rattle.wispuddera_c.specs.Status.{none, IsRefused}
 
--- The bytes that are answered stand at the place in b; or there are none, or a refusal is told.
+-- The bytes of the answer are at the place in b; or there are none, or a refusal is returned.
 abbrev pub IsFound : Bytes → Result (Option Bytes) Refusal → ℕ → Found → Type 0
 IsFound b (Ok (Some x)) status c = (status ≡ 0) × (c.missing ≡ 0) × StandsAt b c.place x
 IsFound b (Ok None) status c = (status ≡ none) × (c.missing ≡ 0)
 IsFound b (Err e) status c = IsRefused e status c.missing
 
--- The items that are answered stand at the place in b; or there are none, or a refusal is told.
-abbrev pub AreFound : {A : Type 0} → Layout A → Bytes → Result (Option (List A)) Refusal → ℕ → Found → Type 0
+-- The items of the answer are at the place in b; or there are none, or a refusal is returned.
+abbrev pub AreFound : {A : Type 0} → Layout A → Bytes → Result (Option (List A)) Refusal → ℕ
+    → Found → Type 0
 AreFound l b (Ok (Some xs)) status c = (status ≡ 0) × (c.missing ≡ 0) × ItemsStandAt l b c.place xs
 AreFound l b (Ok None) status c = (status ≡ none) × (c.missing ≡ 0)
 AreFound l b (Err e) status c = IsRefused e status c.missing
 
--- A place that a call of the library found, or none, or what it refused.
+-- A place that a call of the library found, or none, or its refusal.
 abbrev pub PlaceFound : Type 0
 PlaceFound = Result (Option Place) (Failed (Error (Bor (List ℕ))))
 
--- Where the call found bytes of b, the status and the numbers tell the same.
+-- If the call found bytes of b, the status and the struct show them.
 abbrev pub TellsPart : PlaceFound → ℕ → Found → Type 0
-TellsPart found status c = (b : Bytes) (a : Result (Option Bytes) Refusal) → Tells (option_map (bytes_at b)) a found
+TellsPart found status c = (b : Bytes) (a : Result (Option Bytes) Refusal)
+    → Tells (option_map (bytes_at b)) a found
     → IsWithin b found → IsFound b a status c
 
--- Where it found a list of items in b, they tell that.
+-- If the call found a list of items in b, the status and the struct show it.
 abbrev pub TellsList : {A : Type 0} → Layout A → PlaceFound → ℕ → Found → Type 0
 TellsList {A} l found status c = (b : Bytes) (a : Result (Option (List A)) Refusal)
-    → Tells (option_map (λ p. items_in l (bytes_at b p))) a found → IsWithin b found → AreFound l b a status c
+    → Tells (option_map (λ p. items_in l (bytes_at b p))) a found → IsWithin b found
+    → AreFound l b a status c

@@ -1,4 +1,4 @@
--- Hellos in C's numbers.
+-- Hellos as C structs.
 use Rattle.std.specs.Prelude.{◌≡◌}
 use Rattle.std.specs.Option.{is_some}
 use Rattle.layouts.specs.Bytes.{Bytes}
@@ -10,8 +10,9 @@ use Rattle.wispuddera_c.specs.declared.client_hello.ClientHello.{ClientHello}
 use Rattle.wispuddera_c.specs.declared.server_hello.ServerHello.{ServerHello}
 use Rattle.wispuddera_c.specs.Place.{StandsAt, ItemsStandAt, Follows}
 
--- The numbers show the ClientHello v in b, and r behind it.
-pub record ShowsClientHello (b : Bytes) (c : ClientHello) (v : hello.ClientHello) (r : Bytes) : Type 0 where
+-- The struct shows the ClientHello v in b, and that r follows it.
+pub record ShowsClientHello (b : Bytes) (c : ClientHello) (v : hello.ClientHello)
+    (r : Bytes) : Type 0 where
   pub version : c.version ≡ v.client_version
   pub random : StandsAt b c.random v.random
   pub session_id : StandsAt b c.session_id (held v.session_id)
@@ -21,8 +22,9 @@ pub record ShowsClientHello (b : Bytes) (c : ClientHello) (v : hello.ClientHello
   pub extensions : StandsAt b c.extensions (held v.extensions)
   pub next : Follows b c.next r
 
--- The numbers show the ServerHello v in b, and r behind it.
-pub record ShowsServerHello (b : Bytes) (c : ServerHello) (v : server.ServerHello) (r : Bytes) : Type 0 where
+-- The struct shows the ServerHello v in b, and that r follows it.
+pub record ShowsServerHello (b : Bytes) (c : ServerHello) (v : server.ServerHello)
+    (r : Bytes) : Type 0 where
   pub version : c.version ≡ v.server_version
   pub random : StandsAt b c.random v.random
   pub session_id : StandsAt b c.session_id (held v.session_id)

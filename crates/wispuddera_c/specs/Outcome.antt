@@ -1,4 +1,4 @@
--- The events of a conversation, and how it stands, in C's numbers.
+-- The events of a conversation and its outcome, as C numbers.
 use Rattle.std.specs.Prelude.{ℕ, List, map, None, ◌==◌, if◌then◌else◌, true, false}
 use Rattle.tls_flow.specs.Symbols.{symbol, Word}
 use Rattle.tls_flow.specs.Messages.{direction}
@@ -41,7 +41,7 @@ symbol_of e = symbol (kind_of_number e.kind) (direction e.to_server)
 abbrev pub event_of : Event → FlowEvent
 event_of e = record { symbol = symbol_of e; alert = None }
 
--- The word of a conversation's events.
+-- The symbols of a conversation's events.
 abbrev pub word_of : List Event → Word
 word_of events = map symbol_of events
 

@@ -1,4 +1,4 @@
--- What a side says next, in C's numbers.
+-- The next event of a side, as a C struct.
 use Rattle.std.specs.Prelude.{◌≡◌, ℕ, Bool, true, false, ◌&&◌, ◌==◌, Option, Some, None, Result, Ok, Err, [], ◌≤◌, length, drop, slice_index}
 use Rattle.tls_base.specs.ExtensionNumbers.{pre_shared_key}
 use Rattle.tls_stream.specs.FlowEvents.{event_of}
@@ -29,7 +29,7 @@ form_number (ApplicationData b) = 4
 form_number (Encrypted r) = 5
 form_number (Failed f) = 6
 
--- A record that is refused; a message above the limit; another record between two parts of a message.
+-- A refused record; a message above the limit; another record between two fragments of a message.
 abbrev pub fault_number : Fault → ℕ
 fault_number (fault.Refused k) = kind_status k
 fault_number fault.TooLarge = 11
@@ -39,11 +39,13 @@ abbrev pub fault_in : Saying → ℕ
 fault_in (Failed f) = fault_number f
 fault_in v = 0
 
--- The bytes are those of the event: a message, the level and the description of an alert, or a record, whose fragment stands behind 5 bytes.
+-- The bytes are those of the event: a message, the level and the description of an alert, or a
+-- record, whose fragment follows 5 bytes.
 abbrev pub IsSaidBy : Saying → Bytes → Type 0
 IsSaidBy (Handshake m) x = (4 ≤ length x) × (x ≡ m)
 IsSaidBy ChangeCipherSpec x = 5 ≤ length x
-IsSaidBy (Alert a) x = (length x ≡ 2) × (slice_index x 0 ≡ a.level) × (slice_index x 1 ≡ a.description)
+IsSaidBy (Alert a) x = (length x ≡ 2) × (slice_index x 0 ≡ a.level)
+    × (slice_index x 1 ≡ a.description)
 IsSaidBy (Heartbeat b) x = (5 ≤ length x) × (drop 5 x ≡ b)
 IsSaidBy (ApplicationData b) x = (5 ≤ length x) × (drop 5 x ≡ b)
 IsSaidBy (Encrypted r) x = (5 ≤ length x) × (x ≡ r)
@@ -55,7 +57,7 @@ is_found (Ok (Some x)) = true
 is_found (Ok None) = false
 is_found (Err e) = false
 
--- A ServerHello takes up a session by its pre_shared_key (RFC 8446, section 4.2.11).
+-- A ServerHello resumes a session by its pre_shared_key (RFC 8446, section 4.2.11).
 abbrev pub has_session_in : Answer ServerHello → Bool
 has_session_in (Ok x) = is_found (content_of pre_shared_key (held x.0.extensions))
 has_session_in (Err e) = false
@@ -68,14 +70,14 @@ abbrev pub takes_session : Saying → Bool
 takes_session (Handshake m) = takes_session_in (reading raw_handshake m)
 takes_session v = false
 
--- The numbers tell the event v of a side, whose bytes stand in b.
+-- The struct shows the event v of a side, whose bytes are in b.
 pub record Tells (side : Direction) (b : Bytes) (c : Said) (v : Saying) : Type 0 where
   pub form : c.form ≡ form_number v
   pub fault : c.fault ≡ fault_in v
   pub kind : kind_of_number c.kind ≡ (event_of side v).symbol.kind
   pub content : (x : Bytes) × StandsAt b c.content x × IsSaidBy v x
 
--- What is heard is the event v of a side, whose bytes stand in b.
+-- The conversation learns the event v of a side, whose bytes are in b.
 pub record Shows (side : Direction) (b : Bytes) (h : Heard) (v : Saying) : Type 0 where
   pub told : Tells side b h.said v
   pub event : h.event ≡ event_of side v

@@ -1,4 +1,4 @@
--- One side's stream, of which a buffer of the caller's holds what isn't handed out yet.
+-- One side's stream, in a buffer of the caller's.
 use Rattle.std.specs.Prelude.{◌≡◌, ℕ, ◌≤◌, ◌+◌, ◌-◌, Bool, true, false, None, [], length, take}
 use Rattle.std.specs.List.{between}
 use Rattle.tls_stream.specs.Ears.{IsFirst, SaysAs, says}
@@ -16,18 +16,19 @@ use Rattle.wispuddera_c.specs.declared.said.Heard.{Heard}
 use Rattle.wispuddera_c.specs.declared.side.Known.{Known}
 use Rattle.wispuddera_c.specs.declared.side.Side.{Side}
 
--- What is held lies within so many bytes, the part in front of what isn't read.
+-- The offsets lie within this many bytes, and the part comes before the unread bytes.
 abbrev pub IsWithin : ℕ → Side → Type 0
-IsWithin room s = (s.part ≤ s.part_end) × (s.part_end ≤ s.unread) × (s.unread ≤ s.end) × (s.end ≤ room)
+IsWithin room s = (s.part ≤ s.part_end) × (s.part_end ≤ s.unread) × (s.unread ≤ s.end)
+    × (s.end ≤ room)
 
--- How many bytes are held.
+-- How many bytes are in use.
 abbrev pub count_held : Side → ℕ
 count_held s = (s.part_end - s.part) + (s.end - s.unread)
 
 abbrev pub held_in : Bytes → Side → Held
 held_in b s = record { part = between s.part s.part_end b; unread = between s.unread s.end b }
 
--- Nothing came of it.
+-- No bytes came.
 abbrev pub silent_side : Side
 silent_side = record {
   part = 0;
@@ -39,7 +40,7 @@ silent_side = record {
   is_over = false;
 }
 
--- The stream of which the buffer holds that.
+-- The stream of the buffer.
 abbrev pub stream_of : Known → Bytes → Side → Stream
 stream_of k b s = record {
   limit = k.limit;
@@ -49,33 +50,34 @@ stream_of k b s = record {
   held = held_in b s;
 }
 
--- Behind a fault it says no more.
+-- After a fault the side says nothing more.
 abbrev pub standing_by : Bool → Standing
 standing_by true = Over
 standing_by false = Speaks
 
--- The side that the numbers say.
+-- The side of the struct and its buffer.
 abbrev pub ear_of : Known → Bytes → Side → Ear
 ear_of k b s = record {
   direction = record { stream = stream_of k b s; fault = None };
   standing = standing_by s.is_over;
 }
 
--- The bytes that an event is taken from.
+-- The bytes of an event.
 abbrev pub bytes_of : Source → Bytes
 bytes_of (OfMessage y) = y
 bytes_of (OfRecord y) = y
 
--- They stand in front of the part; or of what isn't read, where they have a record's header.
+-- The bytes are the front of the part; or of the unread bytes, if they have a record's header.
 abbrev pub StandInFront : Held → Source → Type 0
 StandInFront h (OfMessage y) = take (length y) h.part ≡ y
 StandInFront h (OfRecord y) = (5 ≤ length y) × (take (length y) h.unread ≡ y)
 
--- It says an event first, whatever comes, which is heard, and then what the numbers say behind it.
+-- It says an event first, whatever follows, and then what the changed struct says.
 abbrev pub IsHeardAs : Direction → Known → Bytes → Side → Bytes → Side → Heard → Type 0
-IsHeardAs side k b s b' s' h = (v : Saying) × IsFirst (ear_of k b s) v (ear_of k b' s') × Shows side b' h v
+IsHeardAs side k b s b' s' h = (v : Saying) × IsFirst (ear_of k b s) v (ear_of k b' s')
+    × Shows side b' h v
 
--- It says nothing for now, and whatever comes the same as before.
+-- It says nothing for now, and later the same as before.
 pub record Waits (k : Known) (b : Bytes) (s : Side) (b' : Bytes) (s' : Side) : Type 0 where
   pub nothing : says (ear_of k b s) [] ≡ []
   pub same : SaysAs (ear_of k b s) (ear_of k b' s')

@@ -1,4 +1,4 @@
--- The numbers that a call answers with, and what they tell.
+-- The status numbers of calls, and their meaning.
 use Rattle.std.specs.Prelude.{◌≡◌, ℕ, ◌≤◌, ◌<◌, length, drop, Ok, Err}
 use Rattle.layouts.specs.Bytes.{Bytes}
 use Rattle.layouts.specs.Layout.{Layout}
@@ -26,11 +26,11 @@ kind_status Complete = 7
 abbrev pub none : ℕ
 none = 8
 
--- The offset lies behind the end of the bytes.
+-- The offset is past the end of the bytes.
 abbrev pub outside : ℕ
 outside = 9
 
--- The buffer is too short for what is told.
+-- The buffer is too short for the result.
 abbrev pub no_room : ℕ
 no_room = 10
 
@@ -42,16 +42,16 @@ abbrev pub missing_of : Refusal → ℕ
 missing_of (Lacks n) = n
 missing_of (Broken kind) = 0
 
--- The status and the count of missing bytes tell that refusal.
+-- The status and the count of missing bytes are those of this refusal.
 abbrev pub IsRefused : Refusal → ℕ → ℕ → Type 0
 IsRefused e status missing = (status ≡ status_of e) × (missing ≡ missing_of e)
 
--- They tell that answer, and its value and rest are shown.
+-- They are those of this answer, and its value and rest are shown.
 abbrev pub IsAnswered : {A : Type 0} → (A → Bytes → Type 0) → Answer A → ℕ → ℕ → Type 0
 IsAnswered Shows (Ok x) status missing = (status ≡ 0) × (missing ≡ 0) × Shows x.0 x.1
 IsAnswered Shows (Err e) status missing = IsRefused e status missing
 
--- They tell what stands in b from that offset on; an offset behind the end is refused.
+-- They are those of the answer in b from this offset on; an offset past the end is refused.
 pub record IsAnsweredAt {A : Type 0} (l : Layout A) (Shows : A → Bytes → Type 0) (b : Bytes)
     (offset status missing : ℕ) : Type 0 where
   pub inside : offset ≤ length b → IsAnswered Shows (reading l (drop offset b)) status missing

@@ -1,4 +1,5 @@
-//! Certificates of X.509: where their fields stand, their extensions, and the names of their subjects.
+//! X.509 certificates: the places of their fields, their extensions, and the names of their
+//! subjects.
 ghost use Rattle.std.specs.Prelude.{◌≡◌};
 ghost use Rattle.layouts.specs.Meaning.{EndsWith};
 ghost use Rattle.layouts.specs.Reading.{reading};
@@ -20,47 +21,49 @@ use x509_places::{
     general_names_with_place,
 };
 
-/// A certificate (RFC 5280, section 4.1): its numbers, where its fields stand, and the offset of what follows it.
+/// A certificate (RFC 5280, section 4.1): its numbers, the places of its fields, and the offset of
+/// what follows it.
 #[repr(C)]
 #[derive(Clone, Copy)]
 pub struct X509 {
-    /// How many bytes are missing, where the status says that some are; else 0.
+    /// How many bytes are missing, if the status is `INCOMPLETE`; else 0.
     pub missing: usize,
     /// The bytes that are signed.
     pub signed_bytes: Place,
     /// The serial number: an INTEGER's bytes.
     pub serial_number: Place,
-    /// What the certificate is signed with: an object identifier's content.
+    /// The algorithm of the signature: an object identifier's content.
     pub signature_algorithm: Place,
     /// The issuer's name, with its tag and its length.
     pub issuer: Place,
     /// The subject's name, with its tag and its length.
     pub subject: Place,
-    /// What the key is used with: an object identifier's content.
+    /// The algorithm of the key: an object identifier's content.
     pub key_algorithm: Place,
-    /// The content of its parameters: of an elliptic curve's key, the curve's object identifier; of no bytes where there are none.
+    /// The content of the key algorithm's parameters; for an elliptic curve key, the curve's object
+    /// identifier. Empty if there are none.
     pub key_parameters: Place,
     /// The key.
     pub public_key: Place,
-    /// The extensions, without the tag and the length of their list; of no bytes where there are none.
+    /// The extensions, without the tag and the length of their list; empty if there are none.
     pub extensions: Place,
     /// The signature.
     pub signature: Place,
-    /// The first second in which it is valid, since 1970.
+    /// The first second of its validity, since 1970-01-01 00:00:00 UTC.
     pub not_before: i64,
-    /// The last one.
+    /// The last second of its validity, since 1970-01-01 00:00:00 UTC.
     pub not_after: i64,
     /// The offset of what follows.
     pub next: usize,
-    /// How many bits the modulus of a key of RSA has; else 0.
+    /// The bit length of an RSA key's modulus; else 0.
     pub key_bits: u32,
-    /// Which key it is; 0 where the key is refused.
+    /// The kind of the key; 0 if the key is refused.
     pub key_kind: u8,
-    /// The version less 1, as it stands there.
+    /// The version minus 1.
     pub version: u8,
 }
 
-/// Which key was told, and how many bits its modulus has.
+/// The kind of a parsed key, and the bit length of an RSA key's modulus.
 #[inline(always)]
 fn key_numbers(found: Result<PublicKey, Err<Error<&[u8]>>>) -> (u8, u32)
     ensures { TellsKey found.entry result.0 result.1 }
@@ -75,7 +78,7 @@ fn key_numbers(found: Result<PublicKey, Err<Error<&[u8]>>>) -> (u8, u32)
     }
 }
 
-/// A certificate that was read of `bytes`, its places in these, and what follows it, in C's numbers.
+/// The struct of a certificate parsed from `bytes`, with its places and the offset of `rest`.
 #[inline(always)]
 fn in_numbers(
     bytes: &[u8],
@@ -122,11 +125,12 @@ fn in_numbers(
     }
 }
 
-/// Reads the certificate in front.
+/// Parses the certificate at the front.
 #[tactic(auto, using(layouts::proofs::OneAnswerLemmas::read_allowed, layouts::proofs::PlaceLemmas::ends_here, layouts::proofs::PlaceLemmas::ends_read))]
 #[unsafe(no_mangle)]
 pub extern "C" fn wispuddera_read_x509(bytes: &[u8], out: &mut X509) -> u32
-    ensures { IsAnswered (ShowsX509 bytes.now out.new) (reading certificate_layout bytes.now) result out.new.missing }
+    ensures { IsAnswered (ShowsX509 bytes.now out.new) (reading certificate_layout bytes.now) result
+        out.new.missing }
 {
     match certificate_with_places(bytes) {
         Ok((rest, (certificate, places))) => {
@@ -141,11 +145,12 @@ pub extern "C" fn wispuddera_read_x509(bytes: &[u8], out: &mut X509) -> u32
     }
 }
 
-/// An extension of a certificate (RFC 5280, section 4.2): its type, its value, and the offset of what follows it.
+/// An extension of a certificate (RFC 5280, section 4.2): its type, its value, and the offset of
+/// what follows it.
 #[repr(C)]
 #[derive(Clone, Copy)]
 pub struct X509Extension {
-    /// How many bytes are missing, where the status says that some are; else 0.
+    /// How many bytes are missing, if the status is `INCOMPLETE`; else 0.
     pub missing: usize,
     /// Its type: an object identifier's content.
     pub oid: Place,
@@ -153,11 +158,11 @@ pub struct X509Extension {
     pub value: Place,
     /// The offset of what follows.
     pub next: usize,
-    /// Whether who doesn't know it is to reject the certificate.
+    /// Whether a receiver that doesn't know it must reject the certificate.
     pub critical: bool,
 }
 
-/// Reads the extension that begins at that offset of those of a certificate.
+/// Parses the extension at this offset of a certificate's extensions.
 #[tactic(auto, using(layouts::proofs::OneAnswerLemmas::read_allowed, crate::proofs::StatusLemmas::refused, crate::proofs::StatusLemmas::behind))]
 #[unsafe(no_mangle)]
 pub extern "C" fn wispuddera_read_x509_extension(
@@ -165,7 +170,8 @@ pub extern "C" fn wispuddera_read_x509_extension(
     offset: usize,
     out: &mut X509Extension,
 ) -> u32
-    ensures { IsAnsweredAt extension (ShowsX509Extension bytes.now out.new) bytes.now offset result out.new.missing }
+    ensures { IsAnsweredAt extension (ShowsX509Extension bytes.now out.new) bytes.now offset result
+        out.new.missing }
 {
     let Some(i) = bytes_from(bytes, offset) else {
         out.missing = 0;
@@ -206,11 +212,13 @@ fn tag_of(name: &GeneralName) -> u8
     }
 }
 
-/// Finds the names in front, in the value of a subjectAltName or an issuerAltName (RFC 5280, section 4.2.1.6).
+/// Finds the list of names at the front, in the value of a subjectAltName or an issuerAltName (RFC
+/// 5280, section 4.2.1.6).
 #[tactic(auto, using(layouts::proofs::OneAnswerLemmas::read_allowed))]
 #[unsafe(no_mangle)]
 pub extern "C" fn wispuddera_find_x509_names(bytes: &[u8], out: &mut Found) -> u32
-    ensures { IsAnswered (λ v _. ItemsStandAt general_name bytes.now out.new.place v) (reading general_names bytes.now) result out.new.missing }
+    ensures { IsAnswered (λ v _. ItemsStandAt general_name bytes.now out.new.place v)
+        (reading general_names bytes.now) result out.new.missing }
 {
     match general_names_with_place(bytes) {
         Ok((_, (_, place))) => {
@@ -228,11 +236,12 @@ pub extern "C" fn wispuddera_find_x509_names(bytes: &[u8], out: &mut Found) -> u
     }
 }
 
-/// Reads the name that begins at that offset of a list of them: its kind is the tag of its element.
+/// Parses the name at this offset of a list of names. Its kind is the tag of its element.
 #[tactic(auto, using(layouts::proofs::OneAnswerLemmas::read_allowed, crate::proofs::StatusLemmas::refused, crate::proofs::StatusLemmas::behind))]
 #[unsafe(no_mangle)]
 pub extern "C" fn wispuddera_read_x509_name(bytes: &[u8], offset: usize, out: &mut Part) -> u32
-    ensures { IsAnsweredAt general_name (ShowsName bytes.now out.new) bytes.now offset result out.new.missing }
+    ensures { IsAnsweredAt general_name (ShowsName bytes.now out.new) bytes.now offset result
+        out.new.missing }
 {
     let Some(i) = bytes_from(bytes, offset) else {
         out.missing = 0;

@@ -1,4 +1,5 @@
-//! Both sides of a conversation, joined: pieces in, events out, and how it stands. What is held lies in a buffer of the caller's for each side.
+//! Both sides of a TLS conversation, joined: pieces in, events out, and the outcome. The caller
+//! provides a buffer for each side.
 ghost use Rattle.std.specs.Prelude.{◌≡◌, ◌≢◌, ◌≤◌, ◌<◌, ◌+◌, ◌||◌, ℕ, Bool, [], List, length, true, false, if◌then◌else◌};
 ghost use Rattle.tls_stream.specs.Conversations.{IsBegun};
 ghost use Rattle.tls_stream.specs.FlowEvents.{chooses_tls13 as chooses};
@@ -22,26 +23,26 @@ use crate::side::{Known, Side};
 use crate::status::{NO_ROOM, NONE, OUTSIDE, READ};
 use tls_flow::{Direction, Event as FlowEvent, Kind, Outcome};
 
-/// A conversation of TLS, of which both sides' bytes come in pieces.
+/// A TLS conversation whose sides' bytes arrive in pieces.
 #[repr(C)]
 #[derive(Clone, Copy)]
 pub struct Conversation {
-    /// What goes to the server.
+    /// The side of the client.
     pub client: Side,
-    /// What comes from it.
+    /// The side of the server.
     pub server: Side,
-    /// The most bytes that the body of a handshake message may have.
+    /// The limit for the body of a handshake message, in bytes.
     pub limit: usize,
-    /// How it stands.
+    /// The flow of the handshake.
     pub course: Course,
-    /// Whether TLS 1.3 is spoken.
+    /// Whether TLS 1.3 was chosen.
     pub is_tls13: bool,
-    /// Whether the last event in front of the end takes up a session by pre_shared_key.
+    /// Whether the handshake's last event resumes a session by pre_shared_key.
     pub has_session: bool,
 }
 
 impl Conversation {
-    /// What is known by which its sides are read.
+    /// The state that decides how its sides are read.
     fn known(&self) -> Known
         ensures { result ≡ known_of self.now }
     {
@@ -51,14 +52,14 @@ impl Conversation {
         }
     }
 
-    /// What is held of the stream that goes to the server, or comes from it.
+    /// The state of the stream to the server, or from it.
     fn side(&self, to_server: bool) -> Side
         ensures { result ≡ side_at to_server self.now }
     {
         if to_server { self.client } else { self.server }
     }
 
-    /// Holds that of it from here on.
+    /// Replaces the state of the stream to the server, or from it.
     fn put(&mut self, to_server: bool, side: Side)
         ensures { self.new ≡ with_side to_server side self.old }
     {
@@ -73,10 +74,12 @@ impl Conversation {
     fn follow(&mut self, event: FlowEvent, takes_session: bool)
         ensures sides { (self.new.client ≡ self.old.client) × (self.new.server ≡ self.old.server) }
         ensures limit { self.new.limit ≡ self.old.limit }
-        ensures tls13 { self.new.is_tls13 ≡ (self.old.is_tls13 || chooses event.symbol.kind event.symbol.direction) }
+        ensures tls13 { self.new.is_tls13
+            ≡ (self.old.is_tls13 || chooses event.symbol.kind event.symbol.direction) }
         ensures flow { flow_of self.new.course ≡ follow_by (flow_of self.old.course) event }
         ensures session { self.new.has_session
-            ≡ (if is_waiting (outcome_at (state_in self.old.course.flow)) then takes_session else self.old.has_session) }
+            ≡ (if is_waiting (outcome_at (state_in self.old.course.flow)) then
+            takes_session else self.old.has_session) }
     {
         self.is_tls13 |= chooses_tls13(event);
         if is_under_way(self.course.state().outcome()) {
@@ -86,7 +89,7 @@ impl Conversation {
     }
 }
 
-/// Whether a handshake can still come.
+/// Whether a handshake can still complete.
 fn is_under_way(outcome: Outcome) -> bool
     ensures { result ≡ is_waiting outcome }
 {
@@ -101,7 +104,7 @@ fn is_under_way(outcome: Outcome) -> bool
     }
 }
 
-/// Whether the server chooses TLS 1.3 by an event.
+/// Whether the server chooses TLS 1.3 with this event.
 fn chooses_tls13(event: FlowEvent) -> bool
     ensures { result ≡ chooses event.symbol.kind event.symbol.direction }
 {
@@ -114,7 +117,8 @@ fn chooses_tls13(event: FlowEvent) -> bool
     )
 }
 
-/// Begins a conversation of which nothing came, where the body of a handshake message may have at most `limit` bytes.
+/// Begins an empty conversation, where the body of a handshake message may have at most `limit`
+/// bytes.
 #[unsafe(no_mangle)]
 pub extern "C" fn wispuddera_conversation_start(conversation: &mut Conversation, limit: usize)
     ensures begun { (x y : Bytes) → IsBegun limit (joined x y conversation.new) }
@@ -131,7 +135,8 @@ pub extern "C" fn wispuddera_conversation_start(conversation: &mut Conversation,
     };
 }
 
-/// Puts a piece of a side's stream behind what its buffer holds. Behind a fault of that side it is left out.
+/// Appends a piece of a side's stream to its buffer. After a fault of that side the piece is
+/// dropped.
 #[unsafe(no_mangle)]
 pub extern "C" fn wispuddera_conversation_feed(
     buffer: &mut [u8],
@@ -139,13 +144,18 @@ pub extern "C" fn wispuddera_conversation_feed(
     to_server: bool,
     piece: &[u8],
 ) -> u32
-    ensures fed { result ≡ 0 → IsGiven to_server buffer.old buffer.new conversation.old conversation.new piece.now }
+    ensures fed { result ≡ 0
+        → IsGiven to_server buffer.old buffer.new conversation.old conversation.new piece.now }
     ensures other { result ≢ 0 → (buffer.new ≡ buffer.old) × (conversation.new ≡ conversation.old) }
     ensures fits { IsWithin (length buffer.old) (side_at to_server conversation.old)
-        → count_held (side_at to_server conversation.old) + length piece.now ≤ length buffer.old → result ≡ 0 }
-    ensures full { IsWithin (length buffer.old) (side_at to_server conversation.old) → (side_at to_server conversation.old).is_over ≡ false
-        → length buffer.old < count_held (side_at to_server conversation.old) + length piece.now → result ≡ no_room }
-    ensures behind { (IsWithin (length buffer.old) (side_at to_server conversation.old) → ⊥) → result ≡ outside }
+        → count_held (side_at to_server conversation.old) + length piece.now ≤ length buffer.old
+        → result ≡ 0 }
+    ensures full { IsWithin (length buffer.old) (side_at to_server conversation.old)
+        → (side_at to_server conversation.old).is_over ≡ false
+        → length buffer.old < count_held (side_at to_server conversation.old) + length piece.now
+        → result ≡ no_room }
+    ensures behind { (IsWithin (length buffer.old) (side_at to_server conversation.old) → ⊥)
+        → result ≡ outside }
 {
     let mut side = conversation.side(to_server);
     if !side.lies_within(buffer.len()) {
@@ -162,7 +172,7 @@ pub extern "C" fn wispuddera_conversation_feed(
     READ
 }
 
-/// Takes what a side says next off what its buffer holds, tells it, and follows it.
+/// Returns a side's next event, removes it from the buffer, and follows it.
 #[unsafe(no_mangle)]
 pub extern "C" fn wispuddera_conversation_next(
     buffer: &mut [u8],
@@ -170,10 +180,13 @@ pub extern "C" fn wispuddera_conversation_next(
     to_server: bool,
     out: &mut Said,
 ) -> u32
-    ensures read { result ≡ 0 → IsNext to_server buffer.old buffer.new conversation.old conversation.new out.new }
-    ensures waits { result ≡ none → IsWaiting to_server buffer.old buffer.new conversation.old conversation.new }
+    ensures read { result ≡ 0
+        → IsNext to_server buffer.old buffer.new conversation.old conversation.new out.new }
+    ensures waits { result ≡ none
+        → IsWaiting to_server buffer.old buffer.new conversation.old conversation.new }
     ensures stays { result ≢ 0 → out.new ≡ out.old }
-    ensures inside { IsWithin (length buffer.old) (side_at to_server conversation.old) → result ≢ 0 → result ≡ none }
+    ensures inside { IsWithin (length buffer.old) (side_at to_server conversation.old) → result ≢ 0
+        → result ≡ none }
     ensures behind { (IsWithin (length buffer.old) (side_at to_server conversation.old) → ⊥)
         → (result ≡ outside) × (buffer.new ≡ buffer.old) × (conversation.new ≡ conversation.old) }
 {
@@ -196,7 +209,7 @@ pub extern "C" fn wispuddera_conversation_next(
     }
 }
 
-/// How a conversation stands, by all events that were told of it.
+/// The outcome of a conversation, by all events that were returned.
 #[unsafe(no_mangle)]
 pub extern "C" fn wispuddera_conversation_outcome(conversation: &Conversation) -> u32
     ensures { (events : List FlowEvent) → AreEvents events conversation.now
@@ -205,10 +218,11 @@ pub extern "C" fn wispuddera_conversation_outcome(conversation: &Conversation) -
     number_of_outcome(conversation.course.state().outcome())
 }
 
-/// Tells what ended a handshake without success.
+/// Returns what ended a handshake without success.
 #[unsafe(no_mangle)]
 pub extern "C" fn wispuddera_conversation_stop(conversation: &Conversation, out: &mut Stop) -> u32
-    ensures told { (events : List FlowEvent) → AreEvents events conversation.now → IsStopTold events result out.new }
+    ensures told { (events : List FlowEvent) → AreEvents events conversation.now
+        → IsStopTold events result out.new }
     ensures stays { result ≢ 0 → out.new ≡ out.old }
 {
     if is_stopped(conversation.course.state().outcome()) {
@@ -219,7 +233,7 @@ pub extern "C" fn wispuddera_conversation_stop(conversation: &Conversation, out:
     }
 }
 
-/// Whether a conversation stands without success.
+/// Whether the handshake ended without success.
 fn is_stopped(outcome: Outcome) -> bool
     ensures { result ≡ is_failed outcome }
 {
@@ -234,7 +248,7 @@ fn is_stopped(outcome: Outcome) -> bool
     }
 }
 
-/// Whether the part of a handshake that can be read came to its end; in TLS 1.3 that is with the ServerHello.
+/// Whether the visible part of the handshake is complete. In TLS 1.3 it ends with the ServerHello.
 #[unsafe(no_mangle)]
 pub extern "C" fn wispuddera_conversation_established(conversation: &Conversation) -> bool
     ensures { result ≡ is_established (outcome_at (state_in conversation.now.course.flow)) }
@@ -250,10 +264,12 @@ pub extern "C" fn wispuddera_conversation_established(conversation: &Conversatio
     }
 }
 
-/// Whether a session was taken up: in TLS 1.3 by the pre_shared_key of the ServerHello (RFC 8446, section 4.2.11).
+/// Whether a session was resumed; in TLS 1.3, by the ServerHello's pre_shared_key (RFC 8446,
+/// section 4.2.11).
 #[unsafe(no_mangle)]
 pub extern "C" fn wispuddera_conversation_resumed(conversation: &Conversation) -> bool
-    ensures { result ≡ is_resumed (outcome_at (state_in conversation.now.course.flow)) conversation.now.has_session }
+    ensures { result ≡ is_resumed (outcome_at (state_in conversation.now.course.flow))
+        conversation.now.has_session }
 {
     match conversation.course.state().outcome() {
         Outcome::Resumed => true,

@@ -1,4 +1,4 @@
-//! How a conversation stands, and what stopped it, in C's numbers.
+//! The flow of a handshake, and what stopped it, in C structs.
 ghost use Rattle.std.specs.Prelude.{◌≡◌, if◌then◌else◌};
 ghost use Rattle.std.specs.Option.{option_map, unwrap_or};
 ghost use Rattle.tls_flow.specs.Messages.{direction as direction_of};
@@ -14,29 +14,29 @@ use tls_flow::{Direction, Event as FlowEvent, Flow as Followed, State};
 #[repr(C)]
 #[derive(Clone, Copy)]
 pub struct Stop {
-    /// How many events came before it; 2^64 - 1 where they are more.
+    /// How many events came before it, saturating at 2^64 - 1.
     pub events_before: u64,
     /// The event.
     pub event: Event,
     /// Whether it is an alert in the clear.
     pub is_alert: bool,
-    /// What that alert says; else 0.
+    /// The description of that alert; else 0.
     pub alert: u8,
 }
 
-/// How a conversation stands.
+/// The flow of a handshake.
 #[repr(C)]
 #[derive(Clone, Copy)]
 pub struct Course {
-    /// How many events came; 2^64 - 1 where they are more.
+    /// How many events came, saturating at 2^64 - 1.
     pub events: u64,
-    /// What stopped it, where something did.
+    /// What stopped it, if it is stopped.
     pub stop: Stop,
     /// Its state.
     pub flow: Flow,
 }
 
-/// Whether what goes in this direction goes to the server.
+/// Whether this direction is the one to the server.
 fn goes_to_server(direction: Direction) -> bool
     ensures { direction_of result ≡ direction }
 {
@@ -46,7 +46,7 @@ fn goes_to_server(direction: Direction) -> bool
     }
 }
 
-/// What an event says of the alert that it is; 0 where it is none.
+/// The description of an alert; 0 for another event.
 fn alert_of(alert: Option<TlsAlertDescription>) -> u8
     ensures { result ≡ unwrap_or (option_map (λ a. a.0) alert) 0 }
 {
@@ -56,7 +56,7 @@ fn alert_of(alert: Option<TlsAlertDescription>) -> u8
     }
 }
 
-/// The stop at an event behind so many.
+/// The stop at an event after this many.
 fn stop_at(event: FlowEvent, events_before: u64) -> Stop
     ensures { stop_in result ≡ record { event = event; place = events_before } }
 {
@@ -72,7 +72,7 @@ fn stop_at(event: FlowEvent, events_before: u64) -> Stop
 }
 
 impl Course {
-    /// That of a conversation without an event.
+    /// The flow without events.
     pub fn new() -> Course
         ensures { flow_of result ≡ silence }
     {
@@ -93,7 +93,7 @@ impl Course {
         }
     }
 
-    /// Where it stands. A number that is no state's stands for no handshake.
+    /// Its state. An unknown number counts as no handshake.
     pub fn state(&self) -> State
         ensures { result ≡ state_in self.now.flow }
     {
@@ -103,9 +103,10 @@ impl Course {
         }
     }
 
-    /// What stopped it behind an event, which stopped it or not.
+    /// The stop after an event, depending on whether the event stopped it.
     fn stop_behind(&self, is_stopped: bool, event: FlowEvent) -> Stop
-        ensures { stop_in result ≡ (if is_stopped then record { event = event; place = self.now.events } else stop_in self.now.stop) }
+        ensures { stop_in result ≡ (if is_stopped then
+            record { event = event; place = self.now.events } else stop_in self.now.stop) }
     {
         if is_stopped {
             stop_at(event, self.events)

@@ -11,25 +11,26 @@ use crate::status::{OUTSIDE, READ, Refusal};
 use tls_places::{dtls_client_hello_with_places, frame_at};
 use tls_records::DTLSRawHandshake;
 
-/// A record of DTLS (RFC 6347, section 4.1): its header, where its fragment stands, and the offset of what follows it.
+/// A record of DTLS (RFC 6347, section 4.1): its header, the place of its fragment, and the offset
+/// of what follows it.
 #[repr(C)]
 #[derive(Clone, Copy)]
 pub struct DtlsRecord {
-    /// How many bytes are missing, where the status says that some are; else 0.
+    /// How many bytes are missing, if the status is `INCOMPLETE`; else 0.
     pub missing: usize,
-    /// Where the fragment stands.
+    /// The place of the fragment.
     pub fragment: Place,
     /// The offset of what follows.
     pub next: usize,
-    /// The number of the record in its epoch, below 2^48.
+    /// The record's number within its epoch, below 2^48.
     pub sequence_number: u64,
-    /// The version, as it stands there.
+    /// The version field.
     pub version: u16,
-    /// How often the sender has changed its cipher.
+    /// The epoch: how often the sender has changed its cipher.
     pub epoch: u16,
     /// The length of the fragment, in bytes.
     pub length: u16,
-    /// What the fragment holds.
+    /// The content type.
     pub content_type: u8,
 }
 
@@ -37,9 +38,9 @@ pub struct DtlsRecord {
 #[repr(C)]
 #[derive(Clone, Copy)]
 pub struct DtlsMessage {
-    /// How many bytes are missing, where the status says that some are; else 0.
+    /// How many bytes are missing, if the status is `INCOMPLETE`; else 0.
     pub missing: usize,
-    /// Where the body, or the part of it, stands.
+    /// The place of the body, or of the fragment's part of it.
     pub body: Place,
     /// The offset of what follows.
     pub next: usize,
@@ -49,23 +50,24 @@ pub struct DtlsMessage {
     pub fragment_offset: u32,
     /// The length of the fragment, in bytes.
     pub fragment_length: u32,
-    /// The place of the message among those of its sender.
+    /// The message's sequence number.
     pub message_seq: u16,
-    /// What the body is.
+    /// The HandshakeType.
     pub kind: u8,
-    /// Whether the body is a part of the whole one.
+    /// Whether this is only a part of the body.
     pub is_part: bool,
 }
 
-/// A ClientHello of DTLS (RFC 6347, section 4.2.1): its version, and where its parts stand in its body.
+/// A ClientHello of DTLS (RFC 6347, section 4.2.1): its version, and the places of its parts in its
+/// body.
 #[repr(C)]
 #[derive(Clone, Copy)]
 pub struct DtlsClientHello {
-    /// How many bytes are missing, where the status says that some are; else 0.
+    /// How many bytes are missing, if the status is `INCOMPLETE`; else 0.
     pub missing: usize,
     /// The 32 bytes of the random.
     pub random: Place,
-    /// The session id, without its length; of no bytes where there is none.
+    /// The session ID, without its length; empty if there is none.
     pub session_id: Place,
     /// The cookie, without its length.
     pub cookie: Place,
@@ -73,17 +75,17 @@ pub struct DtlsClientHello {
     pub cipher_suites: Place,
     /// The compression methods, 1 byte each, without their length.
     pub compression_methods: Place,
-    /// The extensions, without their length; of no bytes where no whole block follows.
+    /// The extensions, without their length; empty if no whole block follows.
     pub extensions: Place,
     /// The offset of what follows.
     pub next: usize,
-    /// The version, as it stands there.
+    /// The version field.
     pub version: u16,
     /// Whether a whole block of extensions follows.
     pub has_extensions: bool,
 }
 
-/// Reads the record of DTLS that begins at that offset of a datagram.
+/// Parses the DTLS record at this offset of a datagram.
 #[tactic(auto, using(layouts::proofs::OneAnswerLemmas::read_allowed, crate::proofs::StatusLemmas::told, crate::proofs::StatusLemmas::refused, crate::proofs::StatusLemmas::behind))]
 #[unsafe(no_mangle)]
 pub extern "C" fn wispuddera_read_dtls_record(
@@ -91,7 +93,8 @@ pub extern "C" fn wispuddera_read_dtls_record(
     offset: usize,
     out: &mut DtlsRecord,
 ) -> u32
-    ensures { IsAnsweredAt raw_record (ShowsDtlsRecord bytes.now out.new) bytes.now offset result out.new.missing }
+    ensures { IsAnsweredAt raw_record (ShowsDtlsRecord bytes.now out.new) bytes.now offset result
+        out.new.missing }
 {
     let Some(i) = bytes_from(bytes, offset) else {
         out.missing = 0;
@@ -119,7 +122,7 @@ pub extern "C" fn wispuddera_read_dtls_record(
     }
 }
 
-/// Reads the handshake message, or the fragment of one, that begins at that offset of a record's fragment.
+/// Parses the handshake message, or the fragment of one, at this offset of a record's fragment.
 #[tactic(auto, using(layouts::proofs::OneAnswerLemmas::read_allowed, crate::proofs::StatusLemmas::told, crate::proofs::StatusLemmas::refused, crate::proofs::StatusLemmas::behind))]
 #[unsafe(no_mangle)]
 pub extern "C" fn wispuddera_read_dtls_message(
@@ -127,7 +130,8 @@ pub extern "C" fn wispuddera_read_dtls_message(
     offset: usize,
     out: &mut DtlsMessage,
 ) -> u32
-    ensures { IsAnsweredAt raw_handshake (ShowsDtlsMessage bytes.now out.new) bytes.now offset result out.new.missing }
+    ensures { IsAnsweredAt raw_handshake (ShowsDtlsMessage bytes.now out.new) bytes.now offset
+        result out.new.missing }
 {
     let Some(i) = bytes_from(bytes, offset) else {
         out.missing = 0;
@@ -156,11 +160,12 @@ pub extern "C" fn wispuddera_read_dtls_message(
     }
 }
 
-/// Reads the body of a ClientHello of DTLS.
+/// Parses the body of a DTLS ClientHello.
 #[tactic(auto, using(layouts::proofs::OneAnswerLemmas::read_allowed, layouts::proofs::PlaceLemmas::ends_here, layouts::proofs::PlaceLemmas::ends_read))]
 #[unsafe(no_mangle)]
 pub extern "C" fn wispuddera_read_dtls_client_hello(bytes: &[u8], out: &mut DtlsClientHello) -> u32
-    ensures { IsAnswered (ShowsDtlsClientHello bytes.now out.new) (reading client_hello bytes.now) result out.new.missing }
+    ensures { IsAnswered (ShowsDtlsClientHello bytes.now out.new) (reading client_hello bytes.now)
+        result out.new.missing }
 {
     match dtls_client_hello_with_places(bytes) {
         Ok((rest, (hello, places))) => {

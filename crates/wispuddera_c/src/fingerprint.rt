@@ -1,4 +1,4 @@
-//! Fingerprints of hellos, put into a buffer of the caller's.
+//! Fingerprints of hellos, written to a buffer of the caller's.
 ghost use Rattle.std.specs.Prelude.{◌≡◌, ◌≤◌, ◌++◌, drop, length};
 ghost use Rattle.layouts.specs.Reading.{reading};
 ghost use Rattle.tls_fingerprints.specs.Hellos.{view_client, view_server};
@@ -18,12 +18,12 @@ use tls_hs::parts::server_hello_any as read_server_hello_any;
 use tls_hs::{ClientHelloView, TlsServerHelloContents, parse_tls_handshake_server_hello};
 use tls_records::DTLSClientHelloView;
 
-/// How many characters JA3 and JA3S have.
+/// The length of JA3 and JA3S, in characters.
 const DIGITS: usize = 32;
-/// How many characters JA4 has.
+/// The length of JA4, in characters.
 const CHARACTERS: usize = 36;
 
-/// Puts a text in front of the buffer.
+/// Writes a text to the beginning of the buffer.
 fn write_front(buffer: &mut [u8], text: &[u8])
     requires { length text.now ≤ length buffer.old }
     ensures { buffer.new ≡ text.now ++ drop (length text.now) buffer.old }
@@ -31,7 +31,7 @@ fn write_front(buffer: &mut [u8], text: &[u8])
     buffer[..text.len()].copy_from_slice(text);
 }
 
-/// What fingerprints are made of in a ClientHello.
+/// The fields of a ClientHello that fingerprints use.
 fn client_parts<'a>(hello: &ClientHelloView<'a>) -> ClientHelloParts<'a>
     ensures { view_client result ≡ client_of (view_client_hello_in_place hello.now) }
 {
@@ -42,7 +42,7 @@ fn client_parts<'a>(hello: &ClientHelloView<'a>) -> ClientHelloParts<'a>
     }
 }
 
-/// The same of a ClientHello of DTLS.
+/// The fields of a DTLS ClientHello that fingerprints use.
 fn dtls_client_parts<'a>(hello: &DTLSClientHelloView<'a>) -> ClientHelloParts<'a>
     ensures { view_client result ≡ client_of (view_dtls_client_hello_in_place hello.now).hello }
 {
@@ -53,7 +53,7 @@ fn dtls_client_parts<'a>(hello: &DTLSClientHelloView<'a>) -> ClientHelloParts<'a
     }
 }
 
-/// What fingerprints are made of in a ServerHello.
+/// The fields of a ServerHello that fingerprints use.
 fn server_parts<'a>(hello: &TlsServerHelloContents<'a>) -> ServerHelloParts<'a>
     ensures { view_server result ≡ server_of (view_server_hello hello.now) }
 {
@@ -64,11 +64,13 @@ fn server_parts<'a>(hello: &TlsServerHelloContents<'a>) -> ServerHelloParts<'a>
     }
 }
 
-/// Puts JA4 in front of the buffer; a hello that has more suites or extensions than any has is refused.
+/// Writes JA4 to the beginning of the buffer. A hello with more suites or extensions than are
+/// possible is refused.
 fn tell_ja4(hello: ClientHelloParts, transport: Transport, text: &mut [u8]) -> u32
     requires { 36 ≤ length text.old }
     ensures { (IsTooLong 32767 (view_client hello.entry) → ⊥)
-        → (result ≡ 0) × BeginsWith (ja4_of transport (view_client hello.entry)) 36 text.old text.new }
+        → (result ≡ 0) × BeginsWith (ja4_of transport (view_client hello.entry)) 36
+        text.old text.new }
 {
     match hello.ja4_characters(transport) {
         Some(characters) => {
@@ -79,10 +81,11 @@ fn tell_ja4(hello: ClientHelloParts, transport: Transport, text: &mut [u8]) -> u
     }
 }
 
-/// Tells JA3 of a ClientHello, in its body (RFC 5246, section 7.4.1.2).
+/// Writes JA3 of a ClientHello, from its body (RFC 5246, section 7.4.1.2).
 #[unsafe(no_mangle)]
 pub extern "C" fn wispuddera_ja3(bytes: &[u8], digits: &mut [u8], missing: &mut usize) -> u32
-    ensures { IsTold (λ h. ja3_of (client_of h)) 32 (reading client_hello bytes.now) digits.old digits.new result missing.new }
+    ensures { IsTold (λ h. ja3_of (client_of h)) 32 (reading client_hello bytes.now) digits.old
+        digits.new result missing.new }
 {
     *missing = 0;
     if digits.len() < DIGITS {
@@ -101,10 +104,11 @@ pub extern "C" fn wispuddera_ja3(bytes: &[u8], digits: &mut [u8], missing: &mut 
     }
 }
 
-/// Tells JA3 of a ClientHello of DTLS (RFC 6347, section 4.2.1).
+/// Writes JA3 of a DTLS ClientHello, from its body (RFC 6347, section 4.2.1).
 #[unsafe(no_mangle)]
 pub extern "C" fn wispuddera_dtls_ja3(bytes: &[u8], digits: &mut [u8], missing: &mut usize) -> u32
-    ensures { IsTold (λ h. ja3_of (client_of h.hello)) 32 (reading dtls_client_hello bytes.now) digits.old digits.new result missing.new }
+    ensures { IsTold (λ h. ja3_of (client_of h.hello)) 32 (reading dtls_client_hello bytes.now)
+        digits.old digits.new result missing.new }
 {
     *missing = 0;
     if digits.len() < DIGITS {
@@ -123,10 +127,11 @@ pub extern "C" fn wispuddera_dtls_ja3(bytes: &[u8], digits: &mut [u8], missing: 
     }
 }
 
-/// Tells JA3S of a ServerHello, in its body (RFC 5246, section 7.4.1.3).
+/// Writes JA3S of a ServerHello, from its body (RFC 5246, section 7.4.1.3).
 #[unsafe(no_mangle)]
 pub extern "C" fn wispuddera_ja3s(bytes: &[u8], digits: &mut [u8], missing: &mut usize) -> u32
-    ensures { IsTold (λ h. ja3s_of (server_of h)) 32 (reading server_hello bytes.now) digits.old digits.new result missing.new }
+    ensures { IsTold (λ h. ja3s_of (server_of h)) 32 (reading server_hello bytes.now) digits.old
+        digits.new result missing.new }
 {
     *missing = 0;
     if digits.len() < DIGITS {
@@ -145,10 +150,11 @@ pub extern "C" fn wispuddera_ja3s(bytes: &[u8], digits: &mut [u8], missing: &mut
     }
 }
 
-/// Tells JA3S of a ServerHello of DTLS (RFC 6347, section 4.3.2), whatever its version.
+/// Writes JA3S of a DTLS ServerHello of any version, from its body (RFC 6347, section 4.3.2).
 #[unsafe(no_mangle)]
 pub extern "C" fn wispuddera_dtls_ja3s(bytes: &[u8], digits: &mut [u8], missing: &mut usize) -> u32
-    ensures { IsTold (λ h. ja3s_of (server_of h)) 32 (reading server_hello_any bytes.now) digits.old digits.new result missing.new }
+    ensures { IsTold (λ h. ja3s_of (server_of h)) 32 (reading server_hello_any bytes.now) digits.old
+        digits.new result missing.new }
 {
     *missing = 0;
     if digits.len() < DIGITS {
@@ -167,9 +173,10 @@ pub extern "C" fn wispuddera_dtls_ja3s(bytes: &[u8], digits: &mut [u8], missing:
     }
 }
 
-/// Tells JA4 of a ClientHello over that transport, in its body.
+/// Writes JA4 of a ClientHello over this transport, from its body.
 fn ja4_over(bytes: &[u8], transport: Transport, text: &mut [u8], missing: &mut usize) -> u32
-    ensures { IsTold (λ h. ja4_of transport (client_of h)) 36 (reading client_hello bytes.now) text.old text.new result missing.new }
+    ensures { IsTold (λ h. ja4_of transport (client_of h)) 36 (reading client_hello bytes.now)
+        text.old text.new result missing.new }
 {
     *missing = 0;
     if text.len() < CHARACTERS {
@@ -185,26 +192,29 @@ fn ja4_over(bytes: &[u8], transport: Transport, text: &mut [u8], missing: &mut u
     }
 }
 
-/// Tells JA4 of a ClientHello over TCP, in its body (RFC 5246, section 7.4.1.2).
+/// Writes JA4 of a ClientHello over TCP, from its body (RFC 5246, section 7.4.1.2).
 #[unsafe(no_mangle)]
 pub extern "C" fn wispuddera_ja4(bytes: &[u8], text: &mut [u8], missing: &mut usize) -> u32
-    ensures { IsTold (λ h. ja4_of Tcp (client_of h)) 36 (reading client_hello bytes.now) text.old text.new result missing.new }
+    ensures { IsTold (λ h. ja4_of Tcp (client_of h)) 36 (reading client_hello bytes.now) text.old
+        text.new result missing.new }
 {
     ja4_over(bytes, Transport::Tcp, text, missing)
 }
 
-/// Tells JA4 of a ClientHello over QUIC (RFC 9001), in its body.
+/// Writes JA4 of a ClientHello over QUIC (RFC 9001), from its body.
 #[unsafe(no_mangle)]
 pub extern "C" fn wispuddera_quic_ja4(bytes: &[u8], text: &mut [u8], missing: &mut usize) -> u32
-    ensures { IsTold (λ h. ja4_of Quic (client_of h)) 36 (reading client_hello bytes.now) text.old text.new result missing.new }
+    ensures { IsTold (λ h. ja4_of Quic (client_of h)) 36 (reading client_hello bytes.now) text.old
+        text.new result missing.new }
 {
     ja4_over(bytes, Transport::Quic, text, missing)
 }
 
-/// Tells JA4 of a ClientHello of DTLS (RFC 6347, section 4.2.1).
+/// Writes JA4 of a DTLS ClientHello, from its body (RFC 6347, section 4.2.1).
 #[unsafe(no_mangle)]
 pub extern "C" fn wispuddera_dtls_ja4(bytes: &[u8], text: &mut [u8], missing: &mut usize) -> u32
-    ensures { IsTold (λ h. ja4_of Udp (client_of h.hello)) 36 (reading dtls_client_hello bytes.now) text.old text.new result missing.new }
+    ensures { IsTold (λ h. ja4_of Udp (client_of h.hello)) 36 (reading dtls_client_hello bytes.now)
+        text.old text.new result missing.new }
 {
     *missing = 0;
     if text.len() < CHARACTERS {

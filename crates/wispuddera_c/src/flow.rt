@@ -1,4 +1,4 @@
-//! A conversation that is followed event by event, and of which the caller keeps a number alone.
+//! A conversation followed event by event, for which the caller keeps just a number.
 ghost use Rattle.std.specs.Prelude.{◌≡◌, ◌++◌, ◌∷◌, [], List, None, Some};
 ghost use Rattle.tls_flow.specs.Conversations.{IsOutcome};
 ghost use Rattle.tls_flow.specs.Table.{outcome_at};
@@ -10,7 +10,7 @@ ghost use Rattle.wispuddera_c.specs.declared.outcome.Event.{Event};
 use crate::outcome::{Event, followed_event, number_of_outcome};
 use tls_flow::{Flow as Followed, Outcome, State};
 
-/// Where a conversation stands: the number of its state.
+/// The state of a conversation, as a number.
 #[repr(C)]
 #[derive(Clone, Copy)]
 pub struct Flow {
@@ -60,7 +60,7 @@ pub fn number_of_state(state: State) -> u32
     }
 }
 
-/// The states at their numbers.
+/// The states in the order of their numbers.
 const STATES: [State; 34] = [
     State::Start,
     State::Hello,
@@ -98,7 +98,7 @@ const STATES: [State; 34] = [
     State::NoHandshake,
 ];
 
-/// The state of that number; `None` behind the last.
+/// The state with this number; `None` past the last.
 #[inline(always)]
 pub fn state_of(number: u32) -> Option<State>
     ensures { result ≡ state_at number }
@@ -106,7 +106,7 @@ pub fn state_of(number: u32) -> Option<State>
     STATES.get(number as usize).copied()
 }
 
-/// Begins a conversation of which nothing was said.
+/// Begins a conversation without events.
 #[unsafe(no_mangle)]
 pub extern "C" fn wispuddera_flow_start(flow: &mut Flow)
     ensures { IsBehind [] flow.new }
@@ -116,10 +116,11 @@ pub extern "C" fn wispuddera_flow_start(flow: &mut Flow)
     };
 }
 
-/// Follows one more event. A number that is no state's stays.
+/// Follows one more event. An unknown number doesn't change.
 #[unsafe(no_mangle)]
 pub extern "C" fn wispuddera_flow_step(flow: &mut Flow, event: &Event)
-    ensures follows { (events : List Event) → IsBehind events flow.old → IsBehind (events ++ event.now ∷ []) flow.new }
+    ensures follows { (events : List Event) → IsBehind events flow.old
+        → IsBehind (events ++ event.now ∷ []) flow.new }
     ensures stays { state_at flow.old.state ≡ None → flow.new ≡ flow.old }
 {
     if let Some(state) = state_of(flow.state) {
@@ -131,10 +132,12 @@ pub extern "C" fn wispuddera_flow_step(flow: &mut Flow, event: &Event)
     }
 }
 
-/// How a conversation stands: as `wispuddera_outcome` tells it of its events. A number that is no state's stands for no handshake.
+/// The outcome of a conversation, as `wispuddera_outcome` returns it for the events. An unknown
+/// number counts as no handshake.
 #[unsafe(no_mangle)]
 pub extern "C" fn wispuddera_flow_outcome(flow: &Flow) -> u32
-    ensures told { (events : List Event) → IsBehind events flow.now → (o : Outcome) × (result ≡ outcome_number o) × IsOutcome o (word_of events) }
+    ensures told { (events : List Event) → IsBehind events flow.now
+        → (o : Outcome) × (result ≡ outcome_number o) × IsOutcome o (word_of events) }
     ensures other { state_at flow.now.state ≡ None → result ≡ 5 }
 {
     match state_of(flow.state) {

@@ -1,4 +1,4 @@
-//! What is found in records, hellos and extensions: names, lists, contents.
+//! Looking things up in records, hellos and extensions: names, lists, contents.
 ghost use Rattle.tls_ext.specs.InPlace.{client_shares, content_of, host_name, key_share_entry, protocol_names};
 ghost use Rattle.layouts.specs.Items.{IsTold};
 ghost use Rattle.layouts.specs.Layout.{counted};
@@ -20,17 +20,17 @@ use tls_places::{
     host_name_place_of_record, protocol_names_place,
 };
 
-/// Where what was asked for stands.
+/// The place of what was looked up.
 #[repr(C)]
 #[derive(Clone, Copy)]
 pub struct Found {
-    /// How many bytes are missing, where the status says that some are; else 0.
+    /// How many bytes are missing, if the status is `INCOMPLETE`; else 0.
     pub missing: usize,
-    /// Where it stands.
+    /// Its place.
     pub place: Place,
 }
 
-/// What the library found, in C's numbers.
+/// Writes the library's result to the struct, and returns its status.
 #[inline(always)]
 fn tell(found: Result<Option<Within>, Err<Error<&[u8]>>>, out: &mut Found) -> u32
     requires { IsTold found }
@@ -52,7 +52,7 @@ fn tell(found: Result<Option<Within>, Err<Error<&[u8]>>>, out: &mut Found) -> u3
     }
 }
 
-/// Finds the name of the host that the first ClientHello of the record in front asks for.
+/// Finds the host name that the first ClientHello of the record at the front asks for.
 #[unsafe(no_mangle)]
 pub extern "C" fn wispuddera_find_server_name_in_record(bytes: &[u8], out: &mut Found) -> u32
     ensures { IsFound bytes.now (host_name_of_record bytes.now) result out.new }
@@ -60,7 +60,7 @@ pub extern "C" fn wispuddera_find_server_name_in_record(bytes: &[u8], out: &mut 
     tell(host_name_place_of_record(bytes), out)
 }
 
-/// Finds the name of the host that a ClientHello asks for, in its body.
+/// Finds the host name that a ClientHello asks for, in its body.
 #[unsafe(no_mangle)]
 pub extern "C" fn wispuddera_find_server_name_in_hello(bytes: &[u8], out: &mut Found) -> u32
     ensures { IsFound bytes.now (name_in_hello (reading client_hello bytes.now)) result out.new }
@@ -68,7 +68,7 @@ pub extern "C" fn wispuddera_find_server_name_in_hello(bytes: &[u8], out: &mut F
     tell(host_name_place_of_hello(bytes), out)
 }
 
-/// Finds the name of the host in a block of extensions (RFC 6066, section 3).
+/// Finds the host name in a block of extensions (RFC 6066, section 3).
 #[unsafe(no_mangle)]
 pub extern "C" fn wispuddera_find_server_name(bytes: &[u8], out: &mut Found) -> u32
     ensures { IsFound bytes.now (host_name bytes.now) result out.new }
@@ -76,7 +76,7 @@ pub extern "C" fn wispuddera_find_server_name(bytes: &[u8], out: &mut Found) -> 
     tell(host_name_place(bytes), out)
 }
 
-/// Finds the list of names of protocols in a block of extensions (RFC 7301, section 3.1).
+/// Finds the list of protocol names in a block of extensions (RFC 7301, section 3.1).
 #[unsafe(no_mangle)]
 pub extern "C" fn wispuddera_find_protocols(bytes: &[u8], out: &mut Found) -> u32
     ensures { AreFound (counted 1) bytes.now (protocol_names bytes.now) result out.new }
@@ -84,7 +84,8 @@ pub extern "C" fn wispuddera_find_protocols(bytes: &[u8], out: &mut Found) -> u3
     tell(protocol_names_place(bytes), out)
 }
 
-/// Finds the content of the first extension of that type in a block of extensions (RFC 8446, section 4.2).
+/// Finds the content of the first extension of this type in a block of extensions (RFC 8446,
+/// section 4.2).
 #[unsafe(no_mangle)]
 pub extern "C" fn wispuddera_find_extension(bytes: &[u8], kind: u16, out: &mut Found) -> u32
     ensures { IsFound bytes.now (content_of kind bytes.now) result out.new }
@@ -92,7 +93,8 @@ pub extern "C" fn wispuddera_find_extension(bytes: &[u8], kind: u16, out: &mut F
     tell(content_place(bytes, TlsExtensionType(kind)), out)
 }
 
-/// Finds the body of the first handshake message of that type in a fragment (RFC 5246, section 7.4).
+/// Finds the body of the first handshake message of this type in a fragment (RFC 5246, section
+/// 7.4).
 #[unsafe(no_mangle)]
 pub extern "C" fn wispuddera_find_body(bytes: &[u8], kind: u8, out: &mut Found) -> u32
     ensures { IsFound bytes.now (body_of_type kind bytes.now) result out.new }
@@ -100,11 +102,13 @@ pub extern "C" fn wispuddera_find_body(bytes: &[u8], kind: u8, out: &mut Found) 
     tell(body_place(bytes, TlsHandshakeType(kind)), out)
 }
 
-/// Finds the list of key shares in the content of a ClientHello's key_share (RFC 8446, section 4.2.8).
+/// Finds the list of key shares in the content of a ClientHello's key_share (RFC 8446, section
+/// 4.2.8).
 #[tactic(auto, using(layouts::proofs::OneAnswerLemmas::read_allowed, layouts::proofs::PlaceLemmas::ends_here))]
 #[unsafe(no_mangle)]
 pub extern "C" fn wispuddera_find_key_shares(bytes: &[u8], out: &mut Found) -> u32
-    ensures { IsAnswered (λ v _. ItemsStandAt key_share_entry bytes.now out.new.place v) (reading client_shares bytes.now) result out.new.missing }
+    ensures { IsAnswered (λ v _. ItemsStandAt key_share_entry bytes.now out.new.place v)
+        (reading client_shares bytes.now) result out.new.missing }
 {
     match frame_at::<Counted2>(bytes, bytes) {
         Ok((_, (_, place))) => {
@@ -122,11 +126,13 @@ pub extern "C" fn wispuddera_find_key_shares(bytes: &[u8], out: &mut Found) -> u
     }
 }
 
-/// Finds the list of certificates in the body of a Certificate up to TLS 1.2 (RFC 5246, section 7.4.2).
+/// Finds the list of certificates in the body of a Certificate up to TLS 1.2 (RFC 5246, section
+/// 7.4.2).
 #[tactic(auto, using(layouts::proofs::OneAnswerLemmas::read_allowed, layouts::proofs::PlaceLemmas::ends_here), unfolding(tls_hs::specs::Certificate::certificate))]
 #[unsafe(no_mangle)]
 pub extern "C" fn wispuddera_find_certificates(bytes: &[u8], out: &mut Found) -> u32
-    ensures { IsAnswered (λ v _. ItemsStandAt (counted 3) bytes.now out.new.place v) (reading certificate bytes.now) result out.new.missing }
+    ensures { IsAnswered (λ v _. ItemsStandAt (counted 3) bytes.now out.new.place v)
+        (reading certificate bytes.now) result out.new.missing }
 {
     match frame_at::<RawCertificate>(bytes, bytes) {
         Ok((_, (_, place))) => {

@@ -1,4 +1,5 @@
-//! How much room the structs take, and where their fields begin, so that a caller can compare what its compiler makes of the header.
+//! The sizes and field offsets of the structs, so that a caller can check how its compiler lays out
+//! the header.
 ghost use Rattle.std.specs.Prelude.{◌≡◌, [], slice_get};
 ghost use Rattle.std.specs.Option.{unwrap_or};
 ghost use Rattle.wispuddera_c.specs.Layout.{field_offsets as offsets_of_structs, offset_of_field, size_of_struct};
@@ -20,7 +21,7 @@ use crate::server_hello::ServerHello;
 use crate::side::Side;
 use std::mem::size_of;
 
-/// How many bytes a struct takes: of the header's list of structs, the one at that index; 0 behind its end.
+/// The size of the struct at this index of the header's list, in bytes; 0 past its end.
 #[unsafe(no_mangle)]
 pub extern "C" fn wispuddera_struct_size(index: usize) -> usize
     ensures { result ≡ size_of_struct index }
@@ -49,7 +50,7 @@ pub extern "C" fn wispuddera_struct_size(index: usize) -> usize
     }
 }
 
-/// Where the fields of a struct begin, in the header's order.
+/// The field offsets of a struct, in the header's order.
 fn field_offsets(index: usize) -> &'static [usize]
     ensures { result.now ≡ unwrap_or (slice_get offsets_of_structs index) [] }
 {
@@ -79,7 +80,7 @@ fn field_offsets(index: usize) -> &'static [usize]
     }
 }
 
-/// Where a field of a struct begins: of the header's list of structs the one at that index, and of its fields; behind the last field,
+/// The offset of a field, in the struct at this index of the header's list; past the last field,
 /// the size of the struct.
 #[unsafe(no_mangle)]
 pub extern "C" fn wispuddera_field_offset(index: usize, field: usize) -> usize

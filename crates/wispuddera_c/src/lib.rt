@@ -1,8 +1,14 @@
-//! What C and Python call: each export is one call of the library, and states the library's clauses again over C's numbers.
+//! The C interface, which Python uses too: each exported function is one call of the library, and
+//! restates the library's clauses in terms of C structs.
 //!
-//! Bytes come as a pointer and a count, what is read goes into a struct of the caller's, and the answer is a status. Places and
-//! offsets count from the front of the caller's bytes. A cursor is an offset that the caller keeps: `next` of what was read is
-//! the offset of what follows. Nothing here takes memory, and nothing is kept between calls.
+//! Bytes come as a pointer and a count, a parsed value goes into a struct of the caller's, and the
+//! call returns a status. Places and offsets count from the beginning of the caller's bytes. A
+//! cursor is an offset that the caller keeps: pass the field `next` as `offset` to parse what
+//! follows. Nothing here allocates, and nothing is kept between calls.
+//!
+//! Each function's promise is its contract. The `Shows..` definitions of specs/, such as
+//! `specs/Record.antt` and `specs/Hello.antt`, say what the fields of a struct mean, and
+//! `specs/Status.antt` what a status means.
 #![tactic(auto, using(layouts::proofs::OneAnswerLemmas::read_allowed))]
 
 mod certificate;

@@ -1,4 +1,4 @@
-//! Numbers of lists by their index: cipher suites, versions, groups, signature schemes.
+//! Numbers of lists by index: cipher suites, versions, groups, signature schemes.
 ghost use Rattle.tls_ext.specs.Content as content;
 ghost use Rattle.tls_ext.specs.InPlace.{best_version as best_version_in, listed_versions, picked};
 ghost use Rattle.layouts.specs.Items.{items_in};
@@ -15,19 +15,19 @@ use tls_ext::{best_version, signature_algorithms, supported_groups, supported_ve
 use tls_hs::ClientHelloView;
 use tls_records::DTLSClientHelloView;
 
-/// A number of a list, and how many the list has.
+/// A number of a list, and the length of the list.
 #[repr(C)]
 #[derive(Clone, Copy)]
 pub struct Number {
-    /// How many bytes are missing, where the status says that some are; else 0.
+    /// How many bytes are missing, if the status is `INCOMPLETE`; else 0.
     pub missing: usize,
-    /// How many numbers the list has.
+    /// The length of the list.
     pub count: usize,
     /// The number.
     pub value: u16,
 }
 
-/// The number at that index of a list.
+/// The number at this index of a list.
 #[inline(always)]
 fn tell(numbers: Items<u16>, index: usize, out: &mut Number) -> u32
     ensures { IsNumberOf (items_in (number 2) numbers.entry.bytes.now) index result out.new }
@@ -43,7 +43,8 @@ fn tell(numbers: Items<u16>, index: usize, out: &mut Number) -> u32
     }
 }
 
-/// Finds the number at that index of numbers of 2 bytes each, as the cipher suites of a ClientHello.
+/// Finds the number at this index of a list of 2-byte numbers, such as the cipher suites of a
+/// ClientHello.
 #[unsafe(no_mangle)]
 pub extern "C" fn wispuddera_number_at(bytes: &[u8], index: usize, out: &mut Number) -> u32
     ensures { IsNumberOf (items_in (number 2) bytes.now) index result out.new }
@@ -51,10 +52,11 @@ pub extern "C" fn wispuddera_number_at(bytes: &[u8], index: usize, out: &mut Num
     tell(Items::new(bytes), index, out)
 }
 
-/// Finds the cipher suite at that index of those that a ClientHello offers, in its body (RFC 5246, section 7.4.1.2).
+/// Finds the cipher suite at this index in the body of a ClientHello (RFC 5246, section 7.4.1.2).
 #[unsafe(no_mangle)]
 pub extern "C" fn wispuddera_cipher_suite_at(bytes: &[u8], index: usize, out: &mut Number) -> u32
-    ensures { IsNumberIn (offered (λ h. h.cipher_suites) (reading client_hello bytes.now)) index result out.new }
+    ensures { IsNumberIn (offered (λ h. h.cipher_suites) (reading client_hello bytes.now)) index
+        result out.new }
 {
     match ClientHelloView::parse(bytes) {
         Ok((_, hello)) => tell(Items::new(hello.ciphers.bytes()), index, out),
@@ -66,14 +68,17 @@ pub extern "C" fn wispuddera_cipher_suite_at(bytes: &[u8], index: usize, out: &m
     }
 }
 
-/// The same of a ClientHello of DTLS (RFC 6347, section 4.2.1).
+/// Finds the cipher suite at this index in the body of a DTLS ClientHello (RFC 6347, section
+/// 4.2.1).
 #[unsafe(no_mangle)]
 pub extern "C" fn wispuddera_dtls_cipher_suite_at(
     bytes: &[u8],
     index: usize,
     out: &mut Number,
 ) -> u32
-    ensures { IsNumberIn (offered (λ h. h.hello.cipher_suites) (reading dtls_client_hello bytes.now)) index result out.new }
+    ensures { IsNumberIn
+        (offered (λ h. h.hello.cipher_suites) (reading dtls_client_hello bytes.now)) index
+        result out.new }
 {
     match DTLSClientHelloView::parse(bytes) {
         Ok((_, hello)) => tell(Items::new(hello.ciphers.bytes()), index, out),
@@ -85,10 +90,12 @@ pub extern "C" fn wispuddera_dtls_cipher_suite_at(
     }
 }
 
-/// Finds the version at that index of the content of a supported_versions (RFC 8446, section 4.2.1).
+/// Finds the version at this index in the content of a supported_versions (RFC 8446, section
+/// 4.2.1).
 #[unsafe(no_mangle)]
 pub extern "C" fn wispuddera_version_at(bytes: &[u8], index: usize, out: &mut Number) -> u32
-    ensures { IsNumberIn (picked listed_versions (reading content.supported_versions bytes.now)) index result out.new }
+    ensures { IsNumberIn (picked listed_versions (reading content.supported_versions bytes.now))
+        index result out.new }
 {
     match supported_versions(bytes) {
         Ok((_, versions)) => tell(Items::new(versions.bytes()), index, out),
@@ -100,10 +107,11 @@ pub extern "C" fn wispuddera_version_at(bytes: &[u8], index: usize, out: &mut Nu
     }
 }
 
-/// Finds the group at that index of the content of a supported_groups (RFC 8446, section 4.2.7).
+/// Finds the group at this index in the content of a supported_groups (RFC 8446, section 4.2.7).
 #[unsafe(no_mangle)]
 pub extern "C" fn wispuddera_group_at(bytes: &[u8], index: usize, out: &mut Number) -> u32
-    ensures { IsNumberIn (picked listed_groups (reading content.supported_groups bytes.now)) index result out.new }
+    ensures { IsNumberIn (picked listed_groups (reading content.supported_groups bytes.now)) index
+        result out.new }
 {
     match supported_groups(bytes) {
         Ok((_, groups)) => tell(Items::new(groups.bytes()), index, out),
@@ -115,14 +123,16 @@ pub extern "C" fn wispuddera_group_at(bytes: &[u8], index: usize, out: &mut Numb
     }
 }
 
-/// Finds the signature scheme at that index of the content of a signature_algorithms (RFC 8446, section 4.2.3).
+/// Finds the signature scheme at this index in the content of a signature_algorithms (RFC 8446,
+/// section 4.2.3).
 #[unsafe(no_mangle)]
 pub extern "C" fn wispuddera_signature_scheme_at(
     bytes: &[u8],
     index: usize,
     out: &mut Number,
 ) -> u32
-    ensures { IsNumberIn (picked listed_schemes (reading content.signature_algorithms bytes.now)) index result out.new }
+    ensures { IsNumberIn (picked listed_schemes (reading content.signature_algorithms bytes.now))
+        index result out.new }
 {
     match signature_algorithms(bytes) {
         Ok((_, schemes)) => tell(Items::new(schemes.bytes()), index, out),
@@ -134,7 +144,8 @@ pub extern "C" fn wispuddera_signature_scheme_at(
     }
 }
 
-/// Finds the best version of a hello that has that version and these extensions (RFC 8446, section 4.2.1).
+/// Finds the best version of a hello with this version field and these extensions (RFC 8446,
+/// section 4.2.1).
 #[unsafe(no_mangle)]
 pub extern "C" fn wispuddera_best_version(bytes: &[u8], version: u16, out: &mut Number) -> u32
     ensures { IsAnsweredNumber (best_version_in version bytes.now) result out.new }

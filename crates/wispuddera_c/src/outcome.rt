@@ -1,4 +1,4 @@
-//! How a conversation stands, by its events so far.
+//! The outcome of a conversation from its events so far.
 ghost use Rattle.std.specs.Prelude.{◌≡◌, None, map};
 ghost use Rattle.tls_base.specs.Alert.{Alert};
 ghost use Rattle.tls_flow.specs.Bytes.{kind_of_body as kind_of_body_in};
@@ -13,7 +13,7 @@ ghost use Rattle.wispuddera_c.specs.Outcome.{event_of, kind_of_number, symbol_of
 use tls_base::{TlsAlertDescription, TlsAlertSeverity, TlsHandshakeType, TlsMessageAlert};
 use tls_flow::{Direction, Event as FlowEvent, Flow, Kind, Outcome};
 
-/// What a side said: the number of its kind, and whether it goes to the server.
+/// An event of a side: the number of its kind, and whether it goes to the server.
 #[repr(C)]
 #[derive(Clone, Copy)]
 pub struct Event {
@@ -114,8 +114,9 @@ pub fn number_of_outcome(outcome: Outcome) -> u32
     }
 }
 
-/// The kind of a handshake message of that type and body. It is the one call of what reads a ServerHello, which is inlined here: a second would
-/// leave the drop of a message with lists in the library, though none is made.
+/// The kind of a handshake message with this type and body. Only this function calls the parser of
+/// a ServerHello, which is inlined here. A second call would keep the drop of a message with lists
+/// in the library, although none is ever made.
 #[inline(never)]
 pub fn kind_of_body(kind: TlsHandshakeType, body: &[u8]) -> Kind
     ensures { result ≡ kind_of_body_in kind.0 body.now }
@@ -123,7 +124,7 @@ pub fn kind_of_body(kind: TlsHandshakeType, body: &[u8]) -> Kind
     Kind::of_body(kind, body)
 }
 
-/// The kind of event that a handshake message of TLS is, of that HandshakeType and body.
+/// The event kind of a TLS handshake message with this HandshakeType and body.
 #[unsafe(no_mangle)]
 pub extern "C" fn wispuddera_event_of_message(body: &[u8], kind: u8) -> u8
     ensures { kind_of_number result ≡ kind_of_body_in kind body.now }
@@ -131,7 +132,7 @@ pub extern "C" fn wispuddera_event_of_message(body: &[u8], kind: u8) -> u8
     number_of(kind_of_body(TlsHandshakeType(kind), body))
 }
 
-/// The kind of event that a handshake message of DTLS up to 1.2 is, of that HandshakeType.
+/// The event kind of a handshake message of DTLS up to 1.2 with this HandshakeType.
 #[unsafe(no_mangle)]
 pub extern "C" fn wispuddera_event_of_dtls_message(kind: u8) -> u8
     ensures { kind_of_number result ≡ kind_of_type kind }
@@ -139,10 +140,11 @@ pub extern "C" fn wispuddera_event_of_dtls_message(kind: u8) -> u8
     number_of(Kind::of_type(TlsHandshakeType(kind)))
 }
 
-/// The kind of event that an alert in the clear is (RFC 5246, section 7.2).
+/// The event kind of an alert in the clear (RFC 5246, section 7.2).
 #[unsafe(no_mangle)]
 pub extern "C" fn wispuddera_event_of_alert(level: u8, description: u8) -> u8
-    ensures { kind_of_number result ≡ kind_of_alert (record { level = level; description = description }) }
+    ensures { kind_of_number result ≡ kind_of_alert
+        (record { level = level; description = description }) }
 {
     let alert = TlsMessageAlert {
         severity: TlsAlertSeverity(level),
@@ -151,7 +153,7 @@ pub extern "C" fn wispuddera_event_of_alert(level: u8, description: u8) -> u8
     number_of(Kind::of_alert(&alert))
 }
 
-/// The event that the flow follows.
+/// The event for the flow.
 #[inline(always)]
 pub fn followed_event(event: Event) -> FlowEvent
     ensures symbol { result.symbol ≡ symbol_of event }
@@ -160,7 +162,7 @@ pub fn followed_event(event: Event) -> FlowEvent
     FlowEvent::new(kind_of(event.kind), Direction::of(event.to_server))
 }
 
-/// The flow of a conversation of these events.
+/// The flow after these events.
 fn flow_of(events: &[Event]) -> Flow
     ensures { result ≡ run follow silence (map event_of events.now) }
 {
@@ -172,7 +174,7 @@ fn flow_of(events: &[Event]) -> Flow
     flow
 }
 
-/// How a conversation of these events stands: exactly one outcome holds of it, and this is its number.
+/// The outcome of a conversation with these events: the number of the one outcome that holds.
 #[unsafe(no_mangle)]
 pub extern "C" fn wispuddera_outcome(events: &[Event]) -> u32
     ensures { (o : Outcome) × (result ≡ outcome_number o) × IsOutcome o (word_of events.now) }

@@ -1,4 +1,5 @@
-//! Parts with a kind and a length: handshake messages, extensions, key shares; and names behind their length.
+//! Parts with a kind and a length: handshake messages, extensions, key shares; and names after
+//! their length.
 ghost use Rattle.tls_ext.specs.InPlace.{key_share_entry, raw_extension};
 ghost use Rattle.layouts.specs.Layout.{counted};
 ghost use Rattle.tls_hs.specs.InPlace.{raw_handshake};
@@ -12,25 +13,26 @@ use tls_ext::{KeyShareEntry, RawExtension};
 use tls_hs::{RawCertificate, RawHandshake};
 use tls_places::frame_at;
 
-/// A part: its kind, where its content stands, and the offset of what follows it.
+/// A part: its kind, the place of its content, and the offset of what follows it.
 #[repr(C)]
 #[derive(Clone, Copy)]
 pub struct Part {
-    /// How many bytes are missing, where the status says that some are; else 0.
+    /// How many bytes are missing, if the status is `INCOMPLETE`; else 0.
     pub missing: usize,
-    /// Where its content stands, without kind and length.
+    /// The place of its content, without kind and length.
     pub content: Place,
     /// The offset of what follows.
     pub next: usize,
-    /// Its number; 0 where such parts have none.
+    /// Its number; 0 if such parts have none.
     pub kind: u16,
 }
 
-/// Reads the handshake message that begins at that offset of a record's fragment (RFC 5246, section 7.4).
+/// Parses the handshake message at this offset of a record's fragment (RFC 5246, section 7.4).
 #[tactic(auto, using(layouts::proofs::OneAnswerLemmas::read_allowed, crate::proofs::StatusLemmas::told, crate::proofs::StatusLemmas::refused, crate::proofs::StatusLemmas::behind))]
 #[unsafe(no_mangle)]
 pub extern "C" fn wispuddera_read_message(bytes: &[u8], offset: usize, out: &mut Part) -> u32
-    ensures { IsAnsweredAt raw_handshake (ShowsPart bytes.now out.new) bytes.now offset result out.new.missing }
+    ensures { IsAnsweredAt raw_handshake (ShowsPart bytes.now out.new) bytes.now offset result
+        out.new.missing }
 {
     let Some(i) = bytes_from(bytes, offset) else {
         out.missing = 0;
@@ -54,11 +56,12 @@ pub extern "C" fn wispuddera_read_message(bytes: &[u8], offset: usize, out: &mut
     }
 }
 
-/// Reads the extension that begins at that offset of a block of extensions (RFC 8446, section 4.2).
+/// Parses the extension at this offset of a block of extensions (RFC 8446, section 4.2).
 #[tactic(auto, using(layouts::proofs::OneAnswerLemmas::read_allowed, crate::proofs::StatusLemmas::told, crate::proofs::StatusLemmas::refused, crate::proofs::StatusLemmas::behind))]
 #[unsafe(no_mangle)]
 pub extern "C" fn wispuddera_read_extension(bytes: &[u8], offset: usize, out: &mut Part) -> u32
-    ensures { IsAnsweredAt raw_extension (ShowsPart bytes.now out.new) bytes.now offset result out.new.missing }
+    ensures { IsAnsweredAt raw_extension (ShowsPart bytes.now out.new) bytes.now offset result
+        out.new.missing }
 {
     let Some(i) = bytes_from(bytes, offset) else {
         out.missing = 0;
@@ -82,11 +85,13 @@ pub extern "C" fn wispuddera_read_extension(bytes: &[u8], offset: usize, out: &m
     }
 }
 
-/// Reads the key share that begins at that offset of a list of them (RFC 8446, section 4.2.8): its kind is its group.
+/// Parses the key share at this offset of a list of key shares (RFC 8446, section 4.2.8). Its kind
+/// is its group.
 #[tactic(auto, using(layouts::proofs::OneAnswerLemmas::read_allowed, crate::proofs::StatusLemmas::told, crate::proofs::StatusLemmas::refused, crate::proofs::StatusLemmas::behind))]
 #[unsafe(no_mangle)]
 pub extern "C" fn wispuddera_read_key_share(bytes: &[u8], offset: usize, out: &mut Part) -> u32
-    ensures { IsAnsweredAt key_share_entry (ShowsPart bytes.now out.new) bytes.now offset result out.new.missing }
+    ensures { IsAnsweredAt key_share_entry (ShowsPart bytes.now out.new) bytes.now offset result
+        out.new.missing }
 {
     let Some(i) = bytes_from(bytes, offset) else {
         out.missing = 0;
@@ -110,11 +115,12 @@ pub extern "C" fn wispuddera_read_key_share(bytes: &[u8], offset: usize, out: &m
     }
 }
 
-/// Reads the name of a protocol that begins at that offset of a list of them (RFC 7301, section 3.1).
+/// Parses the protocol name at this offset of a list of names (RFC 7301, section 3.1).
 #[tactic(auto, using(layouts::proofs::OneAnswerLemmas::read_allowed, crate::proofs::StatusLemmas::told, crate::proofs::StatusLemmas::refused, crate::proofs::StatusLemmas::behind))]
 #[unsafe(no_mangle)]
 pub extern "C" fn wispuddera_read_protocol(bytes: &[u8], offset: usize, out: &mut Part) -> u32
-    ensures { IsAnsweredAt (counted 1) (ShowsBytes bytes.now out.new) bytes.now offset result out.new.missing }
+    ensures { IsAnsweredAt (counted 1) (ShowsBytes bytes.now out.new) bytes.now offset result
+        out.new.missing }
 {
     let Some(i) = bytes_from(bytes, offset) else {
         out.missing = 0;
@@ -138,11 +144,12 @@ pub extern "C" fn wispuddera_read_protocol(bytes: &[u8], offset: usize, out: &mu
     }
 }
 
-/// Reads the certificate that begins at that offset of a list of them (RFC 5246, section 7.4.2).
+/// Parses the certificate at this offset of a list of certificates (RFC 5246, section 7.4.2).
 #[tactic(auto, using(layouts::proofs::OneAnswerLemmas::read_allowed, crate::proofs::StatusLemmas::told, crate::proofs::StatusLemmas::refused, crate::proofs::StatusLemmas::behind))]
 #[unsafe(no_mangle)]
 pub extern "C" fn wispuddera_read_certificate(bytes: &[u8], offset: usize, out: &mut Part) -> u32
-    ensures { IsAnsweredAt (counted 3) (ShowsBytes bytes.now out.new) bytes.now offset result out.new.missing }
+    ensures { IsAnsweredAt (counted 3) (ShowsBytes bytes.now out.new) bytes.now offset result
+        out.new.missing }
 {
     let Some(i) = bytes_from(bytes, offset) else {
         out.missing = 0;

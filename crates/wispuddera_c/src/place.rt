@@ -1,4 +1,4 @@
-//! Where parts stand in the caller's bytes.
+//! The places of parts in the caller's bytes.
 ghost use Rattle.std.specs.Prelude.{◌≡◌, ◌≤◌, ◌<◌, Option, IfSome, IfNone, length, drop, List, ℕ};
 ghost use Rattle.std.specs.Borrow.{Bor};
 ghost use Rattle.std.specs.Option.{option_map};
@@ -12,17 +12,17 @@ ghost use Rattle.wispuddera_c.specs.Place.{Follows, StandsAt, place_of};
 
 use layouts::Place as Within;
 
-/// Where bytes stand, counted in bytes from the front of the caller's.
+/// A range of the caller's bytes.
 #[repr(C)]
 #[derive(Clone, Copy)]
 pub struct Place {
-    /// How many bytes stand in front.
+    /// How many bytes come before it.
     pub offset: usize,
-    /// How many bytes stand there.
+    /// How many bytes it has.
     pub length: usize,
 }
 
-/// That place, in C's numbers.
+/// A place, as a C struct.
 #[inline(always)]
 pub fn in_c(place: Within) -> Place
     ensures { place_of result ≡ place }
@@ -33,7 +33,7 @@ pub fn in_c(place: Within) -> Place
     }
 }
 
-/// The place of what may be there; of no bytes where it isn't.
+/// The place of an optional part; empty if it is missing.
 #[tactic(auto, using(crate::proofs::PlaceLemmas::held_some, crate::proofs::PlaceLemmas::held_none))]
 #[inline(always)]
 pub fn held_in_c(place: Option<Within>) -> Place
@@ -48,7 +48,7 @@ pub fn held_in_c(place: Option<Within>) -> Place
     }
 }
 
-/// A place, cut to what lies within `whole`.
+/// A place, cut to the part that lies within `whole`.
 #[tactic(auto, using(crate::proofs::PlaceLemmas::cut_is))]
 #[inline(always)]
 pub fn within(whole: &[u8], place: Within) -> Place
@@ -62,11 +62,12 @@ pub fn within(whole: &[u8], place: Within) -> Place
     }
 }
 
-/// The place of what may be there, cut to what lies within `whole`; of no bytes where it isn't.
+/// The place of an optional part, cut to the part that lies within `whole`; empty if it is missing.
 #[tactic(auto, using(crate::proofs::PlaceLemmas::cut_some, crate::proofs::PlaceLemmas::cut_none))]
 #[inline(always)]
 pub fn held_within(whole: &[u8], place: Option<Within>) -> Place
-    ensures { (x : Option (Bor (List ℕ))) → MayStandAt whole.now place x → StandsAt whole.now result (held (option_map (λ y. y.now) x)) }
+    ensures { (x : Option (Bor (List ℕ))) → MayStandAt whole.now place x
+        → StandsAt whole.now result (held (option_map (λ y. y.now) x)) }
 {
     match place {
         Some(place) => within(whole, place),
@@ -77,7 +78,7 @@ pub fn held_within(whole: &[u8], place: Option<Within>) -> Place
     }
 }
 
-/// The bytes from that offset on; `None` where it lies behind the end.
+/// The bytes from this offset on; `None` if it is past the end.
 #[tactic(auto, using(crate::proofs::PlaceLemmas::ends_from))]
 #[inline(always)]
 pub fn bytes_from(whole: &[u8], offset: usize) -> Option<&[u8]>
@@ -93,7 +94,7 @@ pub fn bytes_from(whole: &[u8], offset: usize) -> Option<&[u8]>
     Some(behind)
 }
 
-/// The offset of `rest`, which ends `whole`.
+/// The offset of `rest`, which is the end of `whole`.
 #[tactic(auto, using(crate::proofs::PlaceLemmas::rest_follows))]
 #[inline(always)]
 pub fn offset_of(whole: &[u8], rest: &[u8]) -> usize

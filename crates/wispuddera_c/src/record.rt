@@ -7,29 +7,31 @@ use crate::place::{Place, bytes_from, in_c, offset_of};
 use crate::status::{OUTSIDE, READ, Refusal};
 use tls_places::frame_at;
 
-/// A record (RFC 5246, section 6.2.1): its header, where its fragment stands, and the offset of what follows it.
+/// A record (RFC 5246, section 6.2.1): its header, the place of its fragment, and the offset of
+/// what follows it.
 #[repr(C)]
 #[derive(Clone, Copy)]
 pub struct Record {
-    /// How many bytes are missing, where the status says that some are; else 0.
+    /// How many bytes are missing, if the status is `INCOMPLETE`; else 0.
     pub missing: usize,
-    /// Where the fragment stands.
+    /// The place of the fragment.
     pub fragment: Place,
     /// The offset of what follows.
     pub next: usize,
-    /// The version, as it stands there.
+    /// The version field.
     pub version: u16,
     /// The length of the fragment, in bytes.
     pub length: u16,
-    /// What the fragment holds.
+    /// The content type.
     pub content_type: u8,
 }
 
-/// Reads the record that begins at that offset.
+/// Parses the record at this offset.
 #[tactic(auto, using(layouts::proofs::OneAnswerLemmas::read_allowed, crate::proofs::StatusLemmas::told, crate::proofs::StatusLemmas::refused, crate::proofs::StatusLemmas::behind))]
 #[unsafe(no_mangle)]
 pub extern "C" fn wispuddera_read_record(bytes: &[u8], offset: usize, out: &mut Record) -> u32
-    ensures { IsAnsweredAt raw_record (ShowsRecord bytes.now out.new) bytes.now offset result out.new.missing }
+    ensures { IsAnsweredAt raw_record (ShowsRecord bytes.now out.new) bytes.now offset result
+        out.new.missing }
 {
     let Some(i) = bytes_from(bytes, offset) else {
         out.missing = 0;

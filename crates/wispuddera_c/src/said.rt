@@ -1,4 +1,4 @@
-//! What a side of a conversation says next, in C's numbers.
+//! The next event of a conversation's side, as a C struct.
 ghost use Rattle.std.specs.Prelude.{◌≡◌};
 ghost use Rattle.std.specs.Option.{option_map};
 ghost use Rattle.tls_stream.specs.FlowEvents.{event_of};
@@ -23,29 +23,29 @@ use tls_flow::{Direction, Event as FlowEvent, Kind};
 use tls_hs::{RawHandshake, parse_tls_handshake_server_hello};
 use tls_stream::{Event as Saying, Fault};
 
-/// What a side said: its form, the kind of event that it is, and where its bytes stand in the side's buffer.
+/// An event of a side: its form, its event kind, and the place of its bytes in the side's buffer.
 #[repr(C)]
 #[derive(Clone, Copy)]
 pub struct Said {
-    /// The bytes of a handshake message, its header of 4 bytes first; the 2 bytes of an alert; else a whole record, its header of 5 bytes
-    /// first. None of a fault.
+    /// A handshake message with its header of 4 bytes, the 2 bytes of an alert, or else a whole
+    /// record with its header of 5 bytes. Empty for a fault.
     pub content: Place,
-    /// What ended the side, as a status; else 0.
+    /// The fault that ended the side, as a status; else 0.
     pub fault: u32,
     /// The number of its form.
     pub form: u8,
-    /// The number of the kind of event.
+    /// The number of the event kind.
     pub kind: u8,
 }
 
-/// What a conversation hears of a side.
+/// What a conversation learns from a side.
 #[derive(Clone, Copy)]
 pub struct Heard {
-    /// What is told of it.
+    /// The struct for the caller.
     pub said: Said,
-    /// The event that is followed.
+    /// The event for the flow.
     pub event: FlowEvent,
-    /// Whether it is a ServerHello that takes up a session by pre_shared_key.
+    /// Whether it is a ServerHello that resumes a session by pre_shared_key.
     pub takes_session: bool,
 }
 
@@ -72,7 +72,7 @@ fn number_of_fault(fault: Fault) -> u32
     }
 }
 
-/// The kind of a whole handshake message, its header of 4 bytes first.
+/// The kind of a whole handshake message, with its header of 4 bytes.
 fn kind_of_message(message: &[u8]) -> Kind
     ensures { result ≡ kind_of_bytes message.now }
 {
@@ -82,8 +82,8 @@ fn kind_of_message(message: &[u8]) -> Kind
     }
 }
 
-/// What is said, as an event of the conversation. It doesn't call `tls_stream::tls_event`, so that the library has one call
-/// alone of what reads a ServerHello, [`kind_of_body`].
+/// The flow event of what a side says. It doesn't call `tls_stream::tls_event`, so that only
+/// [`kind_of_body`] calls the parser of a ServerHello.
 fn event_said(event: &Saying<'_>, side: Direction) -> FlowEvent
     ensures { result ≡ event_of side (view_event event.now) }
 {
@@ -97,7 +97,7 @@ fn event_said(event: &Saying<'_>, side: Direction) -> FlowEvent
     }
 }
 
-/// Whether the extensions of a ServerHello have a pre_shared_key (RFC 8446, section 4.2.11).
+/// Whether the extensions of a ServerHello include a pre_shared_key (RFC 8446, section 4.2.11).
 fn has_key(ext: Option<&[u8]>) -> bool
     ensures { result ≡ is_found (content_of 41 (held (option_map (λ x. x.now) ext.entry))) }
 {
@@ -108,7 +108,7 @@ fn has_key(ext: Option<&[u8]>) -> bool
     }
 }
 
-/// Whether the body of a ServerHello has one.
+/// Whether the body of a ServerHello has a pre_shared_key.
 fn has_session(body: &[u8]) -> bool
     ensures { result ≡ has_session_in (reading server_hello body.now) }
 {
@@ -118,7 +118,7 @@ fn has_session(body: &[u8]) -> bool
     }
 }
 
-/// Whether a whole handshake message is a ServerHello that has one.
+/// Whether a whole handshake message is a ServerHello with a pre_shared_key.
 fn takes_session(message: &[u8]) -> bool
     ensures { result ≡ takes_session_in (reading raw_handshake message.now) }
 {
@@ -128,7 +128,7 @@ fn takes_session(message: &[u8]) -> bool
     }
 }
 
-/// Whether an event takes up a session.
+/// Whether an event resumes a session.
 fn takes_up(event: &Saying<'_>) -> bool
     ensures { result ≡ takes_up_session (view_event event.now) }
 {
@@ -142,9 +142,10 @@ fn takes_up(event: &Saying<'_>) -> bool
     }
 }
 
-/// What is heard of an event whose bytes stand at that place.
+/// What a conversation learns from an event whose bytes are at this place.
 pub fn heard_of(event: &Saying<'_>, content: Place, side: Direction) -> Heard
-    ensures { (b x : Bytes) → StandsAt b content x → IsSaidBy (view_event event.now) x → Shows side b result (view_event event.now) }
+    ensures { (b x : Bytes) → StandsAt b content x → IsSaidBy (view_event event.now) x
+        → Shows side b result (view_event event.now) }
 {
     let followed = event_said(event, side);
     Heard {
@@ -159,7 +160,8 @@ pub fn heard_of(event: &Saying<'_>, content: Place, side: Direction) -> Heard
     }
 }
 
-/// What is heard of a fault, behind which the side says nothing. It is followed as a message that isn't known.
+/// What a conversation learns from a fault, after which the side says nothing. The flow follows it
+/// as an unknown message.
 pub fn heard_fault(fault: Fault, side: Direction) -> Heard
     ensures { (b : Bytes) → Shows side b result (Failed fault) }
 {

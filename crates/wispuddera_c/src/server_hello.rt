@@ -12,31 +12,32 @@ use crate::status::{READ, Refusal};
 use tls_hs::TlsServerHelloContents;
 use tls_places::{ServerHelloPlaces, dtls_server_hello_with_places, server_hello_with_places};
 
-/// A ServerHello (RFC 5246, section 7.4.1.3): its numbers, where its parts stand in its body, and the offset of what follows it.
+/// A ServerHello (RFC 5246, section 7.4.1.3): its numbers, the places of its parts in its body, and
+/// the offset of what follows it.
 #[repr(C)]
 #[derive(Clone, Copy)]
 pub struct ServerHello {
-    /// How many bytes are missing, where the status says that some are; else 0.
+    /// How many bytes are missing, if the status is `INCOMPLETE`; else 0.
     pub missing: usize,
     /// The 32 bytes of the random.
     pub random: Place,
-    /// The session id, without its length; of no bytes where there is none.
+    /// The session ID, without its length; empty if there is none.
     pub session_id: Place,
-    /// The extensions, without their length; of no bytes where no whole block follows.
+    /// The extensions, without their length; empty if no whole block follows.
     pub extensions: Place,
     /// The offset of what follows.
     pub next: usize,
-    /// The version, as it stands there.
+    /// The version field.
     pub version: u16,
-    /// The cipher suite that the server picks.
+    /// The cipher suite that the server chose.
     pub cipher_suite: u16,
-    /// The compression method that the server picks.
+    /// The compression method that the server chose.
     pub compression_method: u8,
     /// Whether a whole block of extensions follows.
     pub has_extensions: bool,
 }
 
-/// A hello that was read of `bytes`, its places in these, and what follows it, in C's numbers.
+/// The struct of a hello parsed from `bytes`, with its places and the offset of `rest`.
 #[tactic(auto, using(layouts::proofs::OneAnswerLemmas::read_allowed))]
 #[inline(always)]
 fn in_numbers(
@@ -62,11 +63,12 @@ fn in_numbers(
     }
 }
 
-/// Reads the body of a ServerHello.
+/// Parses the body of a ServerHello.
 #[tactic(auto, using(layouts::proofs::OneAnswerLemmas::read_allowed, layouts::proofs::PlaceLemmas::ends_here, layouts::proofs::PlaceLemmas::ends_read))]
 #[unsafe(no_mangle)]
 pub extern "C" fn wispuddera_read_server_hello(bytes: &[u8], out: &mut ServerHello) -> u32
-    ensures { IsAnswered (ShowsServerHello bytes.now out.new) (reading server_hello bytes.now) result out.new.missing }
+    ensures { IsAnswered (ShowsServerHello bytes.now out.new) (reading server_hello bytes.now)
+        result out.new.missing }
 {
     match server_hello_with_places(bytes) {
         Ok((rest, (hello, places))) => {
@@ -81,11 +83,13 @@ pub extern "C" fn wispuddera_read_server_hello(bytes: &[u8], out: &mut ServerHel
     }
 }
 
-/// Reads the body of a ServerHello of DTLS (RFC 6347, section 4.3.2): as that of TLS, whatever its version.
+/// Parses the body of a DTLS ServerHello (RFC 6347, section 4.3.2). It has the form of TLS, with
+/// any version.
 #[tactic(auto, using(layouts::proofs::OneAnswerLemmas::read_allowed, layouts::proofs::PlaceLemmas::ends_here, layouts::proofs::PlaceLemmas::ends_read))]
 #[unsafe(no_mangle)]
 pub extern "C" fn wispuddera_read_dtls_server_hello(bytes: &[u8], out: &mut ServerHello) -> u32
-    ensures { IsAnswered (ShowsServerHello bytes.now out.new) (reading server_hello_any bytes.now) result out.new.missing }
+    ensures { IsAnswered (ShowsServerHello bytes.now out.new) (reading server_hello_any bytes.now)
+        result out.new.missing }
 {
     match dtls_server_hello_with_places(bytes) {
         Ok((rest, (hello, places))) => {

@@ -1,4 +1,4 @@
-//! One side's stream, of which a buffer of the caller's holds what isn't handed out yet.
+//! One side's stream, in a buffer of the caller's.
 ghost use Rattle.std.specs.Prelude.{◌≡◌, ◌↔◌, ◌≤◌, ◌+◌, length, true, false, Some, None, IfSome, IfNone};
 ghost use Rattle.tls_stream.specs.Item.{Event as Saying, view_event};
 ghost use Rattle.tls_stream.specs.Stream.{IsReady, SaysTheSame, behind, fed, first, joined_to, view_source};
@@ -11,38 +11,38 @@ use crate::said::{Heard, heard_fault, heard_of};
 use tls_flow::Direction;
 use tls_stream::{Fault, Next, Source, StreamView};
 
-/// What is held of one side's stream: the part of a message that is joined from fragments, and behind it what isn't read. The offsets are
-/// those of the side's buffer.
+/// The state of one side's buffer: the part of a message that is joined from fragments, and after
+/// it the unread bytes. The offsets are those of the buffer.
 #[repr(C)]
 #[derive(Clone, Copy)]
 pub struct Side {
     /// Where the part begins.
     pub part: usize,
-    /// Where it ends.
+    /// Where the part ends.
     pub part_end: usize,
-    /// Where the bytes begin that stand behind the records that were taken.
+    /// Where the unread bytes begin, after the records that were read.
     pub unread: usize,
-    /// Where they end.
+    /// Where the unread bytes end.
     pub end: usize,
     /// The type of the records that the part is joined from.
     pub kind: u8,
-    /// Whether the side has changed its cipher.
+    /// Whether the side has sent its ChangeCipherSpec.
     pub has_changed: bool,
     /// Whether a fault ended it.
     pub is_over: bool,
 }
 
-/// What is known of a conversation by which its sides are read.
+/// The state of a conversation that decides how its sides are read.
 #[derive(Clone, Copy)]
 pub struct Known {
-    /// The most bytes that the body of a handshake message may have.
+    /// The limit for the body of a handshake message, in bytes.
     pub limit: usize,
-    /// Whether TLS 1.3 is spoken.
+    /// Whether TLS 1.3 was chosen.
     pub is_tls13: bool,
 }
 
 impl Side {
-    /// One of which nothing came.
+    /// A side without bytes.
     pub fn new() -> Side
         ensures { result ≡ silent_side }
     {
@@ -57,7 +57,7 @@ impl Side {
         }
     }
 
-    /// Whether what is held lies within a buffer of so many bytes.
+    /// Whether the offsets lie within a buffer of `room` bytes.
     pub fn lies_within(&self, room: usize) -> bool
         ensures { (result ≡ true) ↔ IsWithin room self.now }
     {
@@ -67,7 +67,7 @@ impl Side {
             && self.end <= room
     }
 
-    /// Whether `n` bytes more than are held fit in a buffer of `room` bytes.
+    /// Whether `n` more bytes fit in a buffer of `room` bytes.
     pub fn fits(&self, room: usize, n: usize) -> bool
         requires { IsWithin room self.now }
         ensures { (result ≡ true) ↔ count_held self.now + n ≤ room }
@@ -75,7 +75,7 @@ impl Side {
         n <= room - (self.part_end - self.part) - (self.end - self.unread)
     }
 
-    /// Moves what is held to the buffer's front.
+    /// Moves the bytes in use to the beginning of the buffer.
     fn make_room(&mut self, buffer: &mut [u8])
         requires { IsWithin (length buffer.old) self.old }
         ensures same { (k : Known) → stream_of k buffer.new self.new ≡ stream_of k buffer.old self.old }
@@ -93,7 +93,7 @@ impl Side {
         self.end = open + left;
     }
 
-    /// Moves what is held to the buffer's front where `n` bytes don't fit behind it.
+    /// Moves the bytes in use to the beginning of the buffer if `n` bytes don't fit after them.
     fn make_room_for(&mut self, buffer: &mut [u8], n: usize)
         requires within { IsWithin (length buffer.old) self.old }
         requires fits { count_held self.old + n ≤ length buffer.old }
@@ -107,11 +107,12 @@ impl Side {
         }
     }
 
-    /// Puts a piece behind what is held.
+    /// Appends a piece.
     pub fn append(&mut self, buffer: &mut [u8], piece: &[u8])
         requires within { IsWithin (length buffer.old) self.old }
         requires room { count_held self.old + length piece.now ≤ length buffer.old }
-        ensures fed { (k : Known) → stream_of k buffer.new self.new ≡ fed (stream_of k buffer.old self.old) piece.now }
+        ensures fed { (k : Known)
+            → stream_of k buffer.new self.new ≡ fed (stream_of k buffer.old self.old) piece.now }
         ensures within { IsWithin (length buffer.new) self.new }
         ensures over { self.new.is_over ≡ self.old.is_over }
     {
@@ -121,7 +122,7 @@ impl Side {
         self.end = end;
     }
 
-    /// What is read of it.
+    /// A view of the stream, which decides what comes next.
     fn view<'a>(&self, buffer: &'a [u8], known: Known) -> StreamView<'a>
         requires { IsWithin (length buffer.now) self.now }
         ensures { result ≡ stream_of known buffer.now self.now }
@@ -136,11 +137,13 @@ impl Side {
         }
     }
 
-    /// Joins a record's fragment of that type, of `n` bytes, to the part, and takes the record off the stream.
+    /// Joins a record's fragment of this type, of `n` bytes, to the part, and removes the record
+    /// from the stream.
     fn join(&mut self, buffer: &mut [u8], kind: u8, n: usize)
         requires within { IsWithin (length buffer.old) self.old }
         requires whole { self.old.unread + 5 + n ≤ self.old.end }
-        ensures joined { (k : Known) → stream_of k buffer.new self.new ≡ joined_to (stream_of k buffer.old self.old) kind n }
+        ensures joined { (k : Known) → stream_of k buffer.new self.new ≡ joined_to
+            (stream_of k buffer.old self.old) kind n }
         ensures within { IsWithin (length buffer.new) self.new }
         ensures over { self.new.is_over ≡ self.old.is_over }
     {
@@ -151,11 +154,12 @@ impl Side {
         self.kind = kind;
     }
 
-    /// Joins fragments until an event stands in front: true, or further bytes are needed: false. An `Err` is the fault that is the next
-    /// event and the last.
+    /// Joins fragments until an event is available: true; or false if more bytes are needed. An
+    /// `Err` is the fault that is the next event and the last.
     fn settle(&mut self, buffer: &mut [u8], known: Known) -> Result<bool, Fault>
         requires { IsWithin (length buffer.old) self.old }
-        ensures same { SaysTheSame (stream_of known buffer.new self.new) (stream_of known buffer.old self.old) }
+        ensures same { SaysTheSame (stream_of known buffer.new self.new)
+            (stream_of known buffer.old self.old) }
         ensures next { IsReady (stream_of known buffer.new self.new) result }
         ensures within { IsWithin (length buffer.new) self.new }
         ensures over { self.new.is_over ≡ self.old.is_over }
@@ -170,11 +174,12 @@ impl Side {
         }
     }
 
-    /// Takes an event off that is taken from these bytes, and answers where they stand.
+    /// Removes the event with these bytes, and returns their place.
     fn take_off(&mut self, buffer: &[u8], source: Source<'_>) -> Place
         requires within { IsWithin (length buffer.now) self.old }
         requires front { StandInFront (held_in buffer.now self.old) (view_source source) }
-        ensures taken { (k : Known) → stream_of k buffer.now self.new ≡ behind (stream_of k buffer.now self.old) (view_source source.entry) }
+        ensures taken { (k : Known) → stream_of k buffer.now self.new ≡ behind
+            (stream_of k buffer.now self.old) (view_source source.entry) }
         ensures stands { StandsAt buffer.now result (bytes_of (view_source source.entry)) }
         ensures within { IsWithin (length buffer.now) self.new }
         ensures over { self.new.is_over ≡ self.old.is_over }
@@ -200,10 +205,13 @@ impl Side {
         }
     }
 
-    /// What stands in front, taken off; `None` where nothing does.
+    /// Returns the next event and removes it; `None` if there is none.
     fn take_first(&mut self, buffer: &[u8], known: Known, side: Direction) -> Option<Heard>
         requires { IsWithin (length buffer.now) self.old }
-        ensures some { IfSome result (λ h. (v : Saying) × (first (stream_of known buffer.now self.old) ≡ Some (v, stream_of known buffer.now self.new)) × Shows side buffer.now h v) }
+        ensures some { IfSome result
+            (λ h. (v : Saying)
+            × (first (stream_of known buffer.now self.old) ≡ Some
+            (v, stream_of known buffer.now self.new)) × Shows side buffer.now h v) }
         ensures none { IfNone result (first (stream_of known buffer.now self.old) ≡ None) }
         ensures within { IsWithin (length buffer.now) self.new }
         ensures over { self.new.is_over ≡ self.old.is_over }
@@ -217,7 +225,7 @@ impl Side {
         }
     }
 
-    /// What the side says next, taken off; `None` where further bytes are needed.
+    /// Returns the side's next event or fault, and removes it; `None` if more bytes are needed.
     pub fn hear(&mut self, buffer: &mut [u8], known: Known, side: Direction) -> Option<Heard>
         requires within { IsWithin (length buffer.old) self.old }
         requires speaks { self.old.is_over ≡ false }

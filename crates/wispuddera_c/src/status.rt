@@ -1,4 +1,4 @@
-//! The numbers that stand for answers.
+//! The status numbers that calls return.
 ghost use Rattle.std.specs.Prelude.{◌≡◌};
 ghost use Rattle.layouts.specs.Answers.{IsRefusal as StandsForRefusal, refusal_of};
 ghost use Rattle.wispuddera_c.specs.Status.{IsRefused, kind_status};
@@ -7,23 +7,24 @@ use layouts::{Err, Error, ErrorKind, Needed};
 
 /// A value was read.
 pub const READ: u32 = 0;
-/// Bytes are missing, as many as `missing` says.
+/// Bytes are missing; `missing` has the count.
 pub const INCOMPLETE: u32 = 1;
-/// A length is above what its record may have.
+/// A length is above its record's limit.
 pub const TOO_LARGE: u32 = 2;
 /// There is none.
 pub const NONE: u32 = 8;
-/// The offset lies behind the end of the bytes.
+/// The offset is past the end of the bytes.
 pub const OUTSIDE: u32 = 9;
-/// The buffer is too short for what is told.
+/// The buffer is too short for the result.
 pub const NO_ROOM: u32 = 10;
 
-/// Why no value was read: a status, and how many bytes are missing, 0 where none could help.
+/// Why no value was parsed: a status, and how many bytes are missing, 0 if no more bytes could
+/// help.
 #[derive(Clone, Copy)]
 pub struct Refusal {
-    /// Which refusal it is.
+    /// The status.
     pub status: u32,
-    /// How many bytes are missing, where the status says that some are; else 0.
+    /// How many bytes are missing, if the status is `INCOMPLETE`; else 0.
     pub missing: usize,
 }
 
@@ -43,7 +44,7 @@ pub fn status_of(kind: ErrorKind) -> u32
 }
 
 impl Refusal {
-    /// The numbers of a refusal.
+    /// The status and the count of a refusal.
     #[inline(always)]
     pub fn of(e: Err<Error<&[u8]>>) -> Refusal
         requires { StandsForRefusal e }

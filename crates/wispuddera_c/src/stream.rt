@@ -1,4 +1,5 @@
-//! Streams that come in pieces: what isn't read yet is held in a buffer of the caller's, at a place that the caller keeps.
+//! Streams that arrive in pieces: the unread bytes are in a buffer of the caller's, at a place that
+//! the caller keeps.
 ghost use Rattle.std.specs.Prelude.{◌≡◌, ◌≢◌, IfSome, IfNone, length};
 ghost use Rattle.layouts.specs.Meaning.{EndsWith};
 ghost use Rattle.tls_hs.specs.InPlace.{raw_handshake};
@@ -16,7 +17,8 @@ use layouts::Place as Within;
 use tls_hs::RawHandshake;
 use tls_places::{frame_at, place_within};
 
-/// Puts as much of `piece` as there is room for behind the bytes that `buffer` holds, which are moved to its front.
+/// Appends as much of `piece` as there is room for to the bytes in `buffer`, which are moved to its
+/// beginning.
 #[unsafe(no_mangle)]
 pub extern "C" fn wispuddera_feed(
     buffer: &mut [u8],
@@ -25,9 +27,11 @@ pub extern "C" fn wispuddera_feed(
     taken: &mut usize,
 ) -> u32
     ensures room { length buffer.new ≡ length buffer.old }
-    ensures fed { Lies buffer.old (place_of held.old) → IsFed buffer.old buffer.new held.old held.new piece.now taken.new }
+    ensures fed { Lies buffer.old (place_of held.old)
+        → IsFed buffer.old buffer.new held.old held.new piece.now taken.new }
     ensures inside { Lies buffer.old (place_of held.old) → result ≡ 0 }
-    ensures behind { LiesBehind buffer.old held.old → (result ≡ outside) × (buffer.new ≡ buffer.old) × (held.new ≡ held.old) × (taken.new ≡ 0) }
+    ensures behind { LiesBehind buffer.old held.old → (result ≡ outside) × (buffer.new ≡ buffer.old)
+        × (held.new ≡ held.old) × (taken.new ≡ 0) }
 {
     *taken = 0;
     if held.offset > buffer.len() || held.length > buffer.len() - held.offset {
@@ -45,7 +49,7 @@ pub extern "C" fn wispuddera_feed(
     READ
 }
 
-/// The bytes that `buffer` holds; `None` where they don't lie within it.
+/// The bytes in `buffer`; `None` if they don't lie within it.
 #[inline(always)]
 fn held_bytes(buffer: &[u8], held: Place) -> Option<&[u8]>
     ensures some { IfSome result (λ x. Stands buffer.now (place_of held) x.now) }
@@ -57,11 +61,12 @@ fn held_bytes(buffer: &[u8], held: Place) -> Option<&[u8]>
     Some(&buffer[held.offset..held.offset + held.length])
 }
 
-/// Where `rest` stands, which ends `bytes`, themselves at the place `held` of `buffer`.
+/// The place of `rest`, the end of `bytes`, which are at the place `held` of `buffer`.
 #[tactic(auto, using(crate::proofs::StreamLemmas::rest_stands))]
 #[inline(always)]
 fn place_of_rest(buffer: &[u8], held: Place, bytes: &[u8], rest: &[u8]) -> Place
-    ensures { Stands buffer.now (place_of held) bytes.now → EndsWith bytes.now rest.now → StandsAt buffer.now result rest.now }
+    ensures { Stands buffer.now (place_of held) bytes.now → EndsWith bytes.now rest.now
+        → StandsAt buffer.now result rest.now }
 {
     let outer = Within {
         offset: held.offset,
@@ -74,11 +79,12 @@ fn place_of_rest(buffer: &[u8], held: Place, bytes: &[u8], rest: &[u8]) -> Place
     in_c(place_within(buffer, outer, inner))
 }
 
-/// Takes the record in front of the bytes that `buffer` holds off them.
+/// Parses the record at the front of the bytes in `buffer`, and removes it from them.
 #[tactic(auto, using(layouts::proofs::OneAnswerLemmas::read_allowed, layouts::proofs::PlaceLemmas::ends_here, crate::proofs::StatusLemmas::answered))]
 #[unsafe(no_mangle)]
 pub extern "C" fn wispuddera_next_record(buffer: &[u8], held: &mut Place, out: &mut Record) -> u32
-    ensures read { IsTaken raw_record (TakesRecord buffer.now held.new out.new) buffer.now held.old result out.new.missing }
+    ensures read { IsTaken raw_record (TakesRecord buffer.now held.new out.new) buffer.now held.old result
+        out.new.missing }
     ensures stays { result ≢ 0 → held.new ≡ held.old }
     ensures behind { LiesBehind buffer.now held.old → (result ≡ outside) × (out.new.missing ≡ 0) }
 {
@@ -112,11 +118,13 @@ pub extern "C" fn wispuddera_next_record(buffer: &[u8], held: &mut Place, out: &
     }
 }
 
-/// Takes the handshake message in front of the bytes that `buffer` holds, joined fragments of records, off them.
+/// Parses the handshake message at the front of the bytes in `buffer`, which are joined fragments
+/// of records, and removes it from them.
 #[tactic(auto, using(layouts::proofs::OneAnswerLemmas::read_allowed, layouts::proofs::PlaceLemmas::ends_here, crate::proofs::StatusLemmas::answered))]
 #[unsafe(no_mangle)]
 pub extern "C" fn wispuddera_next_message(buffer: &[u8], held: &mut Place, out: &mut Part) -> u32
-    ensures read { IsTaken raw_handshake (TakesPart buffer.now held.new out.new) buffer.now held.old result out.new.missing }
+    ensures read { IsTaken raw_handshake (TakesPart buffer.now held.new out.new) buffer.now held.old result
+        out.new.missing }
     ensures stays { result ≢ 0 → held.new ≡ held.old }
     ensures behind { LiesBehind buffer.now held.old → (result ≡ outside) × (out.new.missing ≡ 0) }
 {

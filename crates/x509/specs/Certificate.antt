@@ -27,7 +27,11 @@ pub record AlgorithmIdentifier : Type 0 where
 
 abbrev pub view_algorithm : LentAlgorithm → AlgorithmIdentifier
 view_algorithm a =
-    record { algorithm = a.algorithm.content.now; parameters = option_map view_element a.parameters }
+    record {
+      algorithm = a.algorithm.content.now;
+      parameters =
+          option_map view_element a.parameters;
+    }
 
 unfoldable pub algorithm_content : Layout AlgorithmIdentifier
 algorithm_content = do
@@ -38,7 +42,8 @@ algorithm_content = do
 unfoldable pub algorithm_identifier : Layout AlgorithmIdentifier
 algorithm_identifier = tagged 0x30 algorithm_content
 
--- SubjectPublicKeyInfo: AlgorithmIdentifier algorithm; BIT STRING subjectPublicKey (section 4.1.2.7).
+-- SubjectPublicKeyInfo: AlgorithmIdentifier algorithm; BIT STRING subjectPublicKey (section
+-- 4.1.2.7).
 pub record SubjectPublicKeyInfo : Type 0 where
   pub algorithm : AlgorithmIdentifier
   pub subject_public_key : BitString
@@ -58,7 +63,8 @@ key_info_content = do
 unfoldable pub subject_public_key_info : Layout SubjectPublicKeyInfo
 subject_public_key_info = tagged 0x30 key_info_content
 
--- Time: CHOICE { utcTime UTCTime, generalTime GeneralizedTime } (section 4.1.2.5), in seconds since 1970-01-01 00:00:00 UTC.
+-- Time: CHOICE { utcTime UTCTime, generalTime GeneralizedTime } (section 4.1.2.5), in seconds since
+-- 1970-01-01 00:00:00 UTC.
 unfoldable pub time_by : ℕ → Layout ℤ
 time_by t =
     choose (t == 0x17) (tagged 0x17 utc_time) (
@@ -78,7 +84,8 @@ validity_content = do
 unfoldable pub validity : Layout Validity
 validity = tagged 0x30 validity_content
 
--- Extension: OBJECT IDENTIFIER extnID; BOOLEAN critical DEFAULT FALSE; OCTET STRING extnValue (section 4.2).
+-- Extension: OBJECT IDENTIFIER extnID; BOOLEAN critical DEFAULT FALSE; OCTET STRING extnValue
+-- (section 4.2).
 pub record Extension : Type 0 where
   pub extn_id : Bytes
   pub critical : Bool
@@ -116,7 +123,8 @@ abbrev pub or_v1 : Option ℕ → ℕ
 or_v1 (Some n) = n
 or_v1 None = 0
 
--- [0] EXPLICIT Version DEFAULT v1; CertificateSerialNumber serialNumber; AlgorithmIdentifier signature.
+-- [0] EXPLICIT Version DEFAULT v1; CertificateSerialNumber serialNumber; AlgorithmIdentifier
+-- signature.
 pub record FirstFields : Type 0 where
   pub version : ℕ
   pub serial_number : Bytes
@@ -124,7 +132,12 @@ pub record FirstFields : Type 0 where
 
 abbrev pub view_first_fields : LentFirst → FirstFields
 view_first_fields f =
-    record { version = f.version; serial_number = f.serial_number.now; signature = view_algorithm f.signature }
+    record {
+      version = f.version;
+      serial_number = f.serial_number.now;
+      signature =
+          view_algorithm f.signature;
+    }
 
 unfoldable pub first_fields : Layout FirstFields
 first_fields = do
@@ -154,14 +167,16 @@ name_fields = do
   validity ← validity
   subject ← name
   key ← subject_public_key_info
-  done (record { issuer = issuer; validity = validity; subject = subject; subject_public_key_info = key })
+  done (record
+      { issuer = issuer; validity = validity; subject = subject; subject_public_key_info = key })
 
 abbrev pub or_none : Option (List Extension) → List Extension
 or_none (Some xs) = xs
 or_none None = []
 
--- [1] IMPLICIT UniqueIdentifier issuerUniqueID OPTIONAL; [2] IMPLICIT UniqueIdentifier subjectUniqueID OPTIONAL;
--- [3] EXPLICIT Extensions extensions OPTIONAL. A UniqueIdentifier is a BIT STRING.
+-- [1] IMPLICIT UniqueIdentifier issuerUniqueID OPTIONAL; [2] IMPLICIT UniqueIdentifier
+-- subjectUniqueID OPTIONAL; [3] EXPLICIT Extensions extensions OPTIONAL. A UniqueIdentifier is a
+-- BIT STRING.
 pub record OptionalFields : Type 0 where
   pub issuer_unique_id : Option BitString
   pub subject_unique_id : Option BitString
@@ -179,9 +194,14 @@ optional_fields = do
   issuer ← optional 0x81 bit_string
   subject ← optional 0x82 bit_string
   extensions ← optional 0xa3 extensions
-  done (record { issuer_unique_id = issuer; subject_unique_id = subject; extensions = or_none extensions })
+  done (record {
+    issuer_unique_id = issuer;
+    subject_unique_id = subject;
+    extensions =
+        or_none extensions;
+  })
 
--- TBSCertificate: these fields in turn.
+-- TBSCertificate: these fields in order.
 pub record TBSCertificate : Type 0 where
   pub first : FirstFields
   pub names : NameFields
@@ -214,8 +234,8 @@ tbs_certificate = do
   others ← optional_fields
   done (record { first = first; names = names; others = others })
 
--- TBSCertificate tbsCertificate; AlgorithmIdentifier signatureAlgorithm; BIT STRING signatureValue (section 4.1.1). What is signed
--- are the bytes of the TBSCertificate: all but those that it leaves.
+-- TBSCertificate tbsCertificate; AlgorithmIdentifier signatureAlgorithm; BIT STRING signatureValue
+-- (section 4.1.1). The signed bytes are the bytes of the TBSCertificate: those before its rest.
 pub record Certificate : Type 0 where
   pub signed_bytes : Bytes
   pub tbs_certificate : TBSCertificate

@@ -16,13 +16,13 @@ use Rattle.x509.specs.declared.key_usage.KeyUsage.{KeyUsage}
 use Rattle.x509.specs.declared.key_usage.KeyPurposeId.{KeyPurposeId as LentKeyPurpose}
 use Rattle.x509.specs.declared.key_usage.KeyPurposeId.TheVariants as lent
 
--- The first of that type.
+-- The first with this type.
 abbrev pub first_of : Bytes → List Extension → Option Extension
 first_of oid [] = None
 first_of oid (x ∷ xs) = if bytes_eq x.extn_id oid then Some x else first_of oid xs
 
--- AuthorityKeyIdentifier: [0] OCTET STRING keyIdentifier, [1] GeneralNames authorityCertIssuer, [2] INTEGER
--- authorityCertSerialNumber, each IMPLICIT and OPTIONAL (section 4.2.1.1).
+-- AuthorityKeyIdentifier: [0] OCTET STRING keyIdentifier, [1] GeneralNames authorityCertIssuer, [2]
+-- INTEGER authorityCertSerialNumber, each IMPLICIT and OPTIONAL (section 4.2.1.1).
 pub record AuthorityKeyIdentifier : Type 0 where
   pub key_identifier : Option Bytes
   pub authority_cert_issuer : Option (List GeneralName)
@@ -31,7 +31,8 @@ pub record AuthorityKeyIdentifier : Type 0 where
 abbrev pub view_key_identifier : LentKeyIdentifier → AuthorityKeyIdentifier
 view_key_identifier k = record {
   key_identifier = option_map (λ x. x.now) k.key_identifier;
-  authority_cert_issuer = option_map (λ x. items_in general_name x.bytes.now) k.authority_cert_issuer;
+  authority_cert_issuer =
+      option_map (λ x. items_in general_name x.bytes.now) k.authority_cert_issuer;
   authority_cert_serial_number = option_map (λ x. x.now) k.authority_cert_serial_number;
 }
 
@@ -111,7 +112,7 @@ view_key_purpose lent.TimeStamping = TimeStamping
 view_key_purpose lent.OcspSigning = OcspSigning
 view_key_purpose (lent.Other o) = Other o.content.now
 
--- id-kp: 1.3.6.1.5.5.7.3, and a number below 128 behind it.
+-- id-kp: 1.3.6.1.5.5.7.3, and a number below 128 after it.
 abbrev pub ID_KP : ℕ → Bytes
 ID_KP n = 0x2b ∷ 0x06 ∷ 0x01 ∷ 0x05 ∷ 0x05 ∷ 0x07 ∷ 0x03 ∷ n ∷ []
 

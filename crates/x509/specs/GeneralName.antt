@@ -6,7 +6,7 @@ use Rattle.der.specs.Element.{Element, element, items_of, tagged, view_element}
 use Rattle.x509.specs.declared.general_name.GeneralName.{GeneralName as LentGeneralName}
 use Rattle.x509.specs.declared.general_name.GeneralName.TheVariants as lent
 
--- GeneralName: a CHOICE by its tag; of other kinds the element is kept.
+-- GeneralName: a CHOICE by its tag; for other kinds the element is kept.
 pub data GeneralName : Type 0 where
   Rfc822Name : Bytes → GeneralName
   DnsName : Bytes → GeneralName

@@ -1,4 +1,4 @@
--- Names (RFC 5280, section 4.1.2.4): sets of attributes, most often of one, in their order.
+-- Names (RFC 5280, section 4.1.2.4): sets of attributes, usually of one, in order.
 use Rattle.std.specs.Prelude.{List}
 use Rattle.layouts.specs.Bytes.{Bytes}
 use Rattle.layouts.specs.Layout.{Layout, done, ◌>>=◌}
@@ -6,13 +6,14 @@ use Rattle.der.specs.Element.{Element, element, items_of, tagged, view_element}
 use Rattle.der.specs.ObjectIdentifier.{object_identifier}
 use Rattle.x509.specs.declared.name.AttributeTypeAndValue.{AttributeTypeAndValue as LentAttribute}
 
--- An attribute: its type, and its value, which is a string most often.
+-- An attribute: its type, and its value, usually a string.
 pub record AttributeTypeAndValue : Type 0 where
   pub attribute_type : Bytes
   pub value : Element
 
 abbrev pub view_attribute : LentAttribute → AttributeTypeAndValue
-view_attribute a = record { attribute_type = a.attribute_type.content.now; value = view_element a.value }
+view_attribute a =
+    record { attribute_type = a.attribute_type.content.now; value = view_element a.value }
 
 -- AttributeType type; AttributeValue value.
 unfoldable pub attribute_content : Layout AttributeTypeAndValue

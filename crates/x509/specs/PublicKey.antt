@@ -1,4 +1,5 @@
--- Public keys, by their algorithm (RFC 3279, section 2.3; RFC 4055, section 1.2; RFC 5480, section 2; RFC 8410, section 3).
+-- Public keys, by their algorithm (RFC 3279, section 2.3; RFC 4055, section 1.2; RFC 5480, section
+-- 2; RFC 8410, section 3).
 use Rattle.std.specs.Prelude.{ℕ, ◌+◌, ◌-◌, ◌*◌, ◌^◌, ◌≤◌, ◌<◌, ◌==◌, ◌||◌, nat_le, nat_lt, [], ◌∷◌, Option, Some, None, Result, Ok, Err, if◌then◌else◌}
 use Rattle.std.specs.Str.{bytes_eq}
 use Rattle.layouts.specs.Bytes.{Bytes}
@@ -14,7 +15,7 @@ use Rattle.x509.specs.Certificate.{SubjectPublicKeyInfo}
 use Rattle.x509.specs.declared.public_key.PublicKey.{PublicKey as LentPublicKey}
 use Rattle.x509.specs.declared.public_key.PublicKey.TheVariants as lent
 
--- How many bits a number below 256 that isn't 0 has.
+-- The bit length of a number below 256 that isn't 0.
 abbrev pub byte_bits : ℕ → ℕ
 byte_bits n =
     if nat_lt n 2 then 1 else
@@ -30,7 +31,7 @@ zero_byte = do
   n ← number 1
   test (n == 0) Tag
 
--- Behind a first byte that isn't 0: how many bits there are.
+-- The bit length of a number whose first byte isn't 0.
 unfoldable pub behind_bits : ℕ → Layout ℕ
 behind_bits first = do
   n ← left
@@ -41,15 +42,15 @@ behind_bits first = do
 unfoldable pub significant_bits : Layout ℕ
 significant_bits = number 1 >>= behind_bits
 
--- How many bits a number has, by its bytes: zeros may stand in front, and it isn't 0.
+-- The bit length of a big-endian number above 0; leading zeros are allowed.
 unfoldable pub bit_length : Layout ℕ
 bit_length = list zero_byte >> significant_bits
 
--- The number has so many bits: it is at least 2^(k-1), and below 2^k.
+-- The number has k bits: it is at least 2^(k-1), and below 2^k.
 abbrev pub HasBits : ℕ → ℕ → Type 0
 HasBits k n = (2 ^ (k - 1) ≤ n) × (n < 2 ^ k)
 
--- An INTEGER above 0: how many bits it has. Its highest bit is 0, or it would be negative.
+-- The bit length of an INTEGER above 0. Its highest bit is 0, or it would be negative.
 unfoldable pub positive_bits : Layout ℕ
 positive_bits = do
   look integer
@@ -57,7 +58,8 @@ positive_bits = do
   test (nat_lt first 128) Verify
   bit_length
 
--- RSAPublicKey: INTEGER modulus; INTEGER publicExponent (RFC 8017, section A.1.1). How many bits the modulus has.
+-- RSAPublicKey: INTEGER modulus; INTEGER publicExponent (RFC 8017, section A.1.1). It returns the
+-- bit length of the modulus.
 unfoldable pub rsa_content : Layout ℕ
 rsa_content = do
   bits ← tagged 2 positive_bits
@@ -68,13 +70,13 @@ unfoldable pub rsa_public_key : Layout ℕ
 rsa_public_key = tagged 0x30 rsa_content
 
 pub data PublicKey : Type 0 where
-  -- how many bits the modulus has
+  -- the bit length of the modulus
   Rsa : ℕ → PublicKey
-  -- which curve
+  -- the curve
   Ec : Bytes → PublicKey
   Ed25519 : PublicKey
   Ed448 : PublicKey
-  -- which algorithm
+  -- the algorithm
   Other : Bytes → PublicKey
 
 abbrev pub view_public_key : LentPublicKey → PublicKey
@@ -100,9 +102,10 @@ EDWARDS n = 0x2b ∷ 0x65 ∷ n ∷ []
 abbrev pub named_curve : Option Element → Result PublicKey Refusal
 named_curve None = Err (Broken Tag)
 named_curve (Some e) =
-    if e.tag == 6 then value_of (reading (mapped Ec object_identifier_content) e.content) else Err (Broken Tag)
+    if e.tag == 6 then value_of (reading (mapped Ec object_identifier_content) e.content) else
+    Err (Broken Tag)
 
--- What the key is.
+-- The key, by its algorithm.
 abbrev pub key_of : SubjectPublicKeyInfo → Result PublicKey Refusal
 key_of k =
     let oid : Bytes = k.algorithm.algorithm in

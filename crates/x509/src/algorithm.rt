@@ -1,4 +1,4 @@
-//! Algorithms and the keys that they are used with (RFC 5280, sections 4.1.1.2 and 4.1.2.7).
+//! Algorithms, and the keys for them (RFC 5280, sections 4.1.1.2 and 4.1.2.7).
 #![tactic(auto, using(layouts::proofs::OneAnswerLemmas::read_allowed))]
 
 ghost use Rattle.layouts.specs.Answers.{Gives};
@@ -11,13 +11,13 @@ use layouts::{IResult, InPlace};
 /// An algorithm.
 #[derive(Clone, Copy, Debug, PartialEq)]
 pub struct AlgorithmIdentifier<'a> {
-    /// Which one.
+    /// The algorithm's identifier.
     pub algorithm: ObjectIdentifier<'a>,
-    /// Its parameters, of a type that it defines.
+    /// Its parameters, of a type that the algorithm defines.
     pub parameters: Option<Element<'a>>,
 }
 
-/// What is in an AlgorithmIdentifier.
+/// The content of an AlgorithmIdentifier.
 struct AlgorithmContent;
 
 impl<'a> InPlace<'a> for AlgorithmContent {
@@ -41,9 +41,10 @@ impl<'a> InPlace<'a> for AlgorithmContent {
     }
 }
 
-/// Reads an AlgorithmIdentifier.
+/// Parses an AlgorithmIdentifier.
 ///
-/// It refuses what [`der::tagged`] does; also in its content, of kind `LengthValue` where more than the parameters follow.
+/// It refuses what [`der::tagged`] does; also in its content, with kind `LengthValue` if more than
+/// the parameters follow.
 #[tactic(auto, using(layouts::proofs::OneAnswerLemmas::read_allowed), unfolding(crate::specs::Certificate::algorithm_identifier))]
 pub fn parse_algorithm_identifier(i: &[u8]) -> IResult<&[u8], AlgorithmIdentifier>
     ensures { Gives view_algorithm algorithm_identifier i.now result }
@@ -51,16 +52,16 @@ pub fn parse_algorithm_identifier(i: &[u8]) -> IResult<&[u8], AlgorithmIdentifie
     tagged::<AlgorithmContent>(i, tag::SEQUENCE)
 }
 
-/// A public key, and what it is used with. [`SubjectPublicKeyInfo::public_key`] says which it is.
+/// A public key and its algorithm. [`SubjectPublicKeyInfo::public_key`] parses the key.
 #[derive(Clone, Copy, Debug, PartialEq)]
 pub struct SubjectPublicKeyInfo<'a> {
-    /// What it is used with.
+    /// The algorithm of the key.
     pub algorithm: AlgorithmIdentifier<'a>,
-    /// The key, in a form that the algorithm says.
+    /// The key, in a form that the algorithm defines.
     pub subject_public_key: BitString<'a>,
 }
 
-/// What is in a SubjectPublicKeyInfo.
+/// The content of a SubjectPublicKeyInfo.
 struct KeyInfoContent;
 
 impl<'a> InPlace<'a> for KeyInfoContent {
@@ -84,7 +85,7 @@ impl<'a> InPlace<'a> for KeyInfoContent {
     }
 }
 
-/// Reads a SubjectPublicKeyInfo.
+/// Parses a SubjectPublicKeyInfo.
 #[tactic(auto, using(layouts::proofs::OneAnswerLemmas::read_allowed), unfolding(crate::specs::Certificate::subject_public_key_info))]
 pub(crate) fn parse_key_info(i: &[u8]) -> IResult<&[u8], SubjectPublicKeyInfo>
     ensures { Gives view_key_info subject_public_key_info i.now result }

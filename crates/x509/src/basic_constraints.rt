@@ -10,13 +10,14 @@ use layouts::{IResult, InPlace};
 /// Whether a subject may sign certificates, and how long a chain of them.
 #[derive(Clone, Copy, Debug, PartialEq)]
 pub struct BasicConstraints<'a> {
-    /// It may.
+    /// Whether it may sign certificates.
     pub ca: bool,
-    /// How many certificates may be between it and the last one of a chain: an INTEGER's bytes.
+    /// How many certificates may come between this one and the last one of a chain: an INTEGER's
+    /// bytes.
     pub path_len_constraint: Option<&'a [u8]>,
 }
 
-/// What is in BasicConstraints.
+/// The content of BasicConstraints.
 struct ConstraintsContent;
 
 impl<'a> InPlace<'a> for ConstraintsContent {
@@ -40,7 +41,7 @@ impl<'a> InPlace<'a> for ConstraintsContent {
     }
 }
 
-/// Reads BasicConstraints, the value of basicConstraints.
+/// Parses BasicConstraints, the value of the extension basicConstraints.
 ///
 /// It refuses what [`der::tagged`], [`der::default_false`] and [`Integer`] do.
 #[tactic(auto, using(layouts::proofs::OneAnswerLemmas::read_allowed), unfolding(crate::specs::Extensions::basic_constraints))]

@@ -13,24 +13,25 @@ use layouts::{IResult, InPlace, rest};
 /// A certificate.
 #[derive(Clone, Copy, Debug, PartialEq)]
 pub struct Certificate<'a> {
-    /// The bytes that are signed: those of the TBSCertificate, with its tag and its length.
+    /// The bytes that are signed: the TBSCertificate with its tag and its length.
     pub signed_bytes: &'a [u8],
-    /// What they say.
+    /// The TBSCertificate in these bytes.
     pub tbs_certificate: TBSCertificate<'a>,
-    /// What they are signed with; it has to be the same as `signature` in the TBSCertificate, which isn't compared.
+    /// The algorithm of the signature. It should equal `signature` in the TBSCertificate, which
+    /// isn't checked.
     pub signature_algorithm: AlgorithmIdentifier<'a>,
     /// The signature.
     pub signature_value: BitString<'a>,
 }
 
-/// What is in front of the bytes behind.
+/// The bytes before `behind`, which is the end of `i`.
 fn front_of<'a>(i: &'a [u8], behind: &[u8]) -> &'a [u8]
     ensures { result.now ≡ take (length i.now - length behind.now) i.now }
 {
     i.split_at(i.len().saturating_sub(behind.len())).0
 }
 
-/// What is in a certificate.
+/// The content of a certificate.
 struct CertificateContent;
 
 impl<'a> InPlace<'a> for CertificateContent {
@@ -59,20 +60,23 @@ impl<'a> InPlace<'a> for CertificateContent {
     }
 }
 
-/// Reads a certificate in place.
+/// Parses a certificate, without copying.
 ///
-/// Names and extensions are lists in place: each item is read as the walk comes to it, and [`layouts::Items::refusal`] says
-/// what ended a walk early.
+/// Names and extensions are lists: each item is parsed when the iterator reaches it, and
+/// [`layouts::Items::refusal`] returns why an iterator ended early.
 ///
-/// - `Incomplete` of what is missing of the certificate's tag, length or content.
-/// - `Error` of kind `Tag` where another element is where one is asked for.
-/// - `Error` of kind `Complete` where an element doesn't fit in the one that it is in, or one is missing there.
-/// - `Error` of kind `LengthValue` where bytes are left behind the last field of a structure, or an INTEGER or an OBJECT IDENTIFIER
-///   has no bytes.
-/// - `Error` of kind `Verify` where a value breaks its rule: a length, an INTEGER or an arc that isn't the shortest, a version that
-///   is negative, a truth value that is neither 0 nor 255, a time that isn't one, bits that are unused and set.
-/// - `Error` of kind `Switch` where a length is indefinite, or the tag of an algorithm's parameters has more than one byte.
-/// - `Error` of kind `TooLarge` where a length has more than 3 bytes behind its first.
+/// - `Incomplete` with the count of bytes missing of the certificate's tag, length or content.
+/// - `Error` of kind `Tag` if an element has another tag than the one required.
+/// - `Error` of kind `Complete` if an element doesn't fit in the one around it, or is missing
+///   there.
+/// - `Error` of kind `LengthValue` if bytes follow the last field of a structure, or an INTEGER or
+///   an OBJECT IDENTIFIER is empty.
+/// - `Error` of kind `Verify` if a value breaks its rule: a length, an INTEGER or an arc that isn't
+///   the shortest, a negative version, a BOOLEAN that is neither 0 nor 255, a time that doesn't
+///   exist, unused bits that are set.
+/// - `Error` of kind `Switch` if a length is indefinite, or the tag of an algorithm's parameters
+///   has more than one byte.
+/// - `Error` of kind `TooLarge` if a length has more than 3 bytes after its first.
 #[tactic(auto, using(layouts::proofs::OneAnswerLemmas::read_allowed), unfolding(crate::specs::Certificate::certificate))]
 pub fn parse_certificate(i: &[u8]) -> IResult<&[u8], Certificate>
     ensures { Gives view_certificate certificate i.now result }

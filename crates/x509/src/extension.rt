@@ -16,13 +16,13 @@ use layouts::{IResult, InPlace, Items};
 pub struct Extension<'a> {
     /// Its type.
     pub extn_id: ObjectIdentifier<'a>,
-    /// Whether who doesn't know it is to reject the certificate.
+    /// Whether a receiver that doesn't know it must reject the certificate.
     pub critical: bool,
     /// Its value, in DER.
     pub extn_value: &'a [u8],
 }
 
-/// What is in an extension.
+/// The content of an extension.
 struct ExtensionContent;
 
 impl<'a> InPlace<'a> for ExtensionContent {
@@ -48,7 +48,7 @@ impl<'a> InPlace<'a> for ExtensionContent {
     }
 }
 
-/// Extensions, one behind the other; each is read as an [`Extension`].
+/// A list of extensions; each is parsed as an [`Extension`].
 pub struct Extensions;
 
 impl<'a> InPlace<'a> for Extensions {
@@ -66,7 +66,7 @@ impl<'a> InPlace<'a> for Extensions {
     }
 }
 
-/// The list of the extensions.
+/// The Extensions structure: its list.
 pub(crate) struct ExtensionList;
 
 impl<'a> InPlace<'a> for ExtensionList {
@@ -84,14 +84,15 @@ impl<'a> InPlace<'a> for ExtensionList {
     }
 }
 
-/// The first of `extensions` that has this type, as one of [`crate::oid`].
+/// The first of `extensions` with this type, such as one of [`crate::oid`].
 ///
-/// `None` too where the walk ends in front of it.
+/// `None` if there is none before the iterator ends.
 pub fn first_extension<'a>(
     extensions: Items<'a, Extensions>,
     extn_id: ObjectIdentifier,
 ) -> Option<Extension<'a>>
-    ensures { option_map view_extension result ≡ first_of extn_id.entry.content.now (items_in extension extensions.entry.bytes.now) }
+    ensures { option_map view_extension result ≡ first_of extn_id.entry.content.now
+        (items_in extension extensions.entry.bytes.now) }
 {
     for extension in extensions {
         if extension.extn_id.content == extn_id.content {

@@ -10,22 +10,23 @@ ghost use Rattle.x509.specs.GeneralName.{GeneralName as PlainGeneralName, view_g
 use der::{Element, ItemsOf, tag, tagged};
 use layouts::{IResult, InPlace, Items};
 
-/// A name of a subject or an issuer. Of text, the bytes are given as they are.
+/// A name of a subject or an issuer. The bytes of text are returned as they are.
 #[derive(Clone, Copy, Debug, PartialEq)]
 pub enum GeneralName<'a> {
-    /// An address of mail: an IA5String.
+    /// A mail address: an IA5String.
     Rfc822Name(&'a [u8]),
-    /// A name of the DNS: an IA5String.
+    /// A DNS name: an IA5String.
     DnsName(&'a [u8]),
     /// A URI: an IA5String.
     UniformResourceIdentifier(&'a [u8]),
-    /// An address of the Internet Protocol: 4 or 16 bytes, where it keeps its rule.
+    /// An IP address: 4 or 16 bytes if it keeps the rule, which isn't checked.
     IpAddress(&'a [u8]),
-    /// Another kind, by its tag: otherName 0xa0, x400Address 0xa3, directoryName 0xa4, ediPartyName 0xa5, registeredID 0x88.
+    /// Another kind of name, by its tag: otherName 0xa0, x400Address 0xa3, directoryName 0xa4,
+    /// ediPartyName 0xa5, registeredID 0x88.
     Other(Element<'a>),
 }
 
-/// The name that an element is.
+/// The name in an element.
 fn general_name_of(e: Element) -> GeneralName
     ensures { view_general_name result ≡ name_of (view_element e.entry) }
 {
@@ -38,7 +39,7 @@ fn general_name_of(e: Element) -> GeneralName
     }
 }
 
-/// Names, one behind the other; each is read as a [`GeneralName`].
+/// A list of names; each is parsed as a [`GeneralName`].
 pub struct GeneralNames;
 
 impl<'a> InPlace<'a> for GeneralNames {
@@ -57,10 +58,10 @@ impl<'a> InPlace<'a> for GeneralNames {
     }
 }
 
-/// Reads GeneralNames in place, the value of subjectAltName and issuerAltName.
+/// Parses GeneralNames, the value of subjectAltName and issuerAltName, without copying.
 ///
-/// It refuses what [`der::tagged`] does, where no SEQUENCE is there. What breaks a rule within it ends the walk, and
-/// [`Items::refusal`] says what it is.
+/// It refuses what [`der::tagged`] does if there is no SEQUENCE. A broken rule within it ends the
+/// iterator, and [`Items::refusal`] returns it.
 #[tactic(auto, using(layouts::proofs::OneAnswerLemmas::read_allowed), unfolding(crate::specs::GeneralName::general_names))]
 pub fn parse_general_names<'a>(i: &'a [u8]) -> IResult<&'a [u8], Items<'a, GeneralNames>>
     ensures { Gives (λ v. items_in general_name v.bytes.now) general_names i.now result }

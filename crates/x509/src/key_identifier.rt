@@ -1,4 +1,5 @@
-//! Which key signed a certificate, and which it certifies (RFC 5280, sections 4.2.1.1 and 4.2.1.2).
+//! The keys that a certificate's signature and the certificate are about (RFC 5280, sections
+//! 4.2.1.1 and 4.2.1.2).
 #![tactic(auto, using(layouts::proofs::OneAnswerLemmas::read_allowed))]
 
 ghost use Rattle.layouts.specs.Answers.{Gives};
@@ -8,18 +9,19 @@ use crate::general_name::GeneralNames;
 use der::{AllBytes, Integer, ItemsOf, optional, tag, tagged};
 use layouts::{IResult, InPlace, Items};
 
-/// The key that signed a certificate: by an identifier, by issuer and serial number of its certificate, or both.
+/// The key that signed a certificate: its identifier, or the issuer and serial number of its
+/// certificate, or both.
 #[derive(Clone, Copy, Debug, PartialEq)]
 pub struct AuthorityKeyIdentifier<'a> {
     /// The identifier of the key.
     pub key_identifier: Option<&'a [u8]>,
-    /// Who issued the key's certificate.
+    /// The issuer of the key's certificate.
     pub authority_cert_issuer: Option<Items<'a, GeneralNames>>,
     /// The serial number of that certificate: an INTEGER's bytes.
     pub authority_cert_serial_number: Option<&'a [u8]>,
 }
 
-/// What is in an AuthorityKeyIdentifier.
+/// The content of an AuthorityKeyIdentifier.
 struct KeyIdentifierContent;
 
 impl<'a> InPlace<'a> for KeyIdentifierContent {
@@ -45,7 +47,7 @@ impl<'a> InPlace<'a> for KeyIdentifierContent {
     }
 }
 
-/// Reads an AuthorityKeyIdentifier, the value of authorityKeyIdentifier.
+/// Parses an AuthorityKeyIdentifier, the value of authorityKeyIdentifier.
 ///
 /// It refuses what [`der::tagged`], [`der::optional`] and [`Integer`] do.
 #[tactic(auto, using(layouts::proofs::OneAnswerLemmas::read_allowed), unfolding(crate::specs::Extensions::authority_key_identifier))]
@@ -55,9 +57,10 @@ pub fn parse_authority_key_identifier(i: &[u8]) -> IResult<&[u8], AuthorityKeyId
     tagged::<KeyIdentifierContent>(i, tag::SEQUENCE)
 }
 
-/// Reads a SubjectKeyIdentifier, the value of subjectKeyIdentifier: the identifier of the certified key.
+/// Parses a SubjectKeyIdentifier, the value of subjectKeyIdentifier: the identifier of the
+/// certified key.
 ///
-/// It refuses what [`der::tagged`] does, where no OCTET STRING is there.
+/// It refuses what [`der::tagged`] does if there is no OCTET STRING.
 #[tactic(auto, using(layouts::proofs::OneAnswerLemmas::read_allowed), unfolding(crate::specs::Extensions::subject_key_identifier))]
 pub fn parse_subject_key_identifier(i: &[u8]) -> IResult<&[u8], &[u8]>
     ensures { Gives (λ v. v.now) subject_key_identifier i.now result }

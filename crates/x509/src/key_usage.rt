@@ -18,23 +18,23 @@ pub struct KeyUsage {
     pub digital_signature: bool,
     /// Signatures that commit their signer (also called nonRepudiation).
     pub content_commitment: bool,
-    /// The encryption of keys.
+    /// Encryption of keys.
     pub key_encipherment: bool,
-    /// The encryption of other data.
+    /// Encryption of other data.
     pub data_encipherment: bool,
-    /// Agreement on keys.
+    /// Key agreement.
     pub key_agreement: bool,
     /// Signatures on certificates.
     pub key_cert_sign: bool,
     /// Signatures on revocation lists.
     pub crl_sign: bool,
-    /// With agreement on keys: to encrypt alone.
+    /// With key agreement: encryption only.
     pub encipher_only: bool,
-    /// With agreement on keys: to decrypt alone.
+    /// With key agreement: decryption only.
     pub decipher_only: bool,
 }
 
-/// What bits say.
+/// The usage in these bits.
 fn usage_of(bits: BitString) -> KeyUsage
     ensures { result ≡ usage_by (view_bit_string bits.entry) }
 {
@@ -51,9 +51,9 @@ fn usage_of(bits: BitString) -> KeyUsage
     }
 }
 
-/// Reads a KeyUsage, the value of keyUsage; further bits say nothing.
+/// Parses a KeyUsage, the value of keyUsage. Other bits are ignored.
 ///
-/// It refuses what [`der::tagged`] and reading a [`BitString`] do.
+/// It refuses what [`der::tagged`] and parsing a [`BitString`] do.
 #[tactic(auto, using(layouts::proofs::OneAnswerLemmas::read_allowed), unfolding(crate::specs::Extensions::key_usage))]
 pub fn parse_key_usage(i: &[u8]) -> IResult<&[u8], KeyUsage>
     ensures { Gives (λ v. v) key_usage i.now result }
@@ -65,25 +65,25 @@ pub fn parse_key_usage(i: &[u8]) -> IResult<&[u8], KeyUsage>
 /// A purpose that a key may be used for.
 #[derive(Clone, Copy, Debug, PartialEq)]
 pub enum KeyPurposeId<'a> {
-    /// Any.
+    /// Any purpose.
     AnyExtendedKeyUsage,
-    /// To be a server of TLS.
+    /// A TLS server.
     ServerAuth,
-    /// To be a client of TLS.
+    /// A TLS client.
     ClientAuth,
-    /// To sign code.
+    /// Code signing.
     CodeSigning,
-    /// To protect mail.
+    /// Mail protection.
     EmailProtection,
-    /// To bind a digest to a time.
+    /// Binding a digest to a time.
     TimeStamping,
-    /// To sign answers of OCSP.
+    /// Signing OCSP responses.
     OcspSigning,
     /// Another one.
     Other(ObjectIdentifier<'a>),
 }
 
-/// The purpose that an object identifier says.
+/// The purpose of an object identifier.
 fn purpose_of(id: ObjectIdentifier) -> KeyPurposeId
     ensures { view_key_purpose result ≡ purpose_by id.entry.content.now }
 {
@@ -106,7 +106,7 @@ fn purpose_of(id: ObjectIdentifier) -> KeyPurposeId
     }
 }
 
-/// Purposes, one behind the other; each is read as a [`KeyPurposeId`].
+/// A list of purposes; each is parsed as a [`KeyPurposeId`].
 pub struct KeyPurposeIds;
 
 impl<'a> InPlace<'a> for KeyPurposeIds {
@@ -125,10 +125,10 @@ impl<'a> InPlace<'a> for KeyPurposeIds {
     }
 }
 
-/// Reads an ExtKeyUsageSyntax in place, the value of extKeyUsage.
+/// Parses an ExtKeyUsageSyntax, the value of extKeyUsage, without copying.
 ///
-/// It refuses what [`der::tagged`] does, where no SEQUENCE is there. What breaks a rule within it ends the walk, and
-/// [`Items::refusal`] says what it is.
+/// It refuses what [`der::tagged`] does if there is no SEQUENCE. A broken rule within it ends the
+/// iterator, and [`Items::refusal`] returns it.
 #[tactic(auto, using(layouts::proofs::OneAnswerLemmas::read_allowed), unfolding(crate::specs::Extensions::extended_key_usage))]
 pub fn parse_extended_key_usage<'a>(i: &'a [u8]) -> IResult<&'a [u8], Items<'a, KeyPurposeIds>>
     ensures { Gives (λ v. items_in key_purpose v.bytes.now) extended_key_usage i.now result }

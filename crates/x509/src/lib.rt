@@ -1,8 +1,9 @@
-//! Certificates of X.509 (RFC 5280), in DER (X.690), read in place.
+//! Parses X.509 certificates (RFC 5280) in DER (X.690), without copying.
 //!
-//! Each call reads one structure from the front of bytes, takes no memory, and answers what a layout of `specs/` allows
-//! there: the value and the exact rest, the kind of the broken rule, or the exact count of missing bytes. Names and extensions
-//! are lists in place, each item of which is read as a walk comes to it.
+//! Each call parses one structure at the front of bytes and doesn't allocate. It returns what a
+//! layout of `specs/` allows: the value and the exact rest, the kind of the broken rule, or the
+//! exact count of missing bytes. `specs/Certificate.antt` has the layout of a certificate. Names
+//! and extensions are lists whose items are parsed while iterating.
 //!
 //! Nothing is verified: no signature, no name against a host, no time against a clock.
 #![tactic(auto, using(layouts::proofs::OneAnswerLemmas::read_allowed))]

@@ -12,13 +12,13 @@ use layouts::{IResult, InPlace, Items};
 /// An attribute of a name.
 #[derive(Clone, Copy, Debug, PartialEq)]
 pub struct AttributeTypeAndValue<'a> {
-    /// Its type, as 2.5.4.3 for a commonName.
+    /// Its type, such as 2.5.4.3 for a commonName.
     pub attribute_type: ObjectIdentifier<'a>,
-    /// Its value: a string of the kind that its tag says, most often.
+    /// Its value, usually a string of the kind that its tag gives.
     pub value: Element<'a>,
 }
 
-/// What is in an attribute.
+/// The content of an attribute.
 struct AttributeContent;
 
 impl<'a> InPlace<'a> for AttributeContent {
@@ -42,7 +42,7 @@ impl<'a> InPlace<'a> for AttributeContent {
     }
 }
 
-/// Attributes, one behind the other; each is read as an [`AttributeTypeAndValue`].
+/// A list of attributes; each is parsed as an [`AttributeTypeAndValue`].
 pub struct Attributes;
 
 impl<'a> InPlace<'a> for Attributes {
@@ -63,7 +63,7 @@ impl<'a> InPlace<'a> for Attributes {
 /// A set of attributes; most have one.
 pub type RelativeDistinguishedName<'a> = Items<'a, Attributes>;
 
-/// Sets of attributes, one behind the other; each is read as a [`RelativeDistinguishedName`].
+/// A list of sets of attributes; each is parsed as a [`RelativeDistinguishedName`].
 pub struct RelativeDistinguishedNames;
 
 impl<'a> InPlace<'a> for RelativeDistinguishedNames {
@@ -81,16 +81,17 @@ impl<'a> InPlace<'a> for RelativeDistinguishedNames {
     }
 }
 
-/// A name: sets of attributes, in their order, each read as the walk comes to it.
+/// A name: sets of attributes, in order, each parsed when the iterator reaches it.
 pub type Name<'a> = Items<'a, RelativeDistinguishedNames>;
 
-/// Reads a Name in place.
+/// Parses a Name, without copying.
 ///
-/// It refuses what [`der::tagged`] does, where no SEQUENCE is there. What breaks a rule within it ends the walk, and
-/// [`Items::refusal`] says what it is.
+/// It refuses what [`der::tagged`] does if there is no SEQUENCE. A broken rule within it ends the
+/// iterator, and [`Items::refusal`] returns it.
 #[tactic(auto, using(layouts::proofs::OneAnswerLemmas::read_allowed), unfolding(crate::specs::Name::name))]
 pub fn parse_name(i: &[u8]) -> IResult<&[u8], Name>
-    ensures { Gives (λ v. items_in relative_distinguished_name v.bytes.now) name_layout i.now result }
+    ensures { Gives (λ v. items_in relative_distinguished_name v.bytes.now) name_layout
+        i.now result }
 {
     tagged::<ItemsOf<RelativeDistinguishedNames>>(i, tag::SEQUENCE)
 }

@@ -1,4 +1,4 @@
-//! Object identifiers that are looked for.
+//! Object identifiers of algorithms, extensions and key purposes.
 
 use der::ObjectIdentifier;
 
@@ -62,7 +62,7 @@ pub const EXTENDED_KEY_USAGE: ObjectIdentifier = ObjectIdentifier {
     content: &[0x55, 0x1d, 0x25],
 };
 
-/// anyExtendedKeyUsage: 2.5.29.37.0 (RFC 5280, section 4.2.1.12, as those that follow).
+/// anyExtendedKeyUsage: 2.5.29.37.0 (RFC 5280, section 4.2.1.12, like those that follow).
 pub const ANY_EXTENDED_KEY_USAGE: ObjectIdentifier = ObjectIdentifier {
     content: &[0x55, 0x1d, 0x25, 0x00],
 };

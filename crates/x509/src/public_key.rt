@@ -1,4 +1,5 @@
-//! Public keys, by their algorithm (RFC 3279, section 2.3; RFC 4055, section 1.2; RFC 5480, section 2; RFC 8410, section 3).
+//! Public keys, by their algorithm (RFC 3279, section 2.3; RFC 4055, section 1.2; RFC 5480, section
+//! 2; RFC 8410, section 3).
 #![tactic(auto, using(layouts::proofs::OneAnswerLemmas::read_allowed))]
 
 ghost use Rattle.std.specs.Prelude.{◌≡◌, ◌≤◌, ℕ};
@@ -14,7 +15,7 @@ use crate::oid;
 use der::{Element, Integer, ObjectIdentifier, tag, tagged};
 use layouts::{Err, Error, ErrorKind, IResult, InPlace, Items, number1, refused, rest};
 
-/// How many bits a number has; 1 for 0.
+/// The bit length of a number; 1 for 0.
 fn byte_bits(n: u8) -> u32
     ensures is { result ≡ byte_bits_of n }
     ensures fits { result ≤ 8 }
@@ -53,7 +54,7 @@ impl<'a> InPlace<'a> for ZeroByte {
     }
 }
 
-/// How many bits a number has.
+/// Parses a big-endian number and returns its bit length.
 #[tactic(auto, using(layouts::proofs::OneAnswerLemmas::read_allowed), unfolding(crate::specs::PublicKey::bit_length, crate::specs::PublicKey::significant_bits, crate::specs::PublicKey::behind_bits))]
 fn bit_length_of(i: &[u8]) -> IResult<&[u8], u32>
     ensures { Gives (λ n. n) bit_length i.now result }
@@ -68,7 +69,7 @@ fn bit_length_of(i: &[u8]) -> IResult<&[u8], u32>
     Ok((i, n as u32 * 8 + byte_bits(first)))
 }
 
-/// How many bits an INTEGER above 0 has.
+/// The bit length of an INTEGER above 0.
 struct PositiveBits;
 
 impl<'a> InPlace<'a> for PositiveBits {
@@ -91,7 +92,7 @@ impl<'a> InPlace<'a> for PositiveBits {
     }
 }
 
-/// What is in an RSAPublicKey; of it, how many bits the modulus has.
+/// The content of an RSAPublicKey, of which the modulus's bit length is returned.
 struct RsaContent;
 
 impl<'a> InPlace<'a> for RsaContent {
@@ -111,11 +112,11 @@ impl<'a> InPlace<'a> for RsaContent {
     }
 }
 
-/// Reads an RSAPublicKey (RFC 8017, section A.1.1), and tells how many bits its modulus has.
+/// Parses an RSAPublicKey (RFC 8017, section A.1.1) and returns the bit length of its modulus.
 ///
 /// - What [`der::tagged`] and [`Integer`] refuse.
-/// - `Error` of kind `Verify` where the modulus is negative, and `Complete` where it is 0.
-/// - `Error` of kind `TooLarge` where the modulus has more than 65,536 bytes.
+/// - `Error` of kind `Verify` if the modulus is negative, and `Complete` if it is 0.
+/// - `Error` of kind `TooLarge` if the modulus has more than 65,536 bytes.
 #[tactic(auto, using(layouts::proofs::OneAnswerLemmas::read_allowed), unfolding(crate::specs::PublicKey::rsa_public_key))]
 pub fn parse_rsa_public_key(i: &[u8]) -> IResult<&[u8], u32>
     ensures { Gives (λ v. v) rsa_public_key i.now result }
@@ -123,24 +124,25 @@ pub fn parse_rsa_public_key(i: &[u8]) -> IResult<&[u8], u32>
     tagged::<RsaContent>(i, tag::SEQUENCE)
 }
 
-/// What a public key is.
+/// A public key, by its algorithm.
 #[derive(Clone, Copy, Debug, PartialEq)]
 pub enum PublicKey<'a> {
-    /// Of RSA, for any padding or for PSS alone: how many bits its modulus has.
+    /// An RSA key, for any padding or for PSS only: the bit length of its modulus.
     Rsa(u32),
-    /// Of a curve that has a name.
+    /// A key on a named curve: the curve.
     Ec(ObjectIdentifier<'a>),
-    /// Of Ed25519.
+    /// An Ed25519 key.
     Ed25519,
-    /// Of Ed448.
+    /// An Ed448 key.
     Ed448,
-    /// Of another algorithm.
+    /// A key for another algorithm: the algorithm.
     Other(ObjectIdentifier<'a>),
 }
 
-/// The curve that parameters name.
+/// The curve in an algorithm's parameters.
 fn named_curve<'a>(parameters: Option<Element<'a>>) -> Result<PublicKey<'a>, Err<Error<&'a [u8]>>>
-    ensures { Tells view_public_key (named_curve_of (option_map view_element parameters.entry)) result }
+    ensures { Tells view_public_key
+        (named_curve_of (option_map view_element parameters.entry)) result }
 {
     match parameters {
         Some(
@@ -160,11 +162,11 @@ fn named_curve<'a>(parameters: Option<Element<'a>>) -> Result<PublicKey<'a>, Err
 }
 
 impl<'a> SubjectPublicKeyInfo<'a> {
-    /// What the key is. Of RSA its modulus is read, of an elliptic curve the curve's name.
+    /// Parses the key: the modulus of an RSA key, the curve's name of an elliptic curve key.
     ///
-    /// - What [`parse_rsa_public_key`] refuses, where the key is to be one.
-    /// - `Error` of kind `Tag` where the parameters of an elliptic curve aren't its name (RFC 5480, section 2.1.1, has no others), and what
-    ///   reading an [`ObjectIdentifier`] refuses.
+    /// - What [`parse_rsa_public_key`] refuses, for an RSA key.
+    /// - `Error` of kind `Tag` if the parameters of an elliptic curve key aren't a name (RFC 5480,
+    ///   section 2.1.1, has no others), and what parsing an [`ObjectIdentifier`] refuses.
     pub fn public_key(self) -> Result<PublicKey<'a>, Err<Error<&'a [u8]>>>
         ensures { Tells view_public_key (key_of (view_key_info self.entry)) result }
     {

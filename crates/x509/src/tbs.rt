@@ -15,7 +15,7 @@ use crate::validity::{Validity, parse_validity};
 use der::{BitString, Integer, optional, tag, tagged};
 use layouts::{ErrorKind, IResult, InPlace, Items, number1, refused};
 
-/// The content of an INTEGER that is a version.
+/// The content of a version's INTEGER.
 struct VersionContent;
 
 impl<'a> InPlace<'a> for VersionContent {
@@ -37,7 +37,7 @@ impl<'a> InPlace<'a> for VersionContent {
     }
 }
 
-/// A version, as it is tagged in a certificate.
+/// A version with its explicit tag.
 struct Version;
 
 impl<'a> InPlace<'a> for Version {
@@ -63,7 +63,7 @@ struct FirstFields<'a> {
     signature: AlgorithmIdentifier<'a>,
 }
 
-/// Reads the fields up to the signature's algorithm.
+/// Parses the fields up to the signature's algorithm.
 #[tactic(auto, using(layouts::proofs::OneAnswerLemmas::read_allowed), unfolding(crate::specs::Certificate::first_fields))]
 fn read_first_fields(i: &[u8]) -> IResult<&[u8], FirstFields>
     ensures { Gives view_first_fields first_fields i.now result }
@@ -92,7 +92,7 @@ struct NameFields<'a> {
     subject_public_key_info: SubjectPublicKeyInfo<'a>,
 }
 
-/// Reads the fields from the issuer to the key.
+/// Parses the fields from the issuer to the key.
 #[tactic(auto, using(layouts::proofs::OneAnswerLemmas::read_allowed), unfolding(crate::specs::Certificate::name_fields))]
 fn read_name_fields(i: &[u8]) -> IResult<&[u8], NameFields>
     ensures { Gives view_name_fields name_fields i.now result }
@@ -110,7 +110,7 @@ fn read_name_fields(i: &[u8]) -> IResult<&[u8], NameFields>
     Ok((i, fields))
 }
 
-/// The fields behind the key.
+/// The fields after the key.
 #[derive(Clone, Copy)]
 struct OptionalFields<'a> {
     issuer_unique_id: Option<BitString<'a>>,
@@ -118,7 +118,7 @@ struct OptionalFields<'a> {
     extensions: Items<'a, Extensions>,
 }
 
-/// Reads the fields behind the key.
+/// Parses the fields after the key.
 #[tactic(auto, using(layouts::proofs::OneAnswerLemmas::read_allowed, layouts::proofs::ItemsLemmas::none_in), unfolding(crate::specs::Certificate::optional_fields))]
 fn read_optional_fields<'a>(i: &'a [u8]) -> IResult<&'a [u8], OptionalFields<'a>>
     ensures { Gives view_optional_fields optional_fields i.now result }
@@ -141,25 +141,25 @@ fn read_optional_fields<'a>(i: &'a [u8]) -> IResult<&'a [u8], OptionalFields<'a>
 /// The part of a certificate that is signed.
 #[derive(Clone, Copy, Debug, PartialEq)]
 pub struct TBSCertificate<'a> {
-    /// The version less 1: 0 for v1, where none is given too; 1 for v2, 2 for v3.
+    /// The version minus 1: 0 for v1, also if the field is absent; 1 for v2, 2 for v3.
     pub version: u8,
-    /// An INTEGER's bytes.
+    /// The serial number: an INTEGER's bytes.
     pub serial_number: &'a [u8],
-    /// What the certificate is signed with.
+    /// The algorithm of the certificate's signature.
     pub signature: AlgorithmIdentifier<'a>,
-    /// Who signed it.
+    /// The signer.
     pub issuer: Name<'a>,
     /// When it is valid.
     pub validity: Validity,
-    /// Whose key it certifies.
+    /// The owner of the key.
     pub subject: Name<'a>,
     /// The key.
     pub subject_public_key_info: SubjectPublicKeyInfo<'a>,
-    /// Which of the issuers of that name.
+    /// Which of the issuers with that name it is.
     pub issuer_unique_id: Option<BitString<'a>>,
-    /// Which of the subjects of that name.
+    /// Which of the subjects with that name it is.
     pub subject_unique_id: Option<BitString<'a>>,
-    /// The extensions; none where there is no list of them.
+    /// The extensions; empty if there is no list.
     pub extensions: Items<'a, Extensions>,
 }
 

@@ -7,10 +7,11 @@ ghost use Rattle.x509.specs.Certificate.{time as time_layout, validity_content, 
 use der::{GeneralizedTime, UtcTime, tag, tagged};
 use layouts::{ErrorKind, IResult, InPlace, number1, refused};
 
-/// Reads a Time, in seconds since 1970-01-01 00:00:00 UTC: a UTCTime of a year from 1950 to 2049, or a GeneralizedTime.
+/// Parses a Time, in seconds since 1970-01-01 00:00:00 UTC: a UTCTime of a year from 1950 to 2049,
+/// or a GeneralizedTime.
 ///
-/// - `Incomplete` of what is missing of it.
-/// - `Error` of kind `Tag` where it is neither.
+/// - `Incomplete` with the count of missing bytes.
+/// - `Error` of kind `Tag` if it is neither.
 /// - What [`der::tagged`] and [`UtcTime`] or [`GeneralizedTime`] refuse.
 #[tactic(auto, using(layouts::proofs::OneAnswerLemmas::read_allowed), unfolding(crate::specs::Certificate::time, crate::specs::Certificate::time_by))]
 pub fn parse_time(i: &[u8]) -> IResult<&[u8], i64>
@@ -24,7 +25,7 @@ pub fn parse_time(i: &[u8]) -> IResult<&[u8], i64>
     }
 }
 
-/// From when until when a certificate is valid, both included, in seconds since 1970-01-01 00:00:00 UTC.
+/// The time in which a certificate is valid, inclusive, in seconds since 1970-01-01 00:00:00 UTC.
 #[derive(Clone, Copy, Debug, PartialEq, Eq)]
 pub struct Validity {
     /// The first second.
@@ -33,7 +34,7 @@ pub struct Validity {
     pub not_after: i64,
 }
 
-/// What is in a Validity.
+/// The content of a Validity.
 struct ValidityContent;
 
 impl<'a> InPlace<'a> for ValidityContent {
@@ -59,7 +60,7 @@ impl<'a> InPlace<'a> for ValidityContent {
     }
 }
 
-/// Reads a Validity.
+/// Parses a Validity.
 #[tactic(auto, using(layouts::proofs::OneAnswerLemmas::read_allowed), unfolding(crate::specs::Certificate::validity))]
 pub(crate) fn parse_validity(i: &[u8]) -> IResult<&[u8], Validity>
     ensures { Gives (λ v. v) validity i.now result }

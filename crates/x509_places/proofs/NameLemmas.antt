@@ -1,4 +1,4 @@
--- A name is spelled by its own bytes alone.
+-- Only its own bytes encode a name.
 use Rattle.std.proofs.Common.{◌≡◌, ℕ, ◌-◌, [], ◌++◌, length, take, Ok, Bool, true, false, sym, subst, ap, ◌∙◌}
 use Rattle.std.specs.Prelude.{List, ◌==◌, nat_le, nat_lt}
 use Rattle.std.proofs.lemmas.List.{append_assoc, append_cancel_right}
@@ -16,19 +16,25 @@ use Rattle.x509.specs.Name.{AttributeTypeAndValue, name, relative_distinguished_
 use Rattle.x509_places.specs.Place.{IsBefore, NameStands, Stands}
 use Rattle.x509_places.proofs.PlaceLemmas.{front_is}
 
--- what a stable layout spells, it spells with fewer bytes behind it
-fewer : {A : Type 0} (l : Layout A) → IsStable l → (b s : Bytes) (v : A) (r d : Bytes) → Spells l (b ++ s) v (r ++ s) d
+-- a stable layout encodes the same without bytes at the end
+fewer : {A : Type 0} (l : Layout A) → IsStable l → (b s : Bytes) (v : A) (r d : Bytes)
+    → Spells l (b ++ s) v (r ++ s) d
     → Spells l b v r d
 fewer (done a) st b s v r d (is, still, e) = (is, append_cancel_right b r s still, e)
 fewer (refuse k) st b s v r d x = absurd x
-fewer (number k) st b s v r d (small, is, e) =
-    (small, append_cancel_right b (bytes_of k v ++ r) s (is ∙ sym (append_assoc (bytes_of k v) r s)), e)
+fewer (number k) st b s v r d (small, is, e) = (
+  small,
+  append_cancel_right b (bytes_of k v ++ r) s
+      (is ∙ sym (append_assoc (bytes_of k v) r s)),
+  e,
+)
 fewer (ignored k) st b s v r d (size, is) =
     (size, append_cancel_right b (d ++ r) s (is ∙ sym (append_assoc d r s)))
 fewer (block n) st b s v r d (size, is, e) =
     (size, append_cancel_right b (v ++ r) s (is ∙ sym (append_assoc v r s)), e)
 fewer left st b s v r d x = absurd st
-fewer (tag t) st b s v r d (is, e) = (append_cancel_right b (t ++ r) s (is ∙ sym (append_assoc t r s)), e)
+fewer (tag t) st b s v r d (is, e) =
+    (append_cancel_right b (t ++ r) s (is ∙ sym (append_assoc t r s)), e)
 fewer (window n l) st b s v r d (w, e, f, size, is, inner, all) =
     (w, e, f, size, append_cancel_right b (w ++ r) s (is ∙ sym (append_assoc w r s)), inner, all)
 fewer (list l) st b s v r d x = absurd st
@@ -44,7 +50,8 @@ fewer (chain l f) st b s v r d (a, m, d1, d2, first, second, e) =
       d1,
       d2,
       fewer l st.0 b s a (end.0 ++ r) d1 (subst (λ x. Spells l (b ++ s) a x d1) is first),
-      fewer (f a) (st.1 a) (end.0 ++ r) s v r d2 (subst (λ x. Spells (f a) x v (r ++ s) d2) is second),
+      fewer (f a) (st.1 a) (end.0 ++ r) s v r d2
+          (subst (λ x. Spells (f a) x v (r ++ s) d2) is second),
       e,
     )
 
@@ -52,7 +59,8 @@ test_stable : (c : Bool) (k : ErrorKind) → IsStable (test c k)
 test_stable true k = tt
 test_stable false k = tt
 
-choose_stable : {A : Type 0} (c : Bool) (l m : Layout A) → IsStable l → IsStable m → IsStable (choose c l m)
+choose_stable : {A : Type 0} (c : Bool) (l m : Layout A) → IsStable l → IsStable m
+    → IsStable (choose c l m)
 choose_stable true l m one other = one
 choose_stable false l m one other = other
 
@@ -79,7 +87,8 @@ length_stable f =
     (choose_stable (f == 0x80) (refuse Switch) (by_one f) tt
     (choose_stable (f == 0x81) (long_length 1 0x80) (by_two f) (long_stable 1 0x80)
     (choose_stable (f == 0x82) (long_length 2 0x100) (by_three f) (long_stable 2 0x100)
-    (choose_stable (f == 0x83) (long_length 3 0x10000) (refuse TooLarge) (long_stable 3 0x10000) tt))))
+    (choose_stable (f == 0x83) (long_length 3 0x10000) (refuse TooLarge)
+    (long_stable 3 0x10000) tt))))
 
 tagged_stable : {A : Type 0} (t : ℕ) (l : Layout A) → IsStable (tagged t l)
 unfolding tagged der_length
@@ -89,17 +98,25 @@ name_stable : IsStable name
 unfolding name
 name_stable = tagged_stable 0x30 (items_of relative_distinguished_name)
 
-name_alone : (x r : Bytes) (n : List (List AttributeTypeAndValue)) → Allows name (x ++ r) (Ok (n, r))
+name_alone : (x r : Bytes) (n : List (List AttributeTypeAndValue))
+    → Allows name (x ++ r) (Ok (n, r))
     → Allows name x (Ok (n, []))
 unfolding Allows
 name_alone x r n (d, s) = (d, fewer name name_stable x r n [] d s)
 
-pub name_stands : (b : Bytes) (k : ℕ) (i r x : Bytes) (n : List (List AttributeTypeAndValue)) (p : Place)
-    → x ≡ take (length i - length r) i → (IsBefore b k i → EndsWith i r → Stands b p x) → IsBefore b k i
+pub name_stands : (b : Bytes) (k : ℕ) (i r x : Bytes) (n : List (List AttributeTypeAndValue))
+    (p : Place)
+    → x ≡ take (length i - length r) i → (IsBefore b k i → EndsWith i r → Stands b p x)
+    → IsBefore b k i
     → Allows name i (Ok (n, r)) → NameStands b p n
 name_stands b k i r x n p is stands at a =
     let end : EndsWith i r = ends_read name i i n r (ends_here i) a in
     let there : Stands b p x = stands at end in
     let whole : i ≡ x ++ r = front_is i r end ∙ ap (λ y. y ++ r) (sym is) in
-    let alone : Allows name x (Ok (n, [])) = name_alone x r n (subst (λ y. Allows name y (Ok (n, r))) whole a) in
-    record { spelled = subst (λ y. Allows name y (Ok (n, []))) (sym there.is) alone; within = there.within }
+    let alone : Allows name x (Ok (n, [])) =
+    name_alone x r n (subst (λ y. Allows name y (Ok (n, r))) whole a) in
+    record {
+      spelled = subst (λ y. Allows name y (Ok (n, []))) (sym there.is) alone;
+      within =
+          there.within;
+    }

@@ -1,4 +1,4 @@
--- What is read of a certificate's signed part, step by step.
+-- Parsing a certificate's signed part, step by step.
 use Rattle.std.specs.Option.{option_map}
 use Rattle.layouts.specs.Bytes.{Bytes}
 use Rattle.layouts.specs.Items.{items_in}
@@ -13,7 +13,12 @@ use Rattle.x509_places.specs.declared.tbs.OptionalFields.{OptionalFields as Read
 
 abbrev pub view_first : ReadFirst → FirstFields
 view_first f =
-    record { version = f.version; serial_number = f.serial_number.now; signature = view_algorithm f.signature }
+    record {
+      version = f.version;
+      serial_number = f.serial_number.now;
+      signature =
+          view_algorithm f.signature;
+    }
 
 abbrev pub view_names : ReadNames → NameFields
 view_names f = record {
@@ -23,10 +28,11 @@ view_names f = record {
   subject_public_key_info = view_key_info f.key;
 }
 
--- The names and the key stand at their places.
+-- The names and the key are at their places.
 pub record NamesStand (b : Bytes) (f : ReadNames) : Type 0 where
   pub issuer : NameStands b f.issuer_place (items_in relative_distinguished_name f.issuer.bytes.now)
-  pub subject : NameStands b f.subject_place (items_in relative_distinguished_name f.subject.bytes.now)
+  pub subject : NameStands b f.subject_place
+      (items_in relative_distinguished_name f.subject.bytes.now)
   pub key : KeyStands b f.key f.key_places
 
 abbrev pub view_optional : ReadOptional → OptionalFields

@@ -1,4 +1,4 @@
-//! Algorithms and public keys, and where their parts stand.
+//! Algorithms and public keys, with the places of their parts.
 #![tactic(auto, using(layouts::proofs::OneAnswerLemmas::read_allowed))]
 
 ghost use Rattle.std.specs.Prelude.{IfOk};
@@ -17,16 +17,17 @@ use der::{Element, tag};
 use layouts::{IResult, InPlace, Place};
 use x509::{AlgorithmIdentifier, SubjectPublicKeyInfo};
 
-/// Where the parts of an AlgorithmIdentifier stand.
+/// The places of an AlgorithmIdentifier's parts.
 #[derive(Clone, Copy, Debug, PartialEq)]
 pub struct AlgorithmPlaces {
     /// The content of the object identifier.
     pub algorithm: Place,
-    /// The content of the parameters' element: of an elliptic curve's key, the curve's object identifier.
+    /// The content of the parameters' element; for an elliptic curve key, the curve's object
+    /// identifier.
     pub parameters: Option<Place>,
 }
 
-/// Reads an element where a byte is left, and says where its content stands.
+/// Parses an element if bytes are left, with the place of its content.
 #[tactic(auto, using(layouts::proofs::OneAnswerLemmas::read_allowed), unfolding(der::specs::Element::optional_element))]
 fn optional_element_at<'a>(
     whole: &[u8],
@@ -34,7 +35,8 @@ fn optional_element_at<'a>(
     i: &'a [u8],
 ) -> IResult<&'a [u8], (Option<Element<'a>>, Option<Place>)>
     ensures gives { Gives (λ x. option_map view_element x.0) optional_element i.now result }
-    ensures places { IsBefore whole.now behind i.now → IfOk result (λ x. MayStand whole.now x.1.1 (option_map (λ e. e.content.now) x.1.0)) }
+    ensures places { IsBefore whole.now behind i.now
+        → IfOk result (λ x. MayStand whole.now x.1.1 (option_map (λ e. e.content.now) x.1.0)) }
 {
     if i.is_empty() {
         return Ok((i, (None, None)));
@@ -44,7 +46,7 @@ fn optional_element_at<'a>(
     Ok((rest, (Some(x), Some(place))))
 }
 
-/// What is in an AlgorithmIdentifier.
+/// The content of an AlgorithmIdentifier.
 struct AlgorithmContentAt;
 
 impl<'a> Part<'a> for AlgorithmContentAt {
@@ -79,7 +81,7 @@ impl<'a> Part<'a> for AlgorithmContentAt {
     }
 }
 
-/// Reads an AlgorithmIdentifier, and says where its parts stand.
+/// Parses an AlgorithmIdentifier, with the places of its parts.
 #[tactic(auto, using(layouts::proofs::OneAnswerLemmas::read_allowed), unfolding(x509::specs::Certificate::algorithm_identifier))]
 pub(crate) fn algorithm_at<'a>(
     whole: &[u8],
@@ -87,21 +89,22 @@ pub(crate) fn algorithm_at<'a>(
     i: &'a [u8],
 ) -> IResult<&'a [u8], (AlgorithmIdentifier<'a>, AlgorithmPlaces)>
     ensures gives { Gives (λ x. view_algorithm x.0) algorithm_identifier i.now result }
-    ensures places { IsBefore whole.now behind i.now → IfOk result (λ x. AlgorithmStands whole.now x.1.0 x.1.1) }
+    ensures places { IsBefore whole.now behind i.now
+        → IfOk result (λ x. AlgorithmStands whole.now x.1.0 x.1.1) }
 {
     tagged_at::<AlgorithmContentAt>(whole, behind, i, tag::SEQUENCE)
 }
 
-/// Where the parts of a public key stand.
+/// The places of a public key's parts.
 #[derive(Clone, Copy, Debug, PartialEq)]
 pub struct KeyPlaces {
-    /// What it is used with.
+    /// The algorithm of the key.
     pub algorithm: AlgorithmPlaces,
     /// The key's bytes, without the number of unused bits.
     pub key: Place,
 }
 
-/// What is in a SubjectPublicKeyInfo.
+/// The content of a SubjectPublicKeyInfo.
 struct KeyContentAt;
 
 impl<'a> Part<'a> for KeyContentAt {
@@ -136,7 +139,7 @@ impl<'a> Part<'a> for KeyContentAt {
     }
 }
 
-/// Reads a SubjectPublicKeyInfo, and says where its parts stand.
+/// Parses a SubjectPublicKeyInfo, with the places of its parts.
 #[tactic(auto, using(layouts::proofs::OneAnswerLemmas::read_allowed), unfolding(x509::specs::Certificate::subject_public_key_info))]
 pub(crate) fn key_at<'a>(
     whole: &[u8],

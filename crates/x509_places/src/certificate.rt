@@ -1,4 +1,4 @@
-//! Certificates, and where their fields stand (RFC 5280, section 4.1).
+//! Certificates, with the places of their fields (RFC 5280, section 4.1).
 #![tactic(auto, using(layouts::proofs::OneAnswerLemmas::read_allowed))]
 
 ghost use Rattle.std.specs.Prelude.{IfOk};
@@ -15,20 +15,20 @@ use der::tag;
 use layouts::{IResult, Place, rest as rest_of};
 use x509::Certificate;
 
-/// Where the fields of a certificate stand.
+/// The places of a certificate's fields.
 #[derive(Clone, Copy, Debug, PartialEq)]
 pub struct CertificatePlaces {
-    /// The bytes that are signed: those of the TBSCertificate, with its tag and its length.
+    /// The bytes that are signed: the TBSCertificate with its tag and its length.
     pub signed_bytes: Place,
     /// The fields of the TBSCertificate.
     pub tbs_certificate: TBSPlaces,
-    /// What they are signed with.
+    /// The algorithm of the signature.
     pub signature_algorithm: AlgorithmPlaces,
     /// The signature's bytes, without the number of unused bits.
     pub signature_value: Place,
 }
 
-/// What is in a certificate.
+/// The content of a certificate.
 struct CertificateContentAt;
 
 impl<'a> Part<'a> for CertificateContentAt {
@@ -77,7 +77,8 @@ impl<'a> Part<'a> for CertificateContentAt {
     }
 }
 
-/// Reads a certificate, and says where its fields stand in `whole`; it answers and refuses as [`x509::parse_certificate`].
+/// Parses a certificate, with the places of its fields in `whole`. The result and the refusals are
+/// those of [`x509::parse_certificate`].
 #[tactic(auto, using(layouts::proofs::OneAnswerLemmas::read_allowed), unfolding(x509::specs::Certificate::certificate))]
 pub fn certificate_with_places(whole: &[u8]) -> IResult<&[u8], (Certificate, CertificatePlaces)>
     ensures gives { Gives (λ x. view_certificate x.0) certificate whole.now result }

@@ -1,4 +1,4 @@
-//! Extensions, and where their parts stand (RFC 5280, section 4.2).
+//! Extensions, with the places of their parts (RFC 5280, section 4.2).
 #![tactic(auto, using(layouts::proofs::OneAnswerLemmas::read_allowed))]
 
 ghost use Rattle.std.specs.Prelude.{IfOk};
@@ -13,7 +13,7 @@ use der::{default_false, tag};
 use layouts::{IResult, Place};
 use x509::Extension;
 
-/// Where the parts of an extension stand.
+/// The places of an extension's parts.
 #[derive(Clone, Copy, Debug, PartialEq)]
 pub struct ExtensionPlaces {
     /// Its type: the content of the object identifier.
@@ -22,7 +22,7 @@ pub struct ExtensionPlaces {
     pub extn_value: Place,
 }
 
-/// What is in an extension.
+/// The content of an extension.
 struct ExtensionContentAt;
 
 impl<'a> Part<'a> for ExtensionContentAt {
@@ -64,9 +64,10 @@ impl<'a> Part<'a> for ExtensionContentAt {
     }
 }
 
-/// Reads one extension from the front of `i`, and says where its parts stand in `whole`, if `i` is an end of `whole`.
+/// Parses one extension at the front of `i`, with the places of its parts in `whole`, if `i` is an
+/// end of `whole`.
 ///
-/// It answers and refuses as an item of [`x509::Extensions`].
+/// The result and the refusals are those of an item of [`x509::Extensions`].
 #[tactic(auto, using(layouts::proofs::OneAnswerLemmas::read_allowed, crate::proofs::PlaceLemmas::end_before), unfolding(x509::specs::Certificate::extension))]
 pub fn extension_with_places<'a>(
     whole: &[u8],

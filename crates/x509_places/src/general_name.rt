@@ -1,4 +1,4 @@
-//! Names of a subject or an issuer, and where they stand (RFC 5280, section 4.2.1.6).
+//! Names of a subject or an issuer, with their places (RFC 5280, section 4.2.1.6).
 #![tactic(auto, using(layouts::proofs::OneAnswerLemmas::read_allowed))]
 
 ghost use Rattle.std.specs.Prelude.{◌≡◌, IfOk};
@@ -16,7 +16,7 @@ use der::tag;
 use layouts::{IResult, InPlace, Items, Place};
 use x509::{GeneralName, GeneralNames};
 
-/// What is in the element of a name.
+/// The content of a name's element.
 #[inline(always)]
 fn content_of<'a>(name: &GeneralName<'a>) -> &'a [u8]
     ensures { result.now ≡ name_content name.now }
@@ -30,15 +30,17 @@ fn content_of<'a>(name: &GeneralName<'a>) -> &'a [u8]
     }
 }
 
-/// Reads one name from the front of `i`, and says where its content stands in `whole`, if `i` is an end of `whole`.
+/// Parses one name at the front of `i`, with the place of its content in `whole`, if `i` is an end
+/// of `whole`.
 ///
-/// It answers and refuses as an item of [`GeneralNames`].
+/// The result and the refusals are those of an item of [`GeneralNames`].
 pub fn general_name_with_place<'a>(
     whole: &[u8],
     i: &'a [u8],
 ) -> IResult<&'a [u8], (GeneralName<'a>, Place)>
     ensures gives { Gives (λ x. view_general_name x.0) general_name i.now result }
-    ensures places { EndsWith whole.now i.now → IfOk result (λ x. Stands whole.now x.1.1 (name_content x.1.0)) }
+    ensures places { EndsWith whole.now i.now
+        → IfOk result (λ x. Stands whole.now x.1.1 (name_content x.1.0)) }
 {
     let (rest, x) = GeneralNames::read(i)?;
     let content = content_of(&x);
@@ -46,10 +48,10 @@ pub fn general_name_with_place<'a>(
     Ok((rest, (x, place)))
 }
 
-/// Reads GeneralNames from the front of `whole`, the value of subjectAltName and issuerAltName, and says where the names stand, one
-/// behind the other, without the tag and the length of their list.
+/// Parses GeneralNames at the front of `whole`, the value of subjectAltName and issuerAltName, with
+/// the place of the names, without the tag and the length of their list.
 ///
-/// It answers and refuses as [`x509::parse_general_names`].
+/// The result and the refusals are those of [`x509::parse_general_names`].
 #[tactic(auto, using(layouts::proofs::OneAnswerLemmas::read_allowed, crate::proofs::PlaceLemmas::whole_before), unfolding(x509::specs::GeneralName::general_names))]
 pub fn general_names_with_place<'a>(
     whole: &'a [u8],

@@ -1,9 +1,12 @@
-//! Where the fields of a certificate stand in the bytes that it was read from: places, counted in bytes, each proved by what
-//! stands there.
+//! Parses certificates with the offsets and lengths of their fields.
 //!
-//! [`certificate_with_places`] reads a certificate as [`x509::parse_certificate`] does, and says where its fields stand.
-//! [`extension_with_places`] and [`general_name_with_place`] do the same of one extension, and of one name of a subject or an
-//! issuer. Nothing here takes memory, and every refusal is that of `x509`.
+//! [`certificate_with_places`] parses a certificate as [`x509::parse_certificate`] does, and
+//! returns a [`layouts::Place`] for each field. [`extension_with_places`] and
+//! [`general_name_with_place`] do so for one extension, and for one name of a subject or an issuer.
+//! Nothing here allocates, and every refusal is that of `x509`.
+//!
+//! Each place is proved to lie within the certificate and to hold the field's bytes;
+//! `specs/Certificate.antt` and `specs/Walk.antt` state it.
 #![tactic(auto, using(layouts::proofs::OneAnswerLemmas::read_allowed))]
 
 mod algorithm;

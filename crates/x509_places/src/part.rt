@@ -1,4 +1,4 @@
-//! Parts that are read with the places of what they hold, and elements of such parts.
+//! A trait for parts that are parsed with places, and the elements of such parts.
 #![tactic(auto, using(layouts::proofs::OneAnswerLemmas::read_allowed))]
 
 ghost use Rattle.std.specs.Prelude.{IfOk, IfSome};
@@ -13,9 +13,9 @@ use crate::place::behind_part;
 use der::der_length;
 use layouts::{Err, ErrorKind, IResult, block, number1, refused};
 
-/// How a part is read with the places of what it holds.
+/// How a part is parsed with the places of its fields.
 pub(crate) trait Part<'a> {
-    /// What is read, and its places.
+    /// The value, and its places.
     type Read: Drop;
 
     ghost Value: { Type 0 };
@@ -26,13 +26,14 @@ pub(crate) trait Part<'a> {
 
     ghost stands: { Bytes → Self.Read → Type 0 };
 
-    /// Reads one from the front of `i`, and says where what it holds stands in `whole`, if `behind` bytes of that follow `i`.
+    /// Parses one at the front of `i`, with its places in `whole`, if `behind` bytes of `whole`
+    /// follow `i`.
     fn read_at(whole: &[u8], behind: usize, i: &'a [u8]) -> IResult<&'a [u8], Self::Read>
         ensures gives { Gives view layout i.now result }
         ensures places { IsBefore whole.now behind i.now → IfOk result (λ x. stands whole.now x.1) };
 }
 
-/// What `T` reads, behind which no byte is left.
+/// Parses `T`, which must consume all bytes.
 #[tactic(auto, using(layouts::proofs::OneAnswerLemmas::read_allowed), unfolding(der::specs::Element::whole))]
 fn whole_at<'a, T: Part<'a>>(whole: &[u8], behind: usize, i: &'a [u8]) -> IResult<&'a [u8], T::Read>
     ensures gives { Gives T.view (whole_layout T.layout) i.now result }
@@ -45,7 +46,7 @@ fn whole_at<'a, T: Part<'a>>(whole: &[u8], behind: usize, i: &'a [u8]) -> IResul
     Ok((i, x))
 }
 
-/// The same of a whole content: no further bytes belong to it.
+/// Parses `T` in a whole content: it must consume all bytes, and missing ones won't come.
 fn content_at<'a, T: Part<'a>>(
     whole: &[u8],
     behind: usize,
@@ -60,7 +61,8 @@ fn content_at<'a, T: Part<'a>>(
     }
 }
 
-/// Reads an element of this tag, whose whole content `T` reads; it answers and refuses as [`der::tagged`].
+/// Parses an element with this tag, whose whole content `T` parses. The result and the refusals are
+/// those of [`der::tagged`].
 #[tactic(auto, using(layouts::proofs::OneAnswerLemmas::read_allowed), unfolding(der::specs::Element::tagged))]
 pub(crate) fn tagged_at<'a, T: Part<'a>>(
     whole: &[u8],
@@ -82,7 +84,8 @@ pub(crate) fn tagged_at<'a, T: Part<'a>>(
     Ok((rest, x))
 }
 
-/// As [`tagged_at`] where an element of this tag is next; else `None`, and nothing is taken: as [`der::optional`].
+/// Parses an element with this tag as [`tagged_at`] does; `None` without consuming anything if no
+/// such element is next, as [`der::optional`].
 #[tactic(auto, using(layouts::proofs::OneAnswerLemmas::read_allowed), unfolding(der::specs::Element::optional))]
 pub(crate) fn optional_at<'a, T: Part<'a>>(
     whole: &[u8],
@@ -91,7 +94,8 @@ pub(crate) fn optional_at<'a, T: Part<'a>>(
     tag: u8,
 ) -> IResult<&'a [u8], Option<T::Read>>
     ensures gives { Gives (λ v. option_map T.view v) (optional tag T.layout) i.now result }
-    ensures places { IsBefore whole.now behind i.now → IfOk result (λ x. IfSome x.1 (λ y. T.stands whole.now y)) }
+    ensures places { IsBefore whole.now behind i.now
+        → IfOk result (λ x. IfSome x.1 (λ y. T.stands whole.now y)) }
 {
     if i.is_empty() {
         return Ok((i, None));

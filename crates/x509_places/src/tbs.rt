@@ -1,4 +1,4 @@
-//! The part of a certificate that is signed, and where its fields stand.
+//! The part of a certificate that is signed, with the places of its fields.
 #![tactic(auto, using(layouts::proofs::OneAnswerLemmas::read_allowed))]
 
 ghost use Rattle.std.specs.Prelude.{◌≡◌, ℕ, IfOk, IfSome, List};
@@ -23,7 +23,7 @@ use x509::{
     parse_time,
 };
 
-/// The content of an INTEGER that is a version.
+/// The content of a version's INTEGER.
 struct VersionContent;
 
 impl<'a> InPlace<'a> for VersionContent {
@@ -45,7 +45,7 @@ impl<'a> InPlace<'a> for VersionContent {
     }
 }
 
-/// A version, as it is tagged in a certificate.
+/// A version with its explicit tag.
 struct Version;
 
 impl<'a> InPlace<'a> for Version {
@@ -63,7 +63,7 @@ impl<'a> InPlace<'a> for Version {
     }
 }
 
-/// The fields up to the signature's algorithm, and where the serial number stands.
+/// The fields up to the signature's algorithm, and the place of the serial number.
 #[derive(Clone, Copy)]
 struct FirstFields<'a> {
     version: u8,
@@ -72,7 +72,7 @@ struct FirstFields<'a> {
     serial_place: Place,
 }
 
-/// The version that is given, or that of a certificate that gives none.
+/// The version, or v1 if there is none.
 #[inline(always)]
 fn version_or_v1(version: Option<u8>) -> u8
     ensures { result ≡ or_v1 version }
@@ -83,7 +83,7 @@ fn version_or_v1(version: Option<u8>) -> u8
     }
 }
 
-/// Reads the fields up to the signature's algorithm.
+/// Parses the fields up to the signature's algorithm.
 #[tactic(auto, using(layouts::proofs::OneAnswerLemmas::read_allowed), unfolding(x509::specs::Certificate::first_fields))]
 fn first_fields_at<'a>(
     whole: &[u8],
@@ -91,7 +91,8 @@ fn first_fields_at<'a>(
     i: &'a [u8],
 ) -> IResult<&'a [u8], FirstFields<'a>>
     ensures gives { Gives view_first first_fields i.now result }
-    ensures places { IsBefore whole.now behind i.now → IfOk result (λ x. Stands whole.now x.1.serial_place x.1.serial_number.now) }
+    ensures places { IsBefore whole.now behind i.now
+        → IfOk result (λ x. Stands whole.now x.1.serial_place x.1.serial_number.now) }
 {
     let (after_version, version) = optional::<Version>(i, 0xa0)?;
     let (after_serial, (serial_number, serial_place)) = tagged_at::<IntegerAt>(
@@ -110,7 +111,7 @@ fn first_fields_at<'a>(
     Ok((rest, fields))
 }
 
-/// What is in a Validity.
+/// The content of a Validity.
 struct ValidityContent;
 
 impl<'a> InPlace<'a> for ValidityContent {
@@ -136,7 +137,7 @@ impl<'a> InPlace<'a> for ValidityContent {
     }
 }
 
-/// Reads a Validity.
+/// Parses a Validity.
 #[tactic(auto, using(layouts::proofs::OneAnswerLemmas::read_allowed), unfolding(x509::specs::Certificate::validity))]
 fn read_validity(i: &[u8]) -> IResult<&[u8], Validity>
     ensures { Gives (λ v. v) validity i.now result }
@@ -144,7 +145,7 @@ fn read_validity(i: &[u8]) -> IResult<&[u8], Validity>
     tagged::<ValidityContent>(i, tag::SEQUENCE)
 }
 
-/// The fields from the issuer to the key, and where they stand.
+/// The fields from the issuer to the key, and their places.
 #[derive(Clone, Copy)]
 struct NameFields<'a> {
     issuer: Name<'a>,
@@ -156,7 +157,7 @@ struct NameFields<'a> {
     key_places: KeyPlaces,
 }
 
-/// Reads the fields from the issuer to the key.
+/// Parses the fields from the issuer to the key.
 #[tactic(auto, using(layouts::proofs::OneAnswerLemmas::read_allowed), unfolding(x509::specs::Certificate::name_fields))]
 fn name_fields_at<'a>(whole: &[u8], behind: usize, i: &'a [u8]) -> IResult<&'a [u8], NameFields<'a>>
     ensures gives { Gives view_names name_fields i.now result }
@@ -178,7 +179,7 @@ fn name_fields_at<'a>(whole: &[u8], behind: usize, i: &'a [u8]) -> IResult<&'a [
     Ok((rest, fields))
 }
 
-/// The list of the extensions, and where they stand, without the tag and the length of the list.
+/// The list of extensions and its place, without the tag and the length of the list.
 struct ExtensionListAt;
 
 impl<'a> Part<'a> for ExtensionListAt {
@@ -198,7 +199,7 @@ impl<'a> Part<'a> for ExtensionListAt {
     }
 }
 
-/// The fields behind the key, and where the extensions stand.
+/// The fields after the key, and the place of the extensions.
 #[derive(Clone, Copy)]
 struct OptionalFields<'a> {
     issuer_unique_id: Option<BitString<'a>>,
@@ -207,11 +208,13 @@ struct OptionalFields<'a> {
     extensions_place: Place,
 }
 
-/// Extensions that are there, or none, and where they stand.
+/// The extensions and their place; an empty list if there are none.
 #[tactic(auto, using(layouts::proofs::OneAnswerLemmas::read_allowed, layouts::proofs::ItemsLemmas::none_in))]
 fn held_or_none<'a>(list: Option<(Items<'a, Extensions>, Place)>) -> (Items<'a, Extensions>, Place)
-    ensures is { items_in extension result.0.bytes.now ≡ or_none (option_map (λ x. items_in extension x.0.bytes.now) list.entry) }
-    ensures places { (b : Bytes) → IfSome list.entry (λ x. Stands b x.1 x.0.bytes.now) → Stands b result.1 result.0.bytes.now }
+    ensures is { items_in extension result.0.bytes.now ≡ or_none
+        (option_map (λ x. items_in extension x.0.bytes.now) list.entry) }
+    ensures places { (b : Bytes) → IfSome list.entry (λ x. Stands b x.1 x.0.bytes.now)
+        → Stands b result.1 result.0.bytes.now }
 {
     match list {
         Some(list) => list,
@@ -225,7 +228,7 @@ fn held_or_none<'a>(list: Option<(Items<'a, Extensions>, Place)>) -> (Items<'a, 
     }
 }
 
-/// Reads the fields behind the key.
+/// Parses the fields after the key.
 #[tactic(auto, using(layouts::proofs::OneAnswerLemmas::read_allowed), unfolding(x509::specs::Certificate::optional_fields))]
 fn optional_fields_at<'a>(
     whole: &[u8],
@@ -233,7 +236,8 @@ fn optional_fields_at<'a>(
     i: &'a [u8],
 ) -> IResult<&'a [u8], OptionalFields<'a>>
     ensures gives { Gives view_optional optional_fields i.now result }
-    ensures places { IsBefore whole.now behind i.now → IfOk result (λ x. Stands whole.now x.1.extensions_place x.1.extensions.bytes.now) }
+    ensures places { IsBefore whole.now behind i.now
+        → IfOk result (λ x. Stands whole.now x.1.extensions_place x.1.extensions.bytes.now) }
 {
     let (after_issuer, issuer_unique_id) = optional::<BitString>(i, 0x81)?;
     let (after_subject, subject_unique_id) = optional::<BitString>(after_issuer, 0x82)?;
@@ -248,7 +252,7 @@ fn optional_fields_at<'a>(
     Ok((rest, fields))
 }
 
-/// Where the fields of the signed part of a certificate stand.
+/// The places of the fields in a certificate's signed part.
 #[derive(Clone, Copy, Debug, PartialEq)]
 pub struct TBSPlaces {
     /// The serial number: an INTEGER's bytes.
@@ -259,11 +263,12 @@ pub struct TBSPlaces {
     pub subject: Place,
     /// The key.
     pub key: KeyPlaces,
-    /// The extensions, one behind the other, without the tag and the length of their list; of no bytes where there is no list.
+    /// The extensions, without the tag and the length of their list; an empty place if there is no
+    /// list.
     pub extensions: Place,
 }
 
-/// What is in a TBSCertificate.
+/// The content of a TBSCertificate.
 pub(crate) struct TBSCertificateAt;
 
 impl<'a> Part<'a> for TBSCertificateAt {

@@ -1,4 +1,4 @@
-//! Contents of single values, and where they stand.
+//! Contents of single values, with their places.
 #![tactic(auto, using(layouts::proofs::OneAnswerLemmas::read_allowed))]
 
 ghost use Rattle.std.specs.Prelude.{List};
@@ -58,7 +58,7 @@ impl<'a> Part<'a> for IntegerAt {
     }
 }
 
-/// The content of a BIT STRING, and where its bytes stand.
+/// The content of a BIT STRING, and the place of its bytes.
 pub(crate) struct BitStringAt;
 
 impl<'a> Part<'a> for BitStringAt {
@@ -100,7 +100,7 @@ impl<'a> Part<'a> for AllBytesAt {
     }
 }
 
-/// The items that a content holds, and where they stand.
+/// The items of a content, and their place.
 pub(crate) struct ItemsAt<'a, T>(PhantomData<Items<'a, T>>);
 
 impl<'a, T: InPlace<'a>> Part<'a> for ItemsAt<'a, T> {

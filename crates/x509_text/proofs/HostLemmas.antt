@@ -7,8 +7,9 @@ use Rattle.std.specs.Borrow.{Bor}
 use Rattle.std.specs.Option.{is_some}
 use Rattle.x509_text.specs.Host.{are_some, covers, labels, labels_left, same_labels, stands_for}
 
--- it ends in front of the first full stop
-pub first_ends : (name : Bytes) (i : ℕ) → ((k : ℕ) → k < i → get_or name k 0 ≡ 46 → ⊥) → i < length name → get_or name i 0 ≡ 46
+-- it ends before the first dot
+pub first_ends : (name : Bytes) (i : ℕ) → ((k : ℕ) → k < i → get_or name k 0 ≡ 46 → ⊥)
+    → i < length name → get_or name i 0 ≡ 46
     → labels name ≡ take i name ∷ labels (drop (suc i) name)
 first_ends [] i h lt e = absurd (omega arith)
 first_ends (c ∷ cs) zero h lt e =
@@ -17,14 +18,16 @@ first_ends (c ∷ cs) (suc i) h lt e =
     ap (λ t. cond t ([] ∷ labels cs) (onto_first c (labels cs))) (ne_eqb c 46 (h 0 (omega arith)))
     ∙ ap (onto_first c) (first_ends cs i (λ k low. h (suc k) (omega arith)) (omega arith) e)
 
--- it is all, where there is none
-pub all_first : (name : Bytes) → ((k : ℕ) → k < length name → get_or name k 0 ≡ 46 → ⊥) → labels name ≡ name ∷ []
+-- without a dot it is the whole name
+pub all_first : (name : Bytes) → ((k : ℕ) → k < length name → get_or name k 0 ≡ 46 → ⊥)
+    → labels name ≡ name ∷ []
 all_first [] h = refl
 all_first (c ∷ cs) h =
     ap (λ t. cond t ([] ∷ labels cs) (onto_first c (labels cs))) (ne_eqb c 46 (h 0 (omega arith)))
     ∙ ap (onto_first c) (all_first cs (λ k low. h (suc k) (omega arith)))
 
-onto_some : (c : ℕ) (parts : List Bytes) (t : Bool) (others : List Bytes) → are_some (cond t ([] ∷ others) (onto_first c parts)) ≡ true
+onto_some : (c : ℕ) (parts : List Bytes) (t : Bool) (others : List Bytes)
+    → are_some (cond t ([] ∷ others) (onto_first c parts)) ≡ true
 onto_some c parts true others = refl
 onto_some c [] false others = refl
 onto_some c (part ∷ parts) false others = refl
@@ -52,11 +55,13 @@ some_left : (rest : Option (Bor Bytes)) → are_some (labels_left rest) ≡ is_s
 some_left None = refl
 some_left (Some rest) = some_label rest.now
 
--- first labels, and what is behind them
+-- first labels, and the rest after them
 pub covers_split : (pattern host first label : Bytes) (others behind : Option (Bor Bytes))
     → labels pattern ≡ first ∷ labels_left others → labels host ≡ label ∷ labels_left behind
     → covers (labels pattern) (labels host)
-    ≡ (stands_for first (is_some others) label && same_labels (labels_left others) (labels_left behind))
+    ≡ (stands_for first (is_some others) label
+    && same_labels (labels_left others) (labels_left behind))
 covers_split pattern host first label others behind p h =
     ap₂ covers p h
-    ∙ ap (λ t. stands_for first t label && same_labels (labels_left others) (labels_left behind)) (some_left others)
+    ∙ ap (λ t. stands_for first t label && same_labels (labels_left others) (labels_left behind))
+    (some_left others)

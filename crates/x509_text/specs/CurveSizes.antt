@@ -1,4 +1,4 @@
--- The sizes of elliptic curves: the bits of the order of the base point.
+-- The sizes of elliptic curves: the bit length of the order of the base point.
 use Rattle.std.specs.Prelude.{List, [], ◌∷◌}
 use Rattle.x509_text.specs.Object.{SizedCurve, sized}
 

@@ -1,4 +1,4 @@
--- Attributes of names that X.520 defines.
+-- Name attributes that X.520 defines.
 use Rattle.std.specs.Prelude.{List, [], ◌∷◌, codes}
 use Rattle.x509_text.specs.Object.{NamedObject, named}
 
@@ -20,18 +20,24 @@ directory_attributes =
     named (2 ∷ 5 ∷ 4 ∷ 16 ∷ []) (codes "postalAddress") (codes "postalAddress") ∷
     named (2 ∷ 5 ∷ 4 ∷ 17 ∷ []) (codes "postalCode") (codes "postalCode") ∷
     named (2 ∷ 5 ∷ 4 ∷ 18 ∷ []) (codes "postOfficeBox") (codes "postOfficeBox") ∷
-    named (2 ∷ 5 ∷ 4 ∷ 19 ∷ []) (codes "physicalDeliveryOfficeName") (codes "physicalDeliveryOfficeName") ∷
+    named (2 ∷ 5 ∷ 4 ∷ 19 ∷ []) (codes "physicalDeliveryOfficeName")
+    (codes "physicalDeliveryOfficeName") ∷
     named (2 ∷ 5 ∷ 4 ∷ 20 ∷ []) (codes "telephoneNumber") (codes "telephoneNumber") ∷
     named (2 ∷ 5 ∷ 4 ∷ 21 ∷ []) (codes "telexNumber") (codes "telexNumber") ∷
-    named (2 ∷ 5 ∷ 4 ∷ 22 ∷ []) (codes "teletexTerminalIdentifier") (codes "teletexTerminalIdentifier") ∷
-    named (2 ∷ 5 ∷ 4 ∷ 23 ∷ []) (codes "facsimileTelephoneNumber") (codes "facsimileTelephoneNumber") ∷
+    named (2 ∷ 5 ∷ 4 ∷ 22 ∷ []) (codes "teletexTerminalIdentifier")
+    (codes "teletexTerminalIdentifier") ∷
+    named (2 ∷ 5 ∷ 4 ∷ 23 ∷ []) (codes "facsimileTelephoneNumber")
+    (codes "facsimileTelephoneNumber") ∷
     named (2 ∷ 5 ∷ 4 ∷ 24 ∷ []) (codes "x121Address") (codes "x121Address") ∷
-    named (2 ∷ 5 ∷ 4 ∷ 25 ∷ []) (codes "internationaliSDNNumber") (codes "internationaliSDNNumber") ∷
+    named (2 ∷ 5 ∷ 4 ∷ 25 ∷ []) (codes "internationaliSDNNumber")
+    (codes "internationaliSDNNumber") ∷
     named (2 ∷ 5 ∷ 4 ∷ 26 ∷ []) (codes "registeredAddress") (codes "registeredAddress") ∷
     named (2 ∷ 5 ∷ 4 ∷ 27 ∷ []) (codes "destinationIndicator") (codes "destinationIndicator") ∷
-    named (2 ∷ 5 ∷ 4 ∷ 28 ∷ []) (codes "preferredDeliveryMethod") (codes "preferredDeliveryMethod") ∷
+    named (2 ∷ 5 ∷ 4 ∷ 28 ∷ []) (codes "preferredDeliveryMethod")
+    (codes "preferredDeliveryMethod") ∷
     named (2 ∷ 5 ∷ 4 ∷ 29 ∷ []) (codes "presentationAddress") (codes "presentationAddress") ∷
-    named (2 ∷ 5 ∷ 4 ∷ 30 ∷ []) (codes "supportedApplicationContext") (codes "supportedApplicationContext") ∷
+    named (2 ∷ 5 ∷ 4 ∷ 30 ∷ []) (codes "supportedApplicationContext")
+    (codes "supportedApplicationContext") ∷
     named (2 ∷ 5 ∷ 4 ∷ 31 ∷ []) (codes "member") (codes "member") ∷
     named (2 ∷ 5 ∷ 4 ∷ 32 ∷ []) (codes "owner") (codes "owner") ∷
     named (2 ∷ 5 ∷ 4 ∷ 33 ∷ []) (codes "roleOccupant") (codes "roleOccupant") ∷
@@ -39,8 +45,10 @@ directory_attributes =
     named (2 ∷ 5 ∷ 4 ∷ 35 ∷ []) (codes "userPassword") (codes "userPassword") ∷
     named (2 ∷ 5 ∷ 4 ∷ 36 ∷ []) (codes "userCertificate") (codes "userCertificate") ∷
     named (2 ∷ 5 ∷ 4 ∷ 37 ∷ []) (codes "cACertificate") (codes "cACertificate") ∷
-    named (2 ∷ 5 ∷ 4 ∷ 38 ∷ []) (codes "authorityRevocationList") (codes "authorityRevocationList") ∷
-    named (2 ∷ 5 ∷ 4 ∷ 39 ∷ []) (codes "certificateRevocationList") (codes "certificateRevocationList") ∷
+    named (2 ∷ 5 ∷ 4 ∷ 38 ∷ []) (codes "authorityRevocationList")
+    (codes "authorityRevocationList") ∷
+    named (2 ∷ 5 ∷ 4 ∷ 39 ∷ []) (codes "certificateRevocationList")
+    (codes "certificateRevocationList") ∷
     named (2 ∷ 5 ∷ 4 ∷ 40 ∷ []) (codes "crossCertificatePair") (codes "crossCertificatePair") ∷
     named (2 ∷ 5 ∷ 4 ∷ 41 ∷ []) (codes "name") (codes "name") ∷
     named (2 ∷ 5 ∷ 4 ∷ 42 ∷ []) (codes "GN") (codes "givenName") ∷

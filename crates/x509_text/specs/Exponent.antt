@@ -1,4 +1,4 @@
--- The public exponent of RSA's keys (RFC 8017, section A.1.1).
+-- The public exponent of RSA keys (RFC 8017, section A.1.1).
 use Rattle.std.specs.Prelude.{ℕ, ◌^◌, ◌||◌, nat_lt, ◌∷◌, decimal, Option, Some, None, Result, Ok, Err, if◌then◌else◌}
 use Rattle.std.specs.Str.{bytes_eq}
 use Rattle.hex.specs.Hex.{encode_lower}
@@ -14,7 +14,7 @@ use Rattle.x509.specs.Certificate.{SubjectPublicKeyInfo}
 use Rattle.x509.specs.PublicKey.{PKCS_1}
 use Rattle.x509_text.specs.Number.{without_padding}
 
--- An INTEGER that isn't below 0: its bytes.
+-- The bytes of an INTEGER that isn't negative.
 unfoldable pub natural : Layout Bytes
 natural = do
   look integer
@@ -36,7 +36,7 @@ abbrev pub read_value : Result Bytes Refusal → Option Bytes
 read_value (Ok bytes) = Some bytes
 read_value (Err refusal) = None
 
--- The exponent of a key of RSA, for any padding or for PSS alone.
+-- The exponent of an RSA key, for any padding or for PSS only.
 abbrev pub exponent_of : SubjectPublicKeyInfo → Option Bytes
 exponent_of k =
     if bytes_eq k.algorithm.algorithm (PKCS_1 1) || bytes_eq k.algorithm.algorithm (PKCS_1 10) then

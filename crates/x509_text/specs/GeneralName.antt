@@ -8,11 +8,12 @@ use Rattle.hex.specs.Hex.{encode_upper}
 use Rattle.layouts.specs.Bytes.{Bytes}
 use Rattle.x509.specs.GeneralName.{GeneralName, Rfc822Name, DnsName, UniformResourceIdentifier, IpAddress, Other}
 
--- Printable ASCII as it is, but `\` twice; of all others two digits behind `\x`.
+-- Printable ASCII as it is, but `\` twice; any other byte as two digits after `\x`.
 abbrev pub ascii_byte : ℕ → Bytes
 ascii_byte b =
     if b == 92 then 92 ∷ 92 ∷ [] else
-    if nat_le 0x20 b && nat_lt b 0x7f then b ∷ [] else 92 ∷ 120 ∷ digit_char (b / 16) ∷ digit_char (b % 16) ∷ []
+    if nat_le 0x20 b && nat_lt b 0x7f then
+    b ∷ [] else 92 ∷ 120 ∷ digit_char (b / 16) ∷ digit_char (b % 16) ∷ []
 
 abbrev pub ascii_text : Bytes → Bytes
 ascii_text bytes = flat_map ascii_byte bytes
@@ -20,9 +21,10 @@ ascii_text bytes = flat_map ascii_byte bytes
 abbrev pub address_text : Bytes → Bytes
 address_text address =
     if length address == 4 then ipv4_text address else
-    if length address == 16 then ipv6_text (segments_of address) else codes "iPAddress:" ++ encode_upper address
+    if length address == 16 then
+    ipv6_text (segments_of address) else codes "iPAddress:" ++ encode_upper address
 
--- By its tag.
+-- The kind by its tag.
 abbrev pub kind_of : ℕ → Bytes
 kind_of t =
     if t == 0xa0 then codes "otherName" else

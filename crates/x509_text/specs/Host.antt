@@ -11,11 +11,11 @@ use Rattle.x509.specs.Certificate.{Certificate, Extension}
 use Rattle.x509.specs.Extensions.{first_of}
 use Rattle.x509.specs.GeneralName.{GeneralName, DnsName, general_names}
 
--- The labels of a name: the parts between its full stops.
+-- The labels of a name: the parts between its dots.
 abbrev pub labels : Bytes → List Bytes
 labels name = slice_split (λ b. b == 46) name
 
--- Those of what is left of a name.
+-- The labels of the rest of a name.
 abbrev pub labels_left : Option (Bor Bytes) → List Bytes
 labels_left None = []
 labels_left (Some rest) = labels rest.now
@@ -30,7 +30,8 @@ is_label label = not (length label == 0) && list_all is_name_byte label
 abbrev pub is_number : Bytes → Bool
 is_number label = list_all is_ascii_digit label
 
--- Labels of a host, behind one that is a number or not: the last of all isn't one, or they were an address.
+-- The labels are those of a host; the Bool is whether the label before them is a number. The last
+-- label of all isn't a number, or the name would be an address.
 abbrev pub are_host_labels : Bool → List Bytes → Bool
 are_host_labels number [] = not number
 are_host_labels number (label ∷ others) = is_label label && are_host_labels (is_number label) others
@@ -38,7 +39,7 @@ are_host_labels number (label ∷ others) = is_label label && are_host_labels (i
 abbrev pub is_host : List Bytes → Bool
 is_host name = are_host_labels true name
 
--- The same in letters of either case.
+-- Equal, ignoring case.
 abbrev pub same_label : Bytes → Bytes → Bool
 same_label a b = bytes_eq (map to_ascii_lowercase a) (map to_ascii_lowercase b)
 
@@ -47,20 +48,22 @@ same_labels [] [] = true
 same_labels (a ∷ others) (b ∷ behind) = same_label a b && same_labels others behind
 same_labels _ _ = false
 
--- `*` stands for any label, where others are behind it.
+-- `*` matches any label if others follow it.
 abbrev pub stands_for : Bytes → Bool → Bytes → Bool
-stands_for first further label = if bytes_eq first (42 ∷ []) then further else same_label first label
+stands_for first further label = if bytes_eq first (42 ∷ []) then
+    further else same_label first label
 
 abbrev pub are_some : List Bytes → Bool
 are_some [] = false
 are_some (label ∷ others) = true
 
--- The labels of a dNSName cover those of a host.
+-- The labels of a dNSName match those of a host.
 abbrev pub covers : List Bytes → List Bytes → Bool
-covers (first ∷ others) (label ∷ behind) = stands_for first (are_some others) label && same_labels others behind
+covers (first ∷ others) (label ∷ behind) =
+    stands_for first (are_some others) label && same_labels others behind
 covers _ _ = false
 
--- A full stop at the end says that the name is whole.
+-- A trailing dot marks a fully qualified name.
 abbrev pub ends_whole : Option ℕ → Bool
 ends_whole (Some last) = last == 46
 ends_whole None = false
@@ -84,11 +87,12 @@ abbrev pub names_in : Option Extension → List GeneralName
 names_in None = []
 names_in (Some e) = list_read (reading general_names e.extn_value)
 
--- The names of the first subjectAltName.
+-- The names in the first subjectAltName.
 abbrev pub alt_names : List Extension → List GeneralName
 alt_names extensions = names_in (first_of SUBJECT_ALT_NAME extensions)
 
 abbrev pub matches_host : Certificate → Bytes → Bool
 matches_host certificate host =
     let name : Bytes = without_root host in
-    is_host (labels name) && names_host (labels name) (alt_names certificate.tbs_certificate.others.extensions)
+    is_host (labels name)
+    && names_host (labels name) (alt_names certificate.tbs_certificate.others.extensions)

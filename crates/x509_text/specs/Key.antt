@@ -1,4 +1,5 @@
--- What a public key is (RFC 3279, section 2.3; RFC 5480, section 2; RFC 8410, section 3).
+-- The type and the length of a public key (RFC 3279, section 2.3; RFC 5480, section 2; RFC 8410,
+-- section 3).
 use Rattle.std.specs.Prelude.{ℕ, ◌||◌, List, [], ◌∷◌, find, codes, Option, Some, None, Result, Ok, if◌then◌else◌}
 use Rattle.std.specs.Str.{bytes_eq}
 use Rattle.std.specs.Option.{option_map}
@@ -12,7 +13,7 @@ use Rattle.x509_text.specs.Object.{SizedCurve}
 abbrev pub DSA : Bytes
 DSA = 0x2a ∷ 0x86 ∷ 0x48 ∷ 0xce ∷ 0x38 ∷ 0x04 ∷ 0x01 ∷ []
 
--- By the content of the algorithm's object identifier.
+-- The type by the content of the algorithm's object identifier.
 abbrev pub key_type_of : Bytes → Bytes
 key_type_of algorithm =
     if bytes_eq algorithm (PKCS_1 1) || bytes_eq algorithm (PKCS_1 10) then codes "rsa" else
@@ -21,11 +22,11 @@ key_type_of algorithm =
     if bytes_eq algorithm (EDWARDS 0x70) then codes "ed25519" else
     if bytes_eq algorithm (EDWARDS 0x71) then codes "ed448" else codes "unknown"
 
--- The size that a table has for a curve.
+-- The size of a curve in a table.
 abbrev pub size_in : List SizedCurve → Bytes → Option ℕ
 size_in table content = option_map (λ c. c.bits) (find (λ c. bytes_eq c.content content) table)
 
--- The bits of RSA's modulus, or of the order of a curve's base point.
+-- The bit length of an RSA modulus, or of the order of a curve's base point.
 abbrev pub key_length_of : Result PublicKey Refusal → Option ℕ
 key_length_of (Ok (Rsa bits)) = Some bits
 key_length_of (Ok (Ec curve)) = size_in curve_sizes curve

@@ -3,12 +3,13 @@ use Rattle.std.specs.Prelude.{◌-◌, ◌%◌, ◌==◌, ◌&&◌, nat_le, Bool
 use Rattle.hex.specs.Hex.{encode_upper}
 use Rattle.layouts.specs.Bytes.{Bytes}
 
--- The highest bit says that a number is negative (X.690, section 8.3.3).
+-- The highest bit marks a negative number (X.690, section 8.3.3).
 abbrev pub is_negative : Bytes → Bool
 is_negative [] = false
 is_negative (first ∷ others) = nat_le 128 first
 
--- 256^k less the number of these k bytes, the lowest first: zeros stay, the first other byte is taken from 256, and each behind it from 255.
+-- 256^k minus the number of these k bytes, little-endian: leading zeros stay, the first other byte
+-- is subtracted from 256, and each after it from 255.
 abbrev pub negated_from : Bool → Bytes → Bytes
 negated_from zeros [] = []
 negated_from zeros (b ∷ bs) =
@@ -17,9 +18,10 @@ negated_from zeros (b ∷ bs) =
 abbrev pub negated : Bytes → Bytes
 negated number = reverse (negated_from true (reverse number))
 
--- Without the 0 in front that says that a number isn't negative.
+-- The number without the leading 0 that keeps it from being negative.
 abbrev pub without_padding : Bytes → Bytes
-without_padding (first ∷ second ∷ others) = if first == 0 then second ∷ others else first ∷ second ∷ others
+without_padding (first ∷ second ∷ others) = if first == 0 then
+    second ∷ others else first ∷ second ∷ others
 without_padding number = number
 
 abbrev pub serial_number_text : Bytes → Bytes

@@ -14,7 +14,7 @@ use Rattle.x509_text.specs.Hexadecimal.{dump_text}
 use Rattle.x509_text.specs.OtherAttributes.{other_attributes}
 use Rattle.x509_text.specs.Purposes.{purposes}
 
--- The first of a table that has this content.
+-- The first object of a table that has this content.
 abbrev pub found_in : List NamedObject → Bytes → Option NamedObject
 found_in table content = find (λ o. bytes_eq o.content content) table
 
@@ -23,7 +23,7 @@ first_known [] = None
 first_known (Some o ∷ os) = Some o
 first_known (None ∷ os) = first_known os
 
--- The first of all tables.
+-- The first object of all tables.
 unfoldable pub object_of : Bytes → Option NamedObject
 object_of content = first_known (
     found_in directory_attributes content
@@ -34,11 +34,11 @@ object_of content = first_known (
     ∷ found_in extensions content
     ∷ [])
 
--- As commonName.
+-- Such as commonName.
 abbrev pub long_name_of : Bytes → Option Bytes
 long_name_of content = option_map (λ o. o.long_name) (object_of content)
 
--- As CN.
+-- Such as CN.
 abbrev pub short_name_of : Bytes → Option Bytes
 short_name_of content = option_map (λ o. o.short_name) (object_of content)
 
@@ -51,11 +51,11 @@ abbrev pub all_fit : List (Option ℕ) → Bool
 all_fit [] = true
 all_fit (arc ∷ arcs) = is_some arc && all_fit arcs
 
--- The numbers with `.` between each two.
+-- The numbers separated by `.`.
 abbrev pub numbers_text : List (Option ℕ) → Bytes
 numbers_text arcs = join_with_byte 46 (map arc_text arcs)
 
--- The numbers, or the element in hexadecimal where one is too large.
+-- The numbers, or the element in hexadecimal if one is too large.
 abbrev pub dotted_text : Bytes → Bytes
 dotted_text content =
     if all_fit (arcs_of content) then numbers_text (arcs_of content)

@@ -15,7 +15,7 @@ two_digits n = (48 + n / 10 % 10) ∷ (48 + n % 10) ∷ []
 abbrev pub four_digits : ℕ → List ℕ
 four_digits n = two_digits (n / 100) ++ two_digits n
 
--- A day, as 2026-11-25T and -0001-12-31T, a time of the day, as 12:00:00Z, and both.
+-- A day, such as 2026-11-25T and -0001-12-31T, a time of the day, such as 12:00:00Z, and both.
 abbrev pub day_text : ℕ → ℕ → List ℕ
 day_text month day = two_digits month ++ byte "-" ∷ (two_digits day ++ byte "T" ∷ [])
 
@@ -35,11 +35,12 @@ clock_text t = (two_digits t.hour ++ byte ":" ∷ []) ++ minute_text t.minute t.
 abbrev pub date_time_text : DateTime → List ℕ
 date_time_text t = date_text t.date ++ clock_text t.time
 
--- So many seconds after 1970-01-01 00:00:00 are that time of the calendar.
+-- t is the time this many seconds after 1970-01-01 00:00:00.
 abbrev pub IsAt : ℤ → DateTime → Type 0
 IsAt seconds t = civil_nanos t ≡ seconds *ℤ pos 1_000_000_000
 
--- Their text, or none where the calendar, which ends with the year 9999, doesn't have them.
+-- The text of the time, or None if the calendar, which ends with the year 9999, doesn't have it.
 abbrev pub IsTextOf : ℤ → Option (String Global) → Type 0
-IsTextOf seconds (Some text) = (t : DateTime) × IsAt seconds t × (string_bytes text ≡ date_time_text t)
+IsTextOf seconds (Some text) =
+    (t : DateTime) × IsAt seconds t × (string_bytes text ≡ date_time_text t)
 IsTextOf seconds None = ¬ (IsCivilNanos (seconds *ℤ pos 1_000_000_000))

@@ -4,7 +4,7 @@ use Rattle.layouts.specs.Bytes.{Bytes}
 use Rattle.x509.specs.Extensions.{ANY_EXTENDED_KEY_USAGE, ID_KP, KeyPurposeId, AnyExtendedKeyUsage, ServerAuth, ClientAuth, CodeSigning, EmailProtection, TimeStamping, OcspSigning, Other}
 use Rattle.x509.specs.declared.key_usage.KeyUsage.{KeyUsage}
 
--- The bits of a KeyUsage, in their order: the name of each, and whether it is set.
+-- The bits of a KeyUsage, in order: the name of each, and whether it is set.
 abbrev pub usage_bits : KeyUsage → List (Bytes × Bool)
 usage_bits u =
     (codes "digitalSignature", u.digital_signature)

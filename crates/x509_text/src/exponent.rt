@@ -1,4 +1,4 @@
-//! The public exponent of RSA's keys (RFC 8017, section A.1.1).
+//! The public exponent of RSA keys (RFC 8017, section A.1.1).
 #![tactic(auto, using(layouts::proofs::OneAnswerLemmas::read_allowed))]
 
 ghost use Rattle.std.specs.Prelude.{◌≡◌, ◌++◌, IfOk};
@@ -16,7 +16,7 @@ use layouts::{ErrorKind, IResult, InPlace, number1, refused};
 use std::alloc::{AllocError, Global};
 use x509::{SubjectPublicKeyInfo, oid};
 
-/// An INTEGER that isn't below 0.
+/// An INTEGER that isn't negative.
 struct Natural;
 
 impl<'a> InPlace<'a> for Natural {
@@ -39,7 +39,7 @@ impl<'a> InPlace<'a> for Natural {
     }
 }
 
-/// What is in an RSAPublicKey; of it the exponent.
+/// The content of an RSAPublicKey, of which the exponent is returned.
 struct ExponentContent;
 
 impl<'a> InPlace<'a> for ExponentContent {
@@ -58,7 +58,7 @@ impl<'a> InPlace<'a> for ExponentContent {
     }
 }
 
-/// Reads an RSAPublicKey; of it the exponent.
+/// Parses an RSAPublicKey and returns its exponent.
 #[tactic(auto, using(layouts::proofs::OneAnswerLemmas::read_allowed), unfolding(crate::specs::Exponent::rsa_exponent))]
 fn rsa_exponent(i: &[u8]) -> IResult<&[u8], &[u8]>
     ensures { Gives (λ v. v.now) rsa_exponent_layout i.now result }
@@ -66,9 +66,10 @@ fn rsa_exponent(i: &[u8]) -> IResult<&[u8], &[u8]>
     tagged::<ExponentContent>(i, tag::SEQUENCE)
 }
 
-/// The public exponent of a key of RSA, for any padding or for PSS alone: the bytes of its INTEGER.
+/// The public exponent of an RSA key, for any padding or for PSS only: the bytes of its INTEGER.
 ///
-/// `None` of other keys, and where modulus and exponent aren't two INTEGERs, or the exponent is below 0.
+/// `None` for other keys, and if modulus and exponent aren't two INTEGERs, or the exponent is
+/// negative.
 pub fn key_exponent<'a>(info: SubjectPublicKeyInfo<'a>) -> Option<&'a [u8]>
     ensures { option_map (λ e. e.now) result ≡ exponent_of (view_key_info info.entry) }
 {
@@ -83,7 +84,7 @@ pub fn key_exponent<'a>(info: SubjectPublicKeyInfo<'a>) -> Option<&'a [u8]>
     }
 }
 
-/// A number by its bytes, if it is below 2^64.
+/// The number in these big-endian bytes, if it is below 2^64.
 fn small_number(bytes: &[u8]) -> Option<u64>
     ensures { result ≡ small (number_of bytes.now) }
 {
@@ -95,9 +96,10 @@ fn small_number(bytes: &[u8]) -> Option<u64>
     Some(number)
 }
 
-/// A number that isn't below 0 as text, by the bytes of its INTEGER: in decimal where it is below 2^64, else in hexadecimal behind `0x`, in lower case.
+/// A non-negative number as text, from the bytes of its INTEGER: in decimal if it is below 2^64,
+/// else in lower-case hexadecimal after `0x`.
 ///
-/// `AllocError` where the text could not be held.
+/// `AllocError` if there is no memory for the text.
 pub fn natural_text(alloc: Global, number: &[u8]) -> Result<String, AllocError>
     ensures { IfOk result (λ text. string_bytes text ≡ natural_text_of number.now) }
 {

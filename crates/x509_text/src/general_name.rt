@@ -9,7 +9,7 @@ use std::alloc::{AllocError, Global};
 use std::net::{Ipv4Addr, Ipv6Addr};
 use x509::GeneralName;
 
-/// Adds a byte: printable ASCII but `\` as it is, others behind `\`.
+/// Appends a byte: printable ASCII except `\` as it is, others escaped with `\`.
 fn add_ascii_byte(text: &mut String, byte: u8) -> Result<(), AllocError>
     ensures { OnOk result (string_bytes text.new ≡ string_bytes text.old ++ ascii_byte byte) }
 {
@@ -24,7 +24,7 @@ fn add_ascii_byte(text: &mut String, byte: u8) -> Result<(), AllocError>
     text.push(lower_hex_digit(byte % 16))
 }
 
-/// Adds bytes that should be ASCII.
+/// Appends bytes that should be ASCII.
 fn add_ascii(text: &mut String, bytes: &[u8]) -> Result<(), AllocError>
     ensures { OnOk result (string_bytes text.new ≡ string_bytes text.old ++ ascii_text bytes.now) }
 {
@@ -34,9 +34,10 @@ fn add_ascii(text: &mut String, bytes: &[u8]) -> Result<(), AllocError>
     Ok(())
 }
 
-/// Adds an address of the Internet Protocol.
+/// Appends an IP address.
 fn add_address(alloc: Global, text: &mut String, address: &[u8]) -> Result<(), AllocError>
-    ensures { OnOk result (string_bytes text.new ≡ string_bytes text.old ++ address_text address.now) }
+    ensures { OnOk result
+        (string_bytes text.new ≡ string_bytes text.old ++ address_text address.now) }
 {
     match address {
         [a, b, c, d] => {
@@ -57,7 +58,7 @@ fn add_address(alloc: Global, text: &mut String, address: &[u8]) -> Result<(), A
     }
 }
 
-/// What RFC 5280 calls a kind of names, by its tag.
+/// The name that RFC 5280 gives a kind of general name, by its tag.
 fn kind(tag: u8) -> &'static str
     ensures { result.now ≡ kind_of tag }
 {
@@ -73,11 +74,14 @@ fn kind(tag: u8) -> &'static str
 
 /// A name of a subject or an issuer as text.
 ///
-/// Of an rfc822Name, a dNSName and a uniformResourceIdentifier its bytes, where those that aren't printable ASCII are as `\xff`, and `\` is `\\`. Of an
-/// iPAddress its address: of 4 bytes as 192.0.2.1, of 16 by RFC 5952 as 2001:db8::1, and else `iPAddress:` and the bytes in hexadecimal. Of others
-/// their kind, as `otherName`, `:` and the bytes of their content in hexadecimal. `AllocError` where the text could not be held.
+/// An rfc822Name, a dNSName and a uniformResourceIdentifier print their bytes, with `\xff` for one
+/// that isn't printable ASCII, and `\\` for `\`. An iPAddress of 4 bytes prints as 192.0.2.1, one
+/// of 16 bytes as 2001:db8::1 (RFC 5952), and any other as `iPAddress:` and its bytes in
+/// hexadecimal. Other names print their kind, such as `otherName`, then `:` and the bytes of their
+/// content in hexadecimal. `AllocError` if there is no memory for the text.
 pub fn general_name_text(alloc: Global, name: GeneralName) -> Result<String, AllocError>
-    ensures { IfOk result (λ text. string_bytes text ≡ general_name_text_of (view_general_name name.entry)) }
+    ensures { IfOk result
+        (λ text. string_bytes text ≡ general_name_text_of (view_general_name name.entry)) }
 {
     let mut text = String::new(alloc);
     match name {

@@ -23,7 +23,7 @@ pub(crate) fn hex_digit(digit: u8) -> char
     }
 }
 
-/// The same in lower case.
+/// A hexadecimal digit, in lower case.
 pub(crate) fn lower_hex_digit(digit: u8) -> char
     requires { digit < 16 }
     ensures is { result ≡ digit_char digit }
@@ -36,7 +36,7 @@ pub(crate) fn lower_hex_digit(digit: u8) -> char
     }
 }
 
-/// Adds bytes in hexadecimal, in upper case.
+/// Appends bytes in upper-case hexadecimal.
 pub(crate) fn add_hex(alloc: Global, text: &mut String, bytes: &[u8]) -> Result<(), AllocError>
     ensures { OnOk result (string_bytes text.new ≡ string_bytes text.old ++ encode_upper bytes.now) }
 {
@@ -44,7 +44,7 @@ pub(crate) fn add_hex(alloc: Global, text: &mut String, bytes: &[u8]) -> Result<
     text.push_str(digits.as_str())
 }
 
-/// Adds a length in DER.
+/// Appends a length in DER.
 fn add_length(bytes: &mut Vec<u8>, n: usize) -> Result<(), AllocError>
     ensures { OnOk result (bytes.new.items ≡ bytes.old.items ++ length_text n) }
 {
@@ -73,9 +73,10 @@ fn element_bytes(alloc: Global, element: Element) -> Result<Vec<u8>, AllocError>
     Ok(bytes)
 }
 
-/// Adds `#` and the bytes of an element in hexadecimal.
+/// Appends `#` and the bytes of an element in hexadecimal.
 pub(crate) fn add_dump(alloc: Global, text: &mut String, element: Element) -> Result<(), AllocError>
-    ensures { OnOk result (string_bytes text.new ≡ string_bytes text.old ++ dump_text (view_element element.entry)) }
+    ensures { OnOk result
+        (string_bytes text.new ≡ string_bytes text.old ++ dump_text (view_element element.entry)) }
 {
     let bytes = element_bytes(alloc, element)?;
     text.push('#')?;

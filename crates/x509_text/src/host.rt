@@ -12,14 +12,15 @@ use x509::{
     Certificate, Extensions, GeneralName, GeneralNames, first_extension, oid, parse_general_names,
 };
 
-/// Whether a byte may be in a label: a letter, a digit, `-`, or `_`, which names of hosts have though they shouldn't.
+/// Whether a byte is allowed in a label: a letter, a digit, `-`, or `_`, which host names contain
+/// although they shouldn't.
 fn is_name_byte(byte: u8) -> bool
     ensures { result ≡ is_name_code byte }
 {
     byte.is_ascii_alphanumeric() || byte == b'-' || byte == b'_'
 }
 
-/// Whether a label is one of a host.
+/// Whether a label is one of a host name.
 fn is_label(label: &[u8]) -> bool
     ensures { result ≡ is_label_bytes label.now }
 {
@@ -34,7 +35,7 @@ fn is_label(label: &[u8]) -> bool
     true
 }
 
-/// Whether a label is made of digits alone.
+/// Whether a label consists of digits only.
 fn is_number(label: &[u8]) -> bool
     ensures { result ≡ is_number_bytes label.now }
 {
@@ -46,7 +47,7 @@ fn is_number(label: &[u8]) -> bool
     true
 }
 
-/// The first label of a name, and what is behind the full stop that ends it.
+/// The first label of a name, and the rest after its dot.
 fn first_label(name: &[u8]) -> (&[u8], Option<&[u8]>)
     ensures split { labels name.now ≡ result.0.now ∷ labels_left result.1 }
     ensures shorter { IfSome result.1 (λ rest. length rest.now < length name.now) }
@@ -59,7 +60,7 @@ fn first_label(name: &[u8]) -> (&[u8], Option<&[u8]>)
     (name, None)
 }
 
-/// Whether a name is one of the DNS that a host may have, and no address.
+/// Whether a name is a DNS host name, and not an address.
 fn is_host(name: &[u8]) -> bool
     ensures { result ≡ is_host_labels (labels name.now) }
 {
@@ -76,14 +77,14 @@ fn is_host(name: &[u8]) -> bool
     !number
 }
 
-/// Whether two labels are the same, in letters of either case.
+/// Whether two labels are equal, ignoring case.
 fn same_label(a: &[u8], b: &[u8]) -> bool
     ensures { result ≡ same_label_by a.now b.now }
 {
     a.eq_ignore_ascii_case(b)
 }
 
-/// Whether two names have the same labels; where there is no name there is no label.
+/// Whether two names have equal labels; a missing name has none.
 #[tactic(auto, using(crate::proofs::HostLemmas::first_goes_on, crate::proofs::HostLemmas::second_goes_on))]
 fn same_name(a: Option<&[u8]>, b: Option<&[u8]>) -> bool
     ensures { result ≡ same_labels (labels_left a.entry) (labels_left b.entry) }
@@ -107,7 +108,8 @@ fn same_name(a: Option<&[u8]>, b: Option<&[u8]>) -> bool
     }
 }
 
-/// Whether the first label of a dNSName, which has further ones or not, stands for a host's.
+/// Whether the first label of a dNSName matches a host's; `further` is whether the dNSName has more
+/// labels.
 fn stands_for(first: &[u8], further: bool, label: &[u8]) -> bool
     ensures { result ≡ stands_for_label first.now further label.now }
 {
@@ -117,7 +119,7 @@ fn stands_for(first: &[u8], further: bool, label: &[u8]) -> bool
     same_label(first, label)
 }
 
-/// Whether a dNSName covers a host.
+/// Whether a dNSName matches a host.
 fn covers(pattern: &[u8], host: &[u8]) -> bool
     ensures { result ≡ covers_of (labels pattern.now) (labels host.now) }
 {
@@ -126,7 +128,7 @@ fn covers(pattern: &[u8], host: &[u8]) -> bool
     stands_for(first, others.is_some(), label) && same_name(others, behind)
 }
 
-/// A host without the full stop at its end that says that its name is whole.
+/// A host name without the trailing dot of a fully qualified name.
 fn without_root(host: &[u8]) -> &[u8]
     ensures { result.now ≡ without_root_of host.now }
 {
@@ -136,9 +138,10 @@ fn without_root(host: &[u8]) -> &[u8]
     }
 }
 
-/// Whether one of the names is a dNSName that covers a host.
+/// Whether one of the names is a dNSName that matches a host.
 fn any_covers(names: Items<GeneralNames>, host: &[u8]) -> bool
-    ensures { result ≡ names_host_by (labels host.now) (items_in general_name names.entry.bytes.now) }
+    ensures { result ≡ names_host_by (labels host.now)
+        (items_in general_name names.entry.bytes.now) }
 {
     for name in names {
         if let GeneralName::DnsName(pattern) = name {
@@ -150,16 +153,17 @@ fn any_covers(names: Items<GeneralNames>, host: &[u8]) -> bool
     false
 }
 
-/// No names.
+/// An empty list of names.
 fn no_names<'a>() -> Items<'a, GeneralNames>
     ensures { items_in general_name result.bytes.now ≡ [] }
 {
     Items::new(&[])
 }
 
-/// The names of the first subjectAltName; none where it is missing or isn't read.
+/// The names in the first subjectAltName; none if it is missing or doesn't parse.
 fn alt_names<'a>(extensions: Items<'a, Extensions>) -> Items<'a, GeneralNames>
-    ensures { items_in general_name result.bytes.now ≡ alt_names_of (items_in extension extensions.entry.bytes.now) }
+    ensures { items_in general_name result.bytes.now ≡ alt_names_of
+        (items_in extension extensions.entry.bytes.now) }
 {
     let Some(extension) = first_extension(extensions, oid::SUBJECT_ALT_NAME) else {
         return no_names();
@@ -170,11 +174,13 @@ fn alt_names<'a>(extensions: Items<'a, Extensions>) -> Items<'a, GeneralNames>
     }
 }
 
-/// Whether a certificate is for a host, by the dNSNames of its subjectAltName (RFC 9525, section 6.3): one has the same labels, in letters of
-/// either case, or has `*` as its first label, which stands for any one label of the host, and the others.
+/// Whether a certificate is for a host, by the dNSNames in its subjectAltName (RFC 9525, section
+/// 6.3). A dNSName matches if its labels are equal to the host's, ignoring case. A first label `*`
+/// matches any one label, if others follow it.
 ///
-/// A host may end in a full stop. `false` of one that isn't a name of the DNS, and so of each address: a label is empty or has another byte than
-/// letters, digits, `-` and `_`, or the last label is a number. The subject's commonName counts for nothing. Nothing is verified.
+/// The host may end in a dot. `false` if it isn't a DNS name, and so for every address: if a label
+/// is empty or has another byte than letters, digits, `-` and `_`, or if the last label is a
+/// number. The subject's commonName is ignored. Nothing is verified.
 pub fn matches_host(certificate: &Certificate, host: &[u8]) -> bool
     ensures { result ≡ matches_host_by (view_certificate certificate.now) host.now }
 {

@@ -1,4 +1,4 @@
-//! What a public key is.
+//! The type and the length of a public key.
 #![tactic(auto, using(layouts::proofs::OneAnswerLemmas::read_allowed))]
 
 ghost use Rattle.std.specs.Prelude.{◌≡◌, map};
@@ -13,10 +13,11 @@ use crate::tables::{CURVE_SIZES, CurveSize};
 use der::ObjectIdentifier;
 use x509::{PublicKey, SubjectPublicKeyInfo, oid};
 
-/// The content of the object identifier of DSA's keys: 1.2.840.10040.4.1 (RFC 3279, section 2.3.2).
+/// The content of the object identifier of DSA keys: 1.2.840.10040.4.1 (RFC 3279, section 2.3.2).
 const DSA: &[u8] = b"\x2a\x86\x48\xce\x38\x04\x01";
 
-/// What a key is used with, by its algorithm: `rsa` (for any padding, or PSS alone), `dsa`, `ecdsa`, `ed25519`, `ed448`, or `unknown`.
+/// The type of a key, by its algorithm: `rsa` (for any padding, or PSS only), `dsa`, `ecdsa`,
+/// `ed25519`, `ed448`, or `unknown`.
 pub fn key_type(info: SubjectPublicKeyInfo) -> &'static str
     ensures { result.now ≡ key_type_of info.entry.algorithm.algorithm.content.now }
 {
@@ -48,7 +49,7 @@ fn find_size(table: &'static [CurveSize], content: &[u8]) -> Option<u32>
     None
 }
 
-/// The size of a curve.
+/// The size of a curve, in bits.
 #[tactic(auto, unfolding(crate::specs::CurveSizes::curve_sizes))]
 fn curve_size(content: &[u8]) -> Option<u32>
     ensures { result ≡ size_in curve_sizes content.now }
@@ -56,9 +57,11 @@ fn curve_size(content: &[u8]) -> Option<u32>
     find_size(CURVE_SIZES, content)
 }
 
-/// How many bits a key has: of RSA its modulus, of an elliptic curve with a name the order of its base point.
+/// The length of a key in bits: of the modulus of an RSA key, or of the order of the base point of
+/// a named curve.
 ///
-/// `None` of other keys, and where [`SubjectPublicKeyInfo::public_key`] refuses the key or the curve has no name here.
+/// `None` for other keys, and if [`SubjectPublicKeyInfo::public_key`] refuses the key or the curve
+/// isn't in the table.
 pub fn key_length(info: SubjectPublicKeyInfo) -> Option<u32>
     ensures { result ≡ key_length_of (key_of (view_key_info info.entry)) }
 {
@@ -69,10 +72,11 @@ pub fn key_length(info: SubjectPublicKeyInfo) -> Option<u32>
     }
 }
 
-/// The curve of a key that is one of an elliptic curve with a name; [`object_name`](crate::object_name) and
-/// [`object_text`](crate::object_text) say which.
+/// The curve of a key on a named curve; [`object_name`](crate::object_name) and
+/// [`object_text`](crate::object_text) return its name.
 pub fn key_curve<'a>(info: SubjectPublicKeyInfo<'a>) -> Option<ObjectIdentifier<'a>>
-    ensures { option_map (λ o. o.content.now) result ≡ curve_of (key_of (view_key_info info.entry)) }
+    ensures { option_map (λ o. o.content.now) result ≡ curve_of
+        (key_of (view_key_info info.entry)) }
 {
     match info.public_key() {
         Ok(PublicKey::Ec(curve)) => Some(curve),

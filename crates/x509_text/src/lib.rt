@@ -1,9 +1,13 @@
-//! Texts of what certificates say: their names, object identifiers, serial numbers, keys and general names, as OpenSSL prints them; and whether
-//! a certificate is for a host.
+//! Prints certificates as text the way OpenSSL does: names, object identifiers, serial numbers,
+//! keys and general names. It also decides whether a certificate is for a host.
 //!
-//! They are of the views that `x509` reads. A call that makes a text takes an allocator, and answers `AllocError` where the text could not be
-//! held; the others take no memory. What a peer sent is escaped, so a text has printable ASCII alone. Nothing is verified: no signature, no time and
-//! no chain of certificates.
+//! It works on the views that `x509` parses. A call that returns text takes an allocator, and
+//! returns `AllocError` if there is no memory for the text; the others don't allocate. Bytes that a
+//! peer sent are escaped, so a text is printable ASCII. Nothing is verified: no signature, no time
+//! and no chain of certificates.
+//!
+//! Every text is proved equal to its definition in specs/: `specs/Name.antt` for names,
+//! `specs/Host.antt` for hosts, and so on.
 #![tactic(auto)]
 
 mod certificate;

@@ -12,7 +12,7 @@ use crate::value::add_value;
 use std::alloc::{AllocError, Global};
 use x509::{AttributeTypeAndValue, Name, RelativeDistinguishedName};
 
-/// Adds an attribute, by the short name of its type.
+/// Appends an attribute, given the short name of its type.
 fn add_by_name(
     alloc: Global,
     text: &mut String,
@@ -20,7 +20,8 @@ fn add_by_name(
     attribute: AttributeTypeAndValue,
 ) -> Result<(), AllocError>
     ensures { OnOk result (string_bytes text.new
-        ≡ string_bytes text.old ++ attribute_by (option_map (λ s. s.now) name.entry) (view_attribute attribute.entry)) }
+        ≡ string_bytes text.old ++ attribute_by (option_map (λ s. s.now) name.entry)
+        (view_attribute attribute.entry)) }
 {
     match name {
         Some(name) => {
@@ -36,25 +37,28 @@ fn add_by_name(
     }
 }
 
-/// Adds an attribute: its type, `=` and its value.
+/// Appends an attribute: its type, `=` and its value.
 #[tactic(auto, unfolding(crate::specs::Name::attribute_text))]
 fn add_attribute(
     alloc: Global,
     text: &mut String,
     attribute: AttributeTypeAndValue,
 ) -> Result<(), AllocError>
-    ensures { OnOk result (string_bytes text.new ≡ string_bytes text.old ++ attribute_text (view_attribute attribute.entry)) }
+    ensures { OnOk result
+        (string_bytes text.new ≡ string_bytes text.old ++ attribute_text
+        (view_attribute attribute.entry)) }
 {
     let name = object_short_name(attribute.attribute_type);
     add_by_name(alloc, text, name, attribute)
 }
 
-/// The attributes of a set, in their order.
+/// The attributes of a set, in order.
 fn attributes_of<'a>(
     alloc: Global,
     set: RelativeDistinguishedName<'a>,
 ) -> Result<Vec<AttributeTypeAndValue<'a>>, AllocError>
-    ensures { IfOk result (λ v. map view_attribute v.items ≡ items_in attribute_layout set.entry.bytes.now) }
+    ensures { IfOk result
+        (λ v. map view_attribute v.items ≡ items_in attribute_layout set.entry.bytes.now) }
 {
     let mut attributes = Vec::new(alloc);
     for attribute in set {
@@ -63,13 +67,15 @@ fn attributes_of<'a>(
     Ok(attributes)
 }
 
-/// Adds the attributes of a set from the last to the first, with `+` between each two.
+/// Appends the attributes of a set from the last to the first, separated by `+`.
 fn add_set(
     alloc: Global,
     text: &mut String,
     set: RelativeDistinguishedName,
 ) -> Result<(), AllocError>
-    ensures { OnOk result (string_bytes text.new ≡ string_bytes text.old ++ set_text (items_in attribute_layout set.entry.bytes.now)) }
+    ensures { OnOk result
+        (string_bytes text.new ≡ string_bytes text.old ++ set_text
+        (items_in attribute_layout set.entry.bytes.now)) }
 {
     let mut attributes = attributes_of(alloc, set)?;
     let Some(last) = attributes.pop() else {
@@ -91,12 +97,14 @@ fn has_attributes(set: RelativeDistinguishedName) -> bool
     attributes.next().is_some()
 }
 
-/// The sets of a name that have attributes, in their order.
+/// The sets of a name that have attributes, in order.
 fn sets_of<'a>(
     alloc: Global,
     name: Name<'a>,
 ) -> Result<Vec<RelativeDistinguishedName<'a>>, AllocError>
-    ensures { IfOk result (λ v. map (λ s. items_in attribute_layout s.bytes.now) v.items ≡ with_attributes (items_in relative_distinguished_name name.entry.bytes.now)) }
+    ensures { IfOk result
+        (λ v. map (λ s. items_in attribute_layout s.bytes.now) v.items ≡ with_attributes
+        (items_in relative_distinguished_name name.entry.bytes.now)) }
 {
     let mut sets = Vec::new(alloc);
     for set in name {
@@ -107,18 +115,25 @@ fn sets_of<'a>(
     Ok(sets)
 }
 
-/// A name as text, by RFC 4514 as OpenSSL prints it (`-nameopt RFC2253`): its sets from the last to the first with `,` between each two, the attributes
-/// of each from the last to the first with `+` between each two, as `CN=host.example,O=Company\, Limited,C=DE`.
+/// A name as text, by RFC 4514, as OpenSSL prints it with `-nameopt RFC2253`: its sets from the
+/// last to the first, separated by `,`, and each set's attributes from the last to the first,
+/// separated by `+`. An example is `CN=host.example,O=Company\, Limited,C=DE`.
 ///
-/// The type of an attribute is its short name ([`object_short_name`](crate::object_short_name)), and a string is its value in UTF-8, where these stand
-/// behind `\`: `"`, `+`, `,`, `;`, `<`, `>`, `\`, a space at either end and a `#` at the front; and where bytes that aren't printable ASCII are
-/// two hexadecimal digits behind `\`. A value is `#` and its element in hexadecimal where it is no string, a BMPString or UniversalString isn't made of
-/// characters, or its type has no name; such a type is its numbers, as 1.2.3.4.
+/// - The type of an attribute is its short name ([`object_short_name`](crate::object_short_name)),
+///   or its numbers, such as 1.2.3.4, if it has no name.
+/// - A string is its value in UTF-8. `"`, `+`, `,`, `;`, `<`, `>`, `\`, a space at either end and a
+///   leading `#` are escaped with `\`; bytes that aren't printable ASCII are two hexadecimal digits
+///   after `\`.
+/// - A value is `#` and its element in hexadecimal if it isn't a string, if a BMPString or
+///   UniversalString doesn't consist of characters, or if its type has no name.
 ///
-/// OpenSSL differs in what it can't read: there it refuses the certificate. It also cuts a type without a name to 79 characters.
-/// What is behind a set or an attribute that isn't read is left out, as in the walk. `AllocError` where the text could not be held.
+/// OpenSSL differs where it can't parse a value: it refuses the certificate. It also cuts a type
+/// without a name to 79 characters. What follows a set or an attribute that doesn't parse is left
+/// out, since the iterator ends there. `AllocError` if there is no memory for the text.
 pub fn name_text(alloc: Global, name: Name) -> Result<String, AllocError>
-    ensures { IfOk result (λ text. string_bytes text ≡ name_text_of (items_in relative_distinguished_name name.entry.bytes.now)) }
+    ensures { IfOk result
+        (λ text. string_bytes text ≡ name_text_of
+        (items_in relative_distinguished_name name.entry.bytes.now)) }
 {
     let mut text = String::new(alloc);
     let mut sets = sets_of(alloc, name)?;

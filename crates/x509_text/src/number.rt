@@ -6,7 +6,7 @@ ghost use Rattle.x509_text.specs.Number.{is_negative as is_negative_number, nega
 use crate::hexadecimal::add_hex;
 use std::alloc::{AllocError, Global};
 
-/// Whether an INTEGER is below 0.
+/// Whether an INTEGER is negative.
 fn is_negative(number: &[u8]) -> bool
     ensures { result ≡ is_negative_number number.now }
 {
@@ -16,7 +16,7 @@ fn is_negative(number: &[u8]) -> bool
     }
 }
 
-/// A number without the 0 in front of it that says that it isn't negative.
+/// The bytes of a number without the leading 0 that keeps it from being negative.
 pub(crate) fn without_padding(number: &[u8]) -> &[u8]
     ensures { result.now ≡ without_padding_of number.now }
 {
@@ -26,7 +26,7 @@ pub(crate) fn without_padding(number: &[u8]) -> &[u8]
     }
 }
 
-/// The bytes of a number below 0 as those of one above it.
+/// The bytes of the absolute value of a negative number.
 fn negated(alloc: Global, number: &[u8]) -> Result<Vec<u8>, AllocError>
     ensures { IfOk result (λ v. v.items ≡ negated_of number.now) }
 {
@@ -46,10 +46,12 @@ fn negated(alloc: Global, number: &[u8]) -> Result<Vec<u8>, AllocError>
     Ok(negated)
 }
 
-/// A serial number as text, by the bytes of its INTEGER: in hexadecimal, in upper case, each byte by two digits; behind `-` where it is below 0.
+/// A serial number as text, from the bytes of its INTEGER: in upper-case hexadecimal, two digits a
+/// byte, after `-` if it is negative.
 ///
-/// The 0 in front that says that a number isn't negative is left out. OpenSSL prints the same (`i2a_ASN1_INTEGER`), but of more than 35 bytes in several lines.
-/// `AllocError` where the text could not be held.
+/// The leading 0 that keeps a number from being negative is left out. OpenSSL prints the same
+/// (`i2a_ASN1_INTEGER`), except that it breaks more than 35 bytes into lines. `AllocError` if there
+/// is no memory for the text.
 pub fn serial_number_text(alloc: Global, serial_number: &[u8]) -> Result<String, AllocError>
     ensures { IfOk result (λ text. string_bytes text ≡ serial_number_text_of serial_number.now) }
 {

@@ -74,7 +74,7 @@ fn extension(content: &[u8]) -> Option<Object>
     find_object(EXTENSIONS, content)
 }
 
-/// The row of this content, in the first table that has it.
+/// The row with this content, from the first table that has it.
 #[tactic(auto, unfolding(crate::specs::ObjectText::object_of))]
 fn known(content: &[u8]) -> Option<Object>
     ensures { option_map view_object result ≡ object_of content.now }
@@ -97,10 +97,11 @@ fn known(content: &[u8]) -> Option<Object>
     extension(content)
 }
 
-/// The long name that OpenSSL has for an object identifier, as `commonName`, `sha256WithRSAEncryption` or
+/// OpenSSL's long name for an object identifier, such as `commonName`, `sha256WithRSAEncryption` or
 /// `TLS Web Server Authentication`.
 ///
-/// `None` where it is in no table here: attributes of names, algorithms of keys and signatures, curves, purposes and extensions have names.
+/// `None` if it is in no table: there are tables of name attributes, key and signature algorithms,
+/// curves, purposes and extensions.
 pub fn object_name(oid: ObjectIdentifier) -> Option<&'static str>
     ensures { option_map (λ s. s.now) result ≡ long_name_of oid.entry.content.now }
 {
@@ -110,9 +111,10 @@ pub fn object_name(oid: ObjectIdentifier) -> Option<&'static str>
     }
 }
 
-/// The short name that OpenSSL has for an object identifier, as `CN`, `RSA-SHA256` or `serverAuth`; often the same as the long one.
+/// OpenSSL's short name for an object identifier, such as `CN`, `RSA-SHA256` or `serverAuth`; often
+/// equal to the long one.
 ///
-/// `None` where [`object_name`] has none.
+/// `None` if [`object_name`] has none.
 pub fn object_short_name(oid: ObjectIdentifier) -> Option<&'static str>
     ensures { option_map (λ s. s.now) result ≡ short_name_of oid.entry.content.now }
 {
@@ -122,9 +124,10 @@ pub fn object_short_name(oid: ObjectIdentifier) -> Option<&'static str>
     }
 }
 
-/// Adds a number in decimal; nothing of one that is too large.
+/// Appends a number in decimal; nothing if it is too large.
 fn add_arc(text: &mut String, arc: ArcNumber) -> Result<(), AllocError>
-    ensures { OnOk result (string_bytes text.new ≡ string_bytes text.old ++ arc_text_of (view_arc arc)) }
+    ensures { OnOk result
+        (string_bytes text.new ≡ string_bytes text.old ++ arc_text_of (view_arc arc)) }
 {
     match arc {
         ArcNumber::Fits(n) => {
@@ -135,7 +138,7 @@ fn add_arc(text: &mut String, arc: ArcNumber) -> Result<(), AllocError>
     }
 }
 
-/// Whether each arc is a number that fits.
+/// Whether no arc is too large.
 fn all_fit(oid: ObjectIdentifier) -> bool
     ensures { result ≡ all_fit_in (arcs_of oid.entry.content.now) }
 {
@@ -147,10 +150,12 @@ fn all_fit(oid: ObjectIdentifier) -> bool
     true
 }
 
-/// Adds the numbers of the arcs, with `.` between each two.
+/// Appends the numbers of the arcs, separated by `.`.
 #[tactic(auto, using(crate::proofs::JoinLemmas::join_begun, crate::proofs::JoinLemmas::join_more))]
 fn add_arcs(text: &mut String, oid: ObjectIdentifier) -> Result<(), AllocError>
-    ensures { OnOk result (string_bytes text.new ≡ string_bytes text.old ++ numbers_text (arcs_of oid.entry.content.now)) }
+    ensures { OnOk result
+        (string_bytes text.new ≡ string_bytes text.old ++ numbers_text
+        (arcs_of oid.entry.content.now)) }
 {
     let mut arcs = oid.arcs();
     let Some(first) = arcs.next() else {
@@ -164,13 +169,15 @@ fn add_arcs(text: &mut String, oid: ObjectIdentifier) -> Result<(), AllocError>
     Ok(())
 }
 
-/// Adds an object identifier by its numbers, or as `#` and its element in hexadecimal where one is too large.
+/// Appends an object identifier as its numbers, or as `#` and its element in hexadecimal if one is
+/// too large.
 pub(crate) fn add_dotted(
     alloc: Global,
     text: &mut String,
     oid: ObjectIdentifier,
 ) -> Result<(), AllocError>
-    ensures { OnOk result (string_bytes text.new ≡ string_bytes text.old ++ dotted_text oid.entry.content.now) }
+    ensures { OnOk result
+        (string_bytes text.new ≡ string_bytes text.old ++ dotted_text oid.entry.content.now) }
 {
     if all_fit(oid) {
         return add_arcs(text, oid);
@@ -182,10 +189,12 @@ pub(crate) fn add_dotted(
     add_dump(alloc, text, element)
 }
 
-/// An object identifier as text: the long name that [`object_name`] has for it, else its numbers with `.` between each two, as `1.2.840`.
+/// An object identifier as text: the long name of [`object_name`], else its numbers separated by
+/// `.`, such as `1.2.840`.
 ///
-/// One with a number that `der` tells to be too large, which is 2^128 or above (a second one from 2^128 - 80 on), is `#` and the bytes of its element in
-/// hexadecimal. `AllocError` where the text could not be held.
+/// If `der` reports a number as too large, which is 2^128 or above (from 2^128 - 80 for a second
+/// arc), the text is `#` and the bytes of its element in hexadecimal. `AllocError` if there is no
+/// memory for the text.
 pub fn object_text(alloc: Global, oid: ObjectIdentifier) -> Result<String, AllocError>
     ensures { IfOk result (λ text. string_bytes text ≡ object_text_of oid.entry.content.now) }
 {

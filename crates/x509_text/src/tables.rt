@@ -1,4 +1,4 @@
-//! The object identifiers that have names here.
+//! The object identifiers that have names.
 
 mod algorithms;
 mod curve_sizes;
@@ -16,18 +16,18 @@ pub(crate) use extensions::EXTENSIONS;
 pub(crate) use other_attributes::OTHER_ATTRIBUTES;
 pub(crate) use purposes::PURPOSES;
 
-/// An object identifier, and its names as OpenSSL has them.
+/// An object identifier, and OpenSSL's names for it.
 #[derive(Clone, Copy, Debug)]
 pub(crate) struct Object {
     /// The content of its element.
     pub(crate) content: &'static [u8],
-    /// Its short name, as CN.
+    /// The short name, such as CN.
     pub(crate) short_name: &'static str,
-    /// Its long name, as commonName; often the same.
+    /// The long name, such as commonName; often equal to the short one.
     pub(crate) long_name: &'static str,
 }
 
-/// The object identifier of an elliptic curve, and how large the curve is.
+/// The object identifier of an elliptic curve, and the curve's size.
 #[derive(Clone, Copy, Debug)]
 pub(crate) struct CurveSize {
     /// The content of its element.
@@ -36,7 +36,7 @@ pub(crate) struct CurveSize {
     pub(crate) bits: u32,
 }
 
-/// Rows of a table: the content of an object identifier, its short name and its long name.
+/// The rows of a table: the content of an object identifier, its short name and its long name.
 macro_rules! objects {
     ($($content:literal $short_name:literal $long_name:literal),*) => {
         &[$(Object { content: $content, short_name: $short_name, long_name: $long_name }),*]

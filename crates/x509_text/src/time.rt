@@ -14,7 +14,7 @@ fn digit(n: u16) -> char
     char::from(b'0' + (n % 10) as u8)
 }
 
-/// Adds the last two digits of a number.
+/// Appends the last two digits of a number.
 fn add_two(text: &mut String, n: u16) -> Result<(), AllocError>
     ensures { OnOk result (string_bytes text.new ≡ string_bytes text.old ++ two_digits n) }
 {
@@ -22,7 +22,7 @@ fn add_two(text: &mut String, n: u16) -> Result<(), AllocError>
     text.push(digit(n))
 }
 
-/// Adds the last four.
+/// Appends the last four digits of a number.
 fn add_four(text: &mut String, n: u16) -> Result<(), AllocError>
     ensures { OnOk result (string_bytes text.new ≡ string_bytes text.old ++ four_digits n) }
 {
@@ -30,16 +30,17 @@ fn add_four(text: &mut String, n: u16) -> Result<(), AllocError>
     add_two(text, n)
 }
 
-/// Adds the last two digits of a number, and a sign behind them.
+/// Appends the last two digits of a number, and a sign after them.
 fn add_part(text: &mut String, n: u8, sign: char) -> Result<(), AllocError>
     requires { sign < 128 }
-    ensures { OnOk result (string_bytes text.new ≡ string_bytes text.old ++ two_digits n ++ sign ∷ []) }
+    ensures { OnOk result
+        (string_bytes text.new ≡ string_bytes text.old ++ two_digits n ++ sign ∷ []) }
 {
     add_two(text, u16::from(n))?;
     text.push(sign)
 }
 
-/// Adds a month and a day of it, as 11-25T.
+/// Appends a month and its day, such as 11-25T.
 fn add_day(text: &mut String, month: u8, day: u8) -> Result<(), AllocError>
     ensures { OnOk result (string_bytes text.new ≡ string_bytes text.old ++ day_text month day) }
 {
@@ -47,7 +48,7 @@ fn add_day(text: &mut String, month: u8, day: u8) -> Result<(), AllocError>
     add_part(text, day, 'T')
 }
 
-/// Adds a year, as 2026-.
+/// Appends a year, such as 2026-.
 fn add_year(text: &mut String, date: Date) -> Result<(), AllocError>
     ensures { OnOk result (string_bytes text.new ≡ string_bytes text.old ++ year_text date.year) }
 {
@@ -58,7 +59,7 @@ fn add_year(text: &mut String, date: Date) -> Result<(), AllocError>
     text.push('-')
 }
 
-/// Adds a day, as 2026-11-25T.
+/// Appends a day, such as 2026-11-25T.
 fn add_date(text: &mut String, date: Date) -> Result<(), AllocError>
     ensures { OnOk result (string_bytes text.new ≡ string_bytes text.old ++ date_text date) }
 {
@@ -66,15 +67,16 @@ fn add_date(text: &mut String, date: Date) -> Result<(), AllocError>
     add_day(text, date.month, date.day)
 }
 
-/// Adds a minute and a second of it, as 00:00Z.
+/// Appends a minute and its second, such as 00:00Z.
 fn add_minute(text: &mut String, minute: u8, second: u8) -> Result<(), AllocError>
-    ensures { OnOk result (string_bytes text.new ≡ string_bytes text.old ++ minute_text minute second) }
+    ensures { OnOk result
+        (string_bytes text.new ≡ string_bytes text.old ++ minute_text minute second) }
 {
     add_part(text, minute, ':')?;
     add_part(text, second, 'Z')
 }
 
-/// Adds a time of the day, as 12:00:00Z.
+/// Appends a time of the day, such as 12:00:00Z.
 fn add_clock(text: &mut String, time: Time) -> Result<(), AllocError>
     ensures { OnOk result (string_bytes text.new ≡ string_bytes text.old ++ clock_text time) }
 {
@@ -82,7 +84,7 @@ fn add_clock(text: &mut String, time: Time) -> Result<(), AllocError>
     add_minute(text, time.minute, time.second)
 }
 
-/// Adds a time of the calendar.
+/// Appends a day and its time.
 fn add_date_time(text: &mut String, time: DateTime) -> Result<(), AllocError>
     ensures { OnOk result (string_bytes text.new ≡ string_bytes text.old ++ date_time_text time) }
 {
@@ -90,9 +92,9 @@ fn add_date_time(text: &mut String, time: DateTime) -> Result<(), AllocError>
     add_clock(text, time.time)
 }
 
-/// A time that is so many seconds after 1970-01-01 00:00:00 UTC, as 2026-11-25T12:00:00Z.
+/// The time `seconds` after 1970-01-01 00:00:00 UTC, such as 2026-11-25T12:00:00Z.
 ///
-/// `None` outside the years from -9999 to 9999. `AllocError` where the text could not be held.
+/// `None` outside the years from -9999 to 9999. `AllocError` if there is no memory for the text.
 pub fn time_text(alloc: Global, seconds: i64) -> Result<Option<String>, AllocError>
     ensures { IfOk result (IsTextOf seconds) }
 {

@@ -6,7 +6,7 @@ ghost use Rattle.x509_text.specs.Usage.{purpose_content, usage_bits};
 use der::ObjectIdentifier;
 use x509::{KeyPurposeId, KeyUsage, oid};
 
-/// The bits of a KeyUsage, in their order: the name that RFC 5280 gives each, and whether it is set.
+/// The bits of a KeyUsage, in order: the name that RFC 5280 gives each, and whether it is set.
 pub fn key_usage_bits(usage: KeyUsage) -> [(&'static str, bool); 9]
     ensures { map (λ bit. (bit.0.now, bit.1)) result ≡ usage_bits usage }
 {
@@ -23,7 +23,7 @@ pub fn key_usage_bits(usage: KeyUsage) -> [(&'static str, bool); 9]
     ]
 }
 
-/// The object identifier of a purpose; [`object_text`](crate::object_text) tells its name.
+/// The object identifier of a purpose; [`object_text`](crate::object_text) returns its name.
 pub fn purpose_id<'a>(purpose: KeyPurposeId<'a>) -> ObjectIdentifier<'a>
     ensures { result.content.now ≡ purpose_content (view_key_purpose purpose.entry) }
 {

@@ -20,7 +20,7 @@ const NUMERIC_STRING: u8 = 0x12;
 /// The tag of a VisibleString.
 const VISIBLE_STRING: u8 = 0x1a;
 
-/// Whether a byte is escaped wherever it stands.
+/// Whether a byte is escaped at any place.
 fn is_special(byte: u8) -> bool
     ensures { result ≡ is_special_byte byte }
 {
@@ -33,7 +33,7 @@ fn is_special(byte: u8) -> bool
         || byte == b'\\'
 }
 
-/// Adds a byte as it stands within a value.
+/// Appends a byte from within a value.
 fn add_byte(text: &mut String, byte: u8) -> Result<(), AllocError>
     ensures { OnOk result (string_bytes text.new ≡ string_bytes text.old ++ byte_text byte) }
 {
@@ -49,9 +49,10 @@ fn add_byte(text: &mut String, byte: u8) -> Result<(), AllocError>
     text.push(hex_digit(byte % 16))
 }
 
-/// Adds a byte, by whether it is the first and whether it is the last.
+/// Appends a byte, given whether it is the first and whether it is the last.
 fn add_placed(text: &mut String, byte: u8, first: bool, last: bool) -> Result<(), AllocError>
-    ensures { OnOk result (string_bytes text.new ≡ string_bytes text.old ++ placed_text first last byte) }
+    ensures { OnOk result
+        (string_bytes text.new ≡ string_bytes text.old ++ placed_text first last byte) }
 {
     if byte == b' ' && (first || last) || byte == b'#' && first && !last {
         text.push('\\')?;
@@ -60,7 +61,7 @@ fn add_placed(text: &mut String, byte: u8, first: bool, last: bool) -> Result<()
     add_byte(text, byte)
 }
 
-/// Adds a string in UTF-8, escaped.
+/// Appends a string in UTF-8, escaped.
 fn add_escaped(text: &mut String, string: &[u8]) -> Result<(), AllocError>
     ensures { OnOk result (string_bytes text.new ≡ string_bytes text.old ++ escaped true string.now) }
 {
@@ -118,7 +119,7 @@ impl<'a> InPlace<'a> for UniversalCharacter {
     }
 }
 
-/// The string of a BMPString in UTF-8; none where its bytes are no characters.
+/// The string of a BMPString in UTF-8; `None` if its bytes aren't characters.
 fn bmp_string(alloc: Global, content: &[u8]) -> Result<Option<String>, AllocError>
     ensures { IfOk result (λ o. option_map string_bytes o ≡ utf8_of bmp_character content.now) }
 {
@@ -133,7 +134,7 @@ fn bmp_string(alloc: Global, content: &[u8]) -> Result<Option<String>, AllocErro
     Ok(Some(text))
 }
 
-/// The same of a UniversalString.
+/// The string of a UniversalString in UTF-8; `None` if its bytes aren't characters.
 fn universal_string(alloc: Global, content: &[u8]) -> Result<Option<String>, AllocError>
     ensures { IfOk result (λ o. option_map string_bytes o ≡ utf8_of universal_character content.now) }
 {
@@ -159,7 +160,8 @@ fn latin1_string(alloc: Global, content: &[u8]) -> Result<String, AllocError>
     Ok(text)
 }
 
-/// The string that a value is, by its tag; none of a UTF8String, whose content it is, and where it is no string.
+/// The string of a value, by its tag; `None` for a UTF8String, whose content is the string already,
+/// and if it isn't a string.
 fn converted(alloc: Global, value: Element) -> Result<Option<String>, AllocError>
     ensures { IfOk result (λ o. option_map string_bytes o ≡ converted_of (view_element value.entry)) }
 {
@@ -175,9 +177,11 @@ fn converted(alloc: Global, value: Element) -> Result<Option<String>, AllocError
     }
 }
 
-/// Adds a value: its string, escaped, or `#` and its element in hexadecimal where it is no string.
+/// Appends a value: its string, escaped, or `#` and its element in hexadecimal if it isn't a
+/// string.
 pub(crate) fn add_value(alloc: Global, text: &mut String, value: Element) -> Result<(), AllocError>
-    ensures { OnOk result (string_bytes text.new ≡ string_bytes text.old ++ value_text (view_element value.entry)) }
+    ensures { OnOk result
+        (string_bytes text.new ≡ string_bytes text.old ++ value_text (view_element value.entry)) }
 {
     if value.tag == tag::UTF8_STRING {
         return add_escaped(text, value.content);

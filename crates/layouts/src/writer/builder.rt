@@ -1,4 +1,4 @@
-//! Appends the parts of a text to a vector that has room for them.
+//! Appends numbers and bytes to a vector with enough capacity.
 ghost use Rattle.std.specs.Prelude.{◌≡◌, ◌<◌, ◌≤◌, ◌+◌, ◌^◌, ◌++◌, length, vec_len, vec_capacity};
 ghost use Rattle.std.specs.Option.{option_map};
 ghost use Rattle.layouts.specs.Bytes.{bytes_of};
@@ -40,7 +40,7 @@ pub fn append3(out: &mut Vec<u8>, n: u32)
     out.push_reserved((n % 256) as u8);
 }
 
-/// Appends these bytes.
+/// Appends `b`.
 pub fn append_bytes(out: &mut Vec<u8>, b: &[u8])
     requires { vec_len out.old + length b.now ≤ vec_capacity out.old }
     ensures items { out.new.items ≡ out.old.items ++ b.now }
@@ -50,7 +50,7 @@ pub fn append_bytes(out: &mut Vec<u8>, b: &[u8])
     let _added = out.extend_from_slice(b);
 }
 
-/// What an optional block holds; no bytes where there is none.
+/// Returns the content of an optional block, or no bytes if there is none.
 pub fn held<'a>(o: Option<&'a [u8]>) -> &'a [u8]
     ensures bytes { result.now ≡ held_of (option_map (λ x. x.now) o.entry) }
     ensures len { length result.now ≡ length (held_of (option_map (λ x. x.now) o.entry)) }

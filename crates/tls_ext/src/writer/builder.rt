@@ -1,4 +1,4 @@
-//! The builder of extensions: adds their parts to a vector that has room for them.
+//! Appends extensions to a vector with enough capacity.
 ghost use Rattle.std.specs.Prelude.{◌≡◌, ◌<◌, ◌≤◌, ◌+◌, ◌*◌, ◌^◌, ◌++◌, length, map, vec_len, vec_capacity};
 ghost use Rattle.std.specs.List.{All};
 ghost use Rattle.layouts.specs.Text.{numbers_text};
@@ -11,13 +11,15 @@ use crate::writer::judge::extension_len;
 use layouts::writer::builder::{append_bytes, append1, append2};
 use tls_base::{NamedGroup, SNIType, TlsExtensionType};
 
-/// Appends the names of a server.
+/// Appends server names.
 fn append_names(out: &mut Vec<u8>, names: &[(SNIType, &[u8])])
     requires fits { length (names_text (map view_server_name names.now)) ≤ 65535 }
-    requires room { vec_len out.old + length (names_text (map view_server_name names.now)) ≤ vec_capacity out.old }
+    requires room { vec_len out.old + length (names_text (map view_server_name names.now)) ≤
+        vec_capacity out.old }
     ensures items { out.new.items ≡ out.old.items ++ names_text (map view_server_name names.now) }
     ensures range { All (λ n. n.name_type < 256 ^ 1) (map view_server_name names.now) }
-    ensures len { vec_len out.new ≡ vec_len out.old + length (names_text (map view_server_name names.now)) }
+    ensures len { vec_len out.new ≡ vec_len out.old + length
+        (names_text (map view_server_name names.now)) }
     ensures capacity { vec_capacity out.old ≤ vec_capacity out.new }
 {
     for (name_type, name) in names {
@@ -40,7 +42,7 @@ fn append_groups(out: &mut Vec<u8>, groups: &[NamedGroup])
     }
 }
 
-/// Appends the text of an extension, which has `len` bytes.
+/// Appends the encoding of an extension, which has `len` bytes.
 pub(crate) fn append_extension(out: &mut Vec<u8>, extension: &TlsExtension, len: usize)
     requires fits { FitsExtension (view extension.now) }
     requires length { len ≡ length (extension_text (view extension.now)) }
@@ -62,12 +64,12 @@ pub(crate) fn append_extension(out: &mut Vec<u8>, extension: &TlsExtension, len:
             append2(out, (2 * groups.len()) as u16);
             append_groups(out, groups);
         }
-        // The judge takes no other kind.
+        // `judge` refuses every other kind.
         _ => {}
     }
 }
 
-/// Appends the texts of extensions, one after the other.
+/// Appends the encodings of extensions, one after another.
 pub(crate) fn append_extensions(out: &mut Vec<u8>, extensions: &[TlsExtension])
     requires fits { FitsExtensions (map view extensions.now) }
     requires room { vec_len out.old + length (joined_text (map view extensions.now)) ≤ vec_capacity out.old }

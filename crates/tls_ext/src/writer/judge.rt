@@ -1,5 +1,5 @@
-//! The judge of extensions: the length of a value's text, or the refusal of its first part that doesn't fit, without
-//! memory.
+//! Computes the length of an encoding, or the refusal of the first part that doesn't fit, without
+//! allocating.
 ghost use Rattle.std.specs.Prelude.{◌≡◌, length, map, min};
 ghost use Rattle.tls_ext.specs.Extension.{view, view_server_name};
 ghost use Rattle.tls_ext.specs.ExtensionText.{names_text, Counts, JudgesExtension, JudgesExtensions};
@@ -8,10 +8,11 @@ use crate::extension::TlsExtension;
 use layouts::GenError;
 use tls_base::SNIType;
 
-/// A length that no field of 2 bytes can say.
+/// A length that a field of 2 bytes can't hold.
 const TOO_LONG: usize = 65536;
 
-/// The length of the names of a server, each 1 byte of type, 2 bytes of length, and the name; [`TOO_LONG`] at most.
+/// Returns the length of the server names, each 1 byte of type, 2 bytes of length, and the name; at
+/// most [`TOO_LONG`].
 fn names_len(names: &[(SNIType, &[u8])]) -> usize
     ensures { result ≡ min (length (names_text (map view_server_name names.now))) 65536 }
 {
@@ -22,9 +23,9 @@ fn names_len(names: &[(SNIType, &[u8])]) -> usize
     total
 }
 
-/// The length of an extension's content, or one that is too long where that is.
+/// Returns the length of an extension's content, exact below [`TOO_LONG`].
 ///
-/// `NotYetImplemented` where the kind is not one that is written.
+/// `NotYetImplemented` if this kind isn't written.
 fn content_len(extension: &TlsExtension) -> Result<usize, GenError>
     ensures { Counts (view extension.now) result }
 {
@@ -36,10 +37,10 @@ fn content_len(extension: &TlsExtension) -> Result<usize, GenError>
     }
 }
 
-/// The length of the text of an extension.
+/// Returns the length of an extension's encoding.
 ///
-/// - `NotYetImplemented` where its kind is not one that is written.
-/// - `BadLength` where its content is above 65535 bytes.
+/// - `NotYetImplemented` if this kind isn't written.
+/// - `BadLength` if the content is longer than 65535 bytes.
 pub(crate) fn extension_len(extension: &TlsExtension) -> Result<usize, GenError>
     ensures { JudgesExtension (view extension.now) result }
 {
@@ -50,10 +51,10 @@ pub(crate) fn extension_len(extension: &TlsExtension) -> Result<usize, GenError>
     Ok(4 + len)
 }
 
-/// The length of the text of a list of extensions.
+/// Returns the length of the encoding of a list of extensions.
 ///
-/// - What the first extension that can't be written is refused by.
-/// - `BadLength` where together they are above 65535 bytes.
+/// - The refusal of the first extension that can't be written.
+/// - `BadLength` if together they are longer than 65535 bytes.
 pub(crate) fn extensions_len(extensions: &[TlsExtension]) -> Result<usize, GenError>
     ensures { JudgesExtensions (map view extensions.now) result }
 {

@@ -1,4 +1,5 @@
-//! The texts of handshake messages (RFC 5246, section 7.4), added part by part to a vector that has room for them.
+//! Appends the encodings of handshake messages (RFC 5246, section 7.4), part by part, to a vector
+//! with enough capacity.
 ghost use Rattle.std.specs.Prelude.{◌≡◌, ◌≤◌, ◌<◌, ◌+◌, ◌*◌, ◌^◌, ◌++◌, length, map, vec_len, vec_capacity};
 ghost use Rattle.std.specs.List.{All};
 ghost use Rattle.layouts.specs.Text.{counted_text, numbers_text};
@@ -23,7 +24,7 @@ use crate::writer::{Writable, writable_of};
 use layouts::writer::builder::{append_bytes, append1, append2, append3, held};
 use tls_base::{TlsCipherSuiteID, TlsCompressionID, TlsHandshakeType};
 
-/// Appends bytes after 1 byte of their count.
+/// Appends `b` after its length of 1 byte.
 fn append_counted1(out: &mut Vec<u8>, b: &[u8])
     requires fits { length b.now ≤ 255 }
     requires room { vec_len out.old + 1 + length b.now ≤ vec_capacity out.old }
@@ -35,7 +36,7 @@ fn append_counted1(out: &mut Vec<u8>, b: &[u8])
     append_bytes(out, b);
 }
 
-/// Appends bytes after 2 bytes of their count.
+/// Appends `b` after its length of 2 bytes, big-endian.
 fn append_counted2(out: &mut Vec<u8>, b: &[u8])
     requires fits { length b.now ≤ 65535 }
     requires room { vec_len out.old + 2 + length b.now ≤ vec_capacity out.old }
@@ -73,11 +74,12 @@ fn append_each_method(out: &mut Vec<u8>, methods: &[TlsCompressionID])
     }
 }
 
-/// Appends cipher suites after 2 bytes of their count in bytes.
+/// Appends cipher suites after their length in bytes, which has 2 bytes.
 fn append_suites(out: &mut Vec<u8>, suites: &[TlsCipherSuiteID])
     requires fits { length suites.now ≤ 32767 }
     requires room { vec_len out.old + 2 + 2 * length suites.now ≤ vec_capacity out.old }
-    ensures items { out.new.items ≡ out.old.items ++ counted_text 2 (numbers_text 2 (map (λ x. x.0) suites.now)) }
+    ensures items { out.new.items ≡ out.old.items ++ counted_text 2
+        (numbers_text 2 (map (λ x. x.0) suites.now)) }
     ensures range { All (λ x. x < 256 ^ 2) (map (λ x. x.0) suites.now) }
     ensures len { vec_len out.new ≡ vec_len out.old + 2 + 2 * length suites.now }
     ensures capacity { vec_capacity out.old ≤ vec_capacity out.new }
@@ -86,11 +88,12 @@ fn append_suites(out: &mut Vec<u8>, suites: &[TlsCipherSuiteID])
     append_each_suite(out, suites);
 }
 
-/// Appends compression methods after 1 byte of their count.
+/// Appends compression methods after their length, which has 1 byte.
 fn append_methods(out: &mut Vec<u8>, methods: &[TlsCompressionID])
     requires fits { length methods.now ≤ 255 }
     requires room { vec_len out.old + 1 + length methods.now ≤ vec_capacity out.old }
-    ensures items { out.new.items ≡ out.old.items ++ counted_text 1 (numbers_text 1 (map (λ x. x.0) methods.now)) }
+    ensures items { out.new.items ≡ out.old.items ++ counted_text 1
+        (numbers_text 1 (map (λ x. x.0) methods.now)) }
     ensures range { All (λ x. x < 256 ^ 1) (map (λ x. x.0) methods.now) }
     ensures len { vec_len out.new ≡ vec_len out.old + 1 + length methods.now }
     ensures capacity { vec_capacity out.old ≤ vec_capacity out.new }
@@ -103,10 +106,12 @@ fn append_methods(out: &mut Vec<u8>, methods: &[TlsCompressionID])
 #[tactic(auto, using(crate::proofs::LengthLemmas::client_hello_length))]
 fn append_client_hello(out: &mut Vec<u8>, h: &TlsClientHelloContents)
     requires fits { FitsClientHello (view_client_hello h.now) }
-    requires room { vec_len out.old + length (client_hello_text (view_client_hello h.now)) ≤ vec_capacity out.old }
+    requires room { vec_len out.old + length (client_hello_text (view_client_hello h.now)) ≤
+        vec_capacity out.old }
     ensures items { out.new.items ≡ out.old.items ++ client_hello_text (view_client_hello h.now) }
     ensures range { InRangeClientHello (view_client_hello h.now) }
-    ensures len { vec_len out.new ≡ vec_len out.old + length (client_hello_text (view_client_hello h.now)) }
+    ensures len { vec_len out.new ≡ vec_len out.old + length
+        (client_hello_text (view_client_hello h.now)) }
     ensures capacity { vec_capacity out.old ≤ vec_capacity out.new }
 {
     append2(out, h.version.0);
@@ -121,10 +126,12 @@ fn append_client_hello(out: &mut Vec<u8>, h: &TlsClientHelloContents)
 #[tactic(auto, using(crate::proofs::LengthLemmas::server_hello_length))]
 fn append_server_hello(out: &mut Vec<u8>, h: &TlsServerHelloContents)
     requires fits { FitsServerHello (view_server_hello h.now) }
-    requires room { vec_len out.old + length (server_hello_text (view_server_hello h.now)) ≤ vec_capacity out.old }
+    requires room { vec_len out.old + length (server_hello_text (view_server_hello h.now)) ≤
+        vec_capacity out.old }
     ensures items { out.new.items ≡ out.old.items ++ server_hello_text (view_server_hello h.now) }
     ensures range { InRangeServerHello (view_server_hello h.now) }
-    ensures len { vec_len out.new ≡ vec_len out.old + length (server_hello_text (view_server_hello h.now)) }
+    ensures len { vec_len out.new ≡ vec_len out.old + length
+        (server_hello_text (view_server_hello h.now)) }
     ensures capacity { vec_capacity out.old ≤ vec_capacity out.new }
 {
     append2(out, h.version.0);
@@ -139,10 +146,13 @@ fn append_server_hello(out: &mut Vec<u8>, h: &TlsServerHelloContents)
 #[tactic(auto, using(crate::proofs::LengthLemmas::server_hello_draft18_length))]
 fn append_server_hello_draft18(out: &mut Vec<u8>, h: &TlsServerHelloV13Draft18Contents)
     requires fits { FitsServerHelloDraft18 (view_server_hello_draft18 h.now) }
-    requires room { vec_len out.old + length (server_hello_draft18_text (view_server_hello_draft18 h.now)) ≤ vec_capacity out.old }
-    ensures items { out.new.items ≡ out.old.items ++ server_hello_draft18_text (view_server_hello_draft18 h.now) }
+    requires room { vec_len out.old + length (server_hello_draft18_text (view_server_hello_draft18 h.now)) ≤
+        vec_capacity out.old }
+    ensures items { out.new.items ≡ out.old.items ++ server_hello_draft18_text
+        (view_server_hello_draft18 h.now) }
     ensures range { InRangeServerHelloDraft18 (view_server_hello_draft18 h.now) }
-    ensures len { vec_len out.new ≡ vec_len out.old + length (server_hello_draft18_text (view_server_hello_draft18 h.now)) }
+    ensures len { vec_len out.new ≡ vec_len out.old + length
+        (server_hello_draft18_text (view_server_hello_draft18 h.now)) }
     ensures capacity { vec_capacity out.old ≤ vec_capacity out.new }
 {
     append2(out, h.version.0);
@@ -154,9 +164,12 @@ fn append_server_hello_draft18(out: &mut Vec<u8>, h: &TlsServerHelloV13Draft18Co
 /// Appends the body of a ClientKeyExchange.
 fn append_client_key_exchange(out: &mut Vec<u8>, k: &TlsClientKeyExchangeContents)
     requires fits { FitsClientKeyExchange (view_client_key_exchange k.now) }
-    requires room { vec_len out.old + length (client_key_exchange_text (view_client_key_exchange k.now)) ≤ vec_capacity out.old }
-    ensures items { out.new.items ≡ out.old.items ++ client_key_exchange_text (view_client_key_exchange k.now) }
-    ensures len { vec_len out.new ≡ vec_len out.old + length (client_key_exchange_text (view_client_key_exchange k.now)) }
+    requires room { vec_len out.old + length (client_key_exchange_text (view_client_key_exchange k.now)) ≤
+        vec_capacity out.old }
+    ensures items { out.new.items ≡ out.old.items ++ client_key_exchange_text
+        (view_client_key_exchange k.now) }
+    ensures len { vec_len out.new ≡ vec_len out.old + length
+        (client_key_exchange_text (view_client_key_exchange k.now)) }
     ensures capacity { vec_capacity out.old ≤ vec_capacity out.new }
 {
     match k {
@@ -167,7 +180,7 @@ fn append_client_key_exchange(out: &mut Vec<u8>, k: &TlsClientKeyExchangeContent
 }
 
 impl Writable<'_, '_> {
-    /// The number in front of the message.
+    /// Returns the type of the message.
     fn msg_type(&self) -> TlsHandshakeType
         ensures { result.0 ≡ msg_type_of (view_writable self.now) }
     {
@@ -181,13 +194,14 @@ impl Writable<'_, '_> {
         }
     }
 
-    /// Appends its body.
+    /// Appends the body of the message.
     fn append_body(&self, out: &mut Vec<u8>)
         requires fits { FitsBody (view_writable self.now) }
         requires room { vec_len out.old + length (body_text (view_writable self.now)) ≤ vec_capacity out.old }
         ensures items { out.new.items ≡ out.old.items ++ body_text (view_writable self.now) }
         ensures range { InRangeHandshake (view_writable self.now) }
-        ensures len { vec_len out.new ≡ vec_len out.old + length (body_text (view_writable self.now)) }
+        ensures len { vec_len out.new ≡ vec_len out.old + length
+            (body_text (view_writable self.now)) }
         ensures capacity { vec_capacity out.old ≤ vec_capacity out.new }
     {
         match self {
@@ -200,7 +214,7 @@ impl Writable<'_, '_> {
         }
     }
 
-    /// Appends the message, with its type and the length of its body in front, which is `n`.
+    /// Appends the message: its type, the length of its body, which is `n`, and the body.
     pub(crate) fn append(&self, out: &mut Vec<u8>, n: usize)
         requires fits { FitsHandshake (view_writable self.now) }
         requires count { n ≡ length (body_text (view_writable self.now)) }
@@ -216,13 +230,14 @@ impl Writable<'_, '_> {
     }
 }
 
-/// Appends a handshake message that fits to a vector that has room for it.
+/// Appends a handshake message that fits to a vector with enough capacity.
 pub fn append_handshake(out: &mut Vec<u8>, m: &TlsMessageHandshake)
     requires fits { FitsHandshake (view_handshake m.now) }
     requires room { vec_len out.old + length (handshake_text (view_handshake m.now)) ≤ vec_capacity out.old }
     ensures items { out.new.items ≡ out.old.items ++ handshake_text (view_handshake m.now) }
     ensures range { InRangeHandshake (view_handshake m.now) }
-    ensures len { vec_len out.new ≡ vec_len out.old + length (handshake_text (view_handshake m.now)) }
+    ensures len { vec_len out.new ≡ vec_len out.old + length
+        (handshake_text (view_handshake m.now)) }
     ensures capacity { vec_capacity out.old ≤ vec_capacity out.new }
 {
     if let Some(message) = writable_of(m) {

@@ -1,4 +1,5 @@
-//! How long the texts of handshake messages are (RFC 5246, section 7.4), or why there is none; found without memory.
+//! Computes the lengths of handshake messages (RFC 5246, section 7.4), or why they can't be
+//! written, without allocating.
 ghost use Rattle.tls_hs.specs.Hello.{view_client_hello};
 ghost use Rattle.tls_hs.specs.ServerHello.{view_server_hello, view_server_hello_draft18};
 ghost use Rattle.tls_hs.specs.Session.{view_client_key_exchange};
@@ -15,13 +16,13 @@ use crate::writer::{Writable, writable_of};
 use layouts::GenError;
 use layouts::writer::builder::held;
 
-/// The longest body of a handshake message, in bytes: its length has 3 bytes.
+/// The maximum length of a handshake message's body, in bytes: its length field has 3 bytes.
 const MAX_BODY_LEN: usize = 16777215;
 
-/// How many bytes the body of a ClientHello is written as.
+/// Returns the length of the body of a ClientHello, in bytes.
 ///
-/// `BadLength` where the random isn't 32 bytes, the session id is above 32, there are more than 32767 suites or 255
-/// methods, or the extensions are above 65535 bytes.
+/// `BadLength` if the random isn't 32 bytes, the session id is longer than 32, there are more than
+/// 32767 suites or 255 methods, or the extensions are longer than 65535 bytes.
 #[tactic(auto, using(crate::proofs::LengthLemmas::client_hello_length))]
 fn client_hello_len(h: &TlsClientHelloContents) -> Result<usize, GenError>
     ensures { JudgesBody (ClientHello (view_client_hello h.now)) result }
@@ -37,9 +38,10 @@ fn client_hello_len(h: &TlsClientHelloContents) -> Result<usize, GenError>
     Ok(2 + random + 1 + id + 2 + 2 * suites + 1 + methods + 2 + ext)
 }
 
-/// How many bytes the body of a ServerHello is written as.
+/// Returns the length of the body of a ServerHello, in bytes.
 ///
-/// `BadLength` where the random isn't 32 bytes, the session id is above 32, or the extensions are above 65535 bytes.
+/// `BadLength` if the random isn't 32 bytes, the session id is longer than 32, or the extensions
+/// are longer than 65535 bytes.
 #[tactic(auto, using(crate::proofs::LengthLemmas::server_hello_length))]
 fn server_hello_len(h: &TlsServerHelloContents) -> Result<usize, GenError>
     ensures { JudgesBody (ServerHello (view_server_hello h.now)) result }
@@ -53,9 +55,9 @@ fn server_hello_len(h: &TlsServerHelloContents) -> Result<usize, GenError>
     Ok(2 + random + 1 + id + 2 + 1 + 2 + ext)
 }
 
-/// How many bytes the body of a ServerHello of draft 18 of TLS 1.3 is written as.
+/// Returns the length of the body of a ServerHello of draft 18 of TLS 1.3, in bytes.
 ///
-/// `BadLength` where the random isn't 32 bytes, or the extensions are above 65535 bytes.
+/// `BadLength` if the random isn't 32 bytes, or the extensions are longer than 65535 bytes.
 #[tactic(auto, using(crate::proofs::LengthLemmas::server_hello_draft18_length))]
 fn server_hello_draft18_len(h: &TlsServerHelloV13Draft18Contents) -> Result<usize, GenError>
     ensures { JudgesBody (ServerHelloV13Draft18 (view_server_hello_draft18 h.now)) result }
@@ -68,9 +70,9 @@ fn server_hello_draft18_len(h: &TlsServerHelloV13Draft18Contents) -> Result<usiz
     Ok(2 + random + 2 + 2 + ext)
 }
 
-/// How many bytes the body of a ClientKeyExchange is written as.
+/// Returns the length of the body of a ClientKeyExchange, in bytes.
 ///
-/// `BadLength` where the public value is above 65535 bytes, or the point above 255.
+/// `BadLength` if the public value is longer than 65535 bytes, or the point longer than 255.
 fn client_key_exchange_len(k: &TlsClientKeyExchangeContents) -> Result<usize, GenError>
     ensures { JudgesBody (ClientKeyExchange (view_client_key_exchange k.now)) result }
 {
@@ -84,7 +86,8 @@ fn client_key_exchange_len(k: &TlsClientKeyExchangeContents) -> Result<usize, Ge
 }
 
 impl Writable<'_, '_> {
-    /// How many bytes its body would be written as, were its length not counted.
+    /// Returns the length of the body in bytes, if its fields fit. Whether it fits the length field
+    /// of the message isn't checked.
     fn fields_len(&self) -> Result<usize, GenError>
         ensures { JudgesBody (view_writable self.now) result }
     {
@@ -98,9 +101,10 @@ impl Writable<'_, '_> {
         }
     }
 
-    /// How many bytes its body is written as.
+    /// Returns the length of the body in bytes.
     ///
-    /// `BadLength` where a length doesn't fit its field, the fields of the body before that of the body.
+    /// `BadLength` if a length doesn't fit its field. The fields in the body are checked first,
+    /// then the body's own length.
     pub(crate) fn body_len(&self) -> Result<usize, GenError>
         ensures { JudgesCountedBody (view_writable self.now) result }
     {
@@ -112,9 +116,10 @@ impl Writable<'_, '_> {
     }
 }
 
-/// How many bytes a handshake message is written as, its type and its length included.
+/// Returns the length of a handshake message in bytes, including its type and length.
 ///
-/// `NotYetImplemented` where the writer doesn't know its kind; `BadLength` where a length doesn't fit its field.
+/// `NotYetImplemented` if the writer doesn't know its kind; `BadLength` if a length doesn't fit its
+/// field.
 pub fn handshake_len(m: &TlsMessageHandshake) -> Result<usize, GenError>
     ensures { JudgesHandshake (view_handshake m.now) result }
 {

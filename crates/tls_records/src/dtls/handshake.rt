@@ -1,4 +1,4 @@
-//! Handshake messages of DTLS, and fragments of them.
+//! Handshake messages of DTLS, and their fragments.
 ghost use Rattle.layouts.specs.Answers.{Gives, GivesOrMemory};
 ghost use Rattle.tls_records.specs.DtlsHandshake.{view_body, whole_body as whole_body_layout, body as body_layout};
 ghost use Rattle.tls_records.specs.DtlsHandshake.{listless_body as listless_body_layout};
@@ -21,64 +21,65 @@ use tls_hs::{
 /// A handshake message of DTLS (RFC 6347, section 4.2.2), or a fragment of one.
 #[derive(Debug, PartialEq, Drop)]
 pub struct DTLSMessageHandshake<'a> {
-    /// What the body is.
+    /// The type of the message.
     pub msg_type: TlsHandshakeType,
     /// The length of the whole body, in bytes.
     pub length: u32,
-    /// The place of the message among those of its sender.
+    /// The message's number among those of its sender.
     pub message_seq: u16,
-    /// Where the fragment begins in the whole body, in bytes.
+    /// The offset of the fragment within the whole body, in bytes.
     pub fragment_offset: u32,
-    /// The length of the fragment, in bytes. It is not compared with `length`: where it is above, and the offset is 0, the
-    /// body is read as a whole one, within the fragment's bytes.
+    /// The length of the fragment, in bytes. It isn't compared with `length`: if it is greater, and
+    /// the offset is 0, the body is read as a whole one, within the fragment's bytes.
     pub fragment_length: u32,
     /// The body, or a fragment of it.
     pub body: DTLSMessageHandshakeBody<'a>,
 }
 
-/// The body of a handshake message of DTLS, or a part of it.
+/// The body of a handshake message of DTLS, or a fragment of it.
 ///
-/// [`crate::parse_dtls_message_handshake`] reads `ClientHello`, `HelloVerifyRequest`, `ServerHello`, `Certificate`,
-/// `ServerDone`, `ClientKeyExchange` and `Fragment`.
+/// [`crate::parse_dtls_message_handshake`] returns `ClientHello`, `HelloVerifyRequest`,
+/// `ServerHello`, `Certificate`, `ServerDone`, `ClientKeyExchange` and `Fragment`.
 #[derive(Debug, PartialEq, Drop)]
 pub enum DTLSMessageHandshakeBody<'a> {
-    /// A server asks for a ClientHello (RFC 5246, section 7.4.1.1); no call reads it.
+    /// The server requests a ClientHello (RFC 5246, section 7.4.1.1). No call returns it.
     HelloRequest,
-    /// What a client offers (RFC 6347, section 4.2.1).
+    /// The client's offer (RFC 6347, section 4.2.1).
     ClientHello(DTLSClientHello<'a>),
-    /// The server asks for a ClientHello with its cookie (RFC 6347, section 4.2.1).
+    /// The server requests a ClientHello with its cookie (RFC 6347, section 4.2.1).
     HelloVerifyRequest(DTLSHelloVerifyRequest<'a>),
-    /// What a server chose (RFC 5246, section 7.4.1.3).
+    /// The server's choice (RFC 5246, section 7.4.1.3).
     ServerHello(TlsServerHelloContents<'a>),
-    /// A ticket to resume by (RFC 5077, section 3.3); no call reads it.
+    /// A ticket that resumes the session (RFC 5077, section 3.3). No call returns it.
     NewSessionTicket(TlsNewSessionTicketContent<'a>),
-    /// A server asks for another ClientHello (drafts of TLS 1.3); no call reads it.
+    /// The server requests another ClientHello (drafts of TLS 1.3). No call returns it.
     HelloRetryRequest(TlsHelloRetryRequestContents<'a>),
     /// The sender's certificates (RFC 5246, section 7.4.2).
     Certificate(TlsCertificateContents<'a>),
-    /// The server's part of the key exchange (RFC 5246, section 7.4.3); no call reads it.
+    /// The server's part of the key exchange (RFC 5246, section 7.4.3). No call returns it.
     ServerKeyExchange(TlsServerKeyExchangeContents<'a>),
-    /// A server asks for the client's certificate (RFC 5246, section 7.4.4); no call reads it.
+    /// The server requests the client's certificate (RFC 5246, section 7.4.4). No call returns it.
     CertificateRequest(TlsCertificateRequestContents<'a>),
-    /// The end of the server's hello, with its body, which should have no bytes (RFC 5246, section 7.4.5).
+    /// The end of the server's first messages, with its body, which should be empty (RFC 5246,
+    /// section 7.4.5).
     ServerDone(&'a [u8]),
-    /// A signature over the handshake (RFC 5246, section 7.4.8); no call reads it.
+    /// A signature over the handshake (RFC 5246, section 7.4.8). No call returns it.
     CertificateVerify(&'a [u8]),
     /// The client's part of the key exchange (RFC 5246, section 7.4.7).
     ClientKeyExchange(TlsClientKeyExchangeContents<'a>),
-    /// The end of a handshake, with its hash (RFC 5246, section 7.4.9); no call reads it.
+    /// The end of a handshake, with a MAC over it (RFC 5246, section 7.4.9). No call returns it.
     Finished(&'a [u8]),
-    /// The state of the server's certificate (RFC 6066, section 8); no call reads it.
+    /// The status of the server's certificate (RFC 6066, section 8). No call returns it.
     CertificateStatus(TlsCertificateStatusContents<'a>),
-    /// The protocol that the client chose (a draft, Next Protocol Negotiation); no call reads it.
+    /// The protocol that the client chose (a draft, Next Protocol Negotiation). No call returns it.
     NextProtocol(TlsNextProtocolContent<'a>),
-    /// Part of a body, of whatever type.
+    /// A fragment of a body of any type.
     Fragment(&'a [u8]),
 }
 
-/// A body that holds no list, of the type `msg_type` and of `length` bytes, from the front of `i`.
+/// Reads a body without lists, of type `msg_type` and `length` bytes, from the start of `i`.
 ///
-/// `Error` of kind `Switch` where no such body has this type; else what the body refuses.
+/// `Error` of kind `Switch` if no such body has this type, else the refusal of the body.
 #[tactic(auto, using(layouts::proofs::OneAnswerLemmas::read_allowed), unfolding(crate::specs::DtlsHandshake::listless_body, crate::specs::DtlsHandshake::server_hello_body, crate::specs::DtlsHandshake::hello_verify_request_body, crate::specs::DtlsHandshake::server_done_body, crate::specs::DtlsHandshake::client_key_exchange_body))]
 #[inline(always)]
 pub(crate) fn listless_body(
@@ -110,9 +111,9 @@ pub(crate) fn listless_body(
     }
 }
 
-/// A whole body of the type `msg_type`, of `length` bytes, from the front of `i`.
+/// Reads a whole body of type `msg_type` and `length` bytes from the start of `i`.
 ///
-/// `Error` of kind `Switch` where no body has this type; else what the body refuses.
+/// `Error` of kind `Switch` if no body has this type, else the refusal of the body.
 #[tactic(auto, using(layouts::proofs::OneAnswerLemmas::read_allowed), unfolding(crate::specs::DtlsHandshake::whole_body, crate::specs::DtlsHandshake::client_hello_body, crate::specs::DtlsHandshake::certificate_body))]
 #[inline(always)]
 fn whole_body(
@@ -136,7 +137,8 @@ fn whole_body(
     }
 }
 
-/// The same, or all of `i` where it is a fragment.
+/// Reads a body of type `msg_type` and `length` bytes: as [`whole_body`], or all of `i` as a
+/// fragment if `is_fragment`.
 #[tactic(auto, using(layouts::proofs::OneAnswerLemmas::read_allowed), unfolding(crate::specs::DtlsHandshake::body))]
 #[inline(always)]
 fn body(
@@ -155,7 +157,7 @@ fn body(
     whole_body(alloc, i, msg_type, length)
 }
 
-/// Reads a handshake message, as [`crate::parse_dtls_message_handshake`] does.
+/// Reads a handshake message, as [`crate::parse_dtls_message_handshake`].
 #[tactic(auto, using(layouts::proofs::OneAnswerLemmas::read_allowed, crate::proofs::DtlsInPlaceLemmas::handshake_is_raw_then_body))]
 pub(crate) fn handshake(alloc: Global, i: &[u8]) -> IResult<&[u8], DTLSMessageHandshake>
     ensures { GivesOrMemory view_handshake handshake_layout i.now result }

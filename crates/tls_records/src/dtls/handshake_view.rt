@@ -1,4 +1,4 @@
-//! Handshake messages of DTLS in place, and fragments of them (RFC 6347, section 4.2.2).
+//! Handshake messages of DTLS in place, and their fragments (RFC 6347, section 4.2.2).
 ghost use Rattle.std.specs.Prelude.{◌≡◌};
 ghost use Rattle.layouts.specs.Answers.{Gives};
 ghost use Rattle.tls_records.specs.DtlsHandshake.{body as body_layout, whole_body as whole_body_layout};
@@ -12,31 +12,33 @@ use layouts::{IResult, InPlace, Items, block, number2, number3, rest};
 use tls_base::TlsHandshakeType;
 use tls_hs::{RawCertificate, certificates};
 
-/// The body of a handshake message of DTLS, or a part of it, as [`DTLSMessageHandshakeBody`], but with its lists in place.
+/// The body of a handshake message of DTLS, or a fragment of it, as [`DTLSMessageHandshakeBody`],
+/// with its lists in place.
 #[derive(Debug, PartialEq, Drop)]
 pub enum DTLSBodyView<'a> {
-    /// What a client offers (RFC 6347, section 4.2.1).
+    /// The client's offer (RFC 6347, section 4.2.1).
     ClientHello(DTLSClientHelloView<'a>),
     /// The sender's certificates (RFC 5246, section 7.4.2).
     Certificate(Items<'a, RawCertificate<'a>>),
-    /// A body that has no list, or part of a body, as the calls that make lists answer it.
+    /// A body without lists, or a fragment of a body, as the calls that make lists return it.
     Other(DTLSMessageHandshakeBody<'a>),
 }
 
-/// A handshake message of DTLS, or a fragment of one, whose body isn't read (RFC 6347, section 4.2.2).
+/// A handshake message of DTLS, or a fragment of one, whose body isn't parsed (RFC 6347, section
+/// 4.2.2).
 #[derive(Clone, Copy, Debug, PartialEq)]
 pub struct DTLSRawHandshake<'a> {
-    /// What the body is.
+    /// The type of the message.
     pub msg_type: TlsHandshakeType,
     /// The length of the whole body, in bytes.
     pub length: u32,
-    /// The place of the message among those of its sender.
+    /// The message's number among those of its sender.
     pub message_seq: u16,
-    /// Where the fragment begins in the whole body, in bytes.
+    /// The offset of the fragment within the whole body, in bytes.
     pub fragment_offset: u32,
     /// The length of the fragment, in bytes.
     pub fragment_length: u32,
-    /// The body, or the fragment of it.
+    /// The body, or a fragment of it.
     pub body: &'a [u8],
 }
 
@@ -70,9 +72,9 @@ impl<'a> InPlace<'a> for DTLSRawHandshake<'a> {
     }
 }
 
-/// Reads a whole body of the type `msg_type`, of `length` bytes, from the front of `i`.
+/// Reads a whole body of type `msg_type` and `length` bytes in place, from the start of `i`.
 ///
-/// `Error` of kind `Switch` where no body has this type; else what the body refuses.
+/// `Error` of kind `Switch` if no body has this type, else the refusal of the body.
 #[tactic(auto, using(layouts::proofs::OneAnswerLemmas::read_allowed), unfolding(crate::specs::DtlsHandshake::whole_body, crate::specs::DtlsHandshake::client_hello_body, crate::specs::DtlsHandshake::certificate_body))]
 fn whole_body(i: &[u8], msg_type: TlsHandshakeType, length: usize) -> IResult<&[u8], DTLSBodyView>
     ensures { Gives view_body_in_place (whole_body_layout msg_type.0 length) i.now result }
@@ -93,7 +95,8 @@ fn whole_body(i: &[u8], msg_type: TlsHandshakeType, length: usize) -> IResult<&[
     }
 }
 
-/// The same, or all of `i` where it is a fragment.
+/// Reads a body of type `msg_type` and `length` bytes in place: as [`whole_body`], or all of `i` as
+/// a fragment if `is_fragment`.
 #[tactic(auto, using(layouts::proofs::OneAnswerLemmas::read_allowed), unfolding(crate::specs::DtlsHandshake::body))]
 #[inline(always)]
 fn body(
@@ -113,8 +116,8 @@ fn body(
 }
 
 impl<'a> DTLSRawHandshake<'a> {
-    /// Whether it is part of a handshake message, to be joined with the other parts: it begins behind the body's first byte, or is
-    /// shorter than the body.
+    /// Returns whether this is a fragment of a handshake message, to be reassembled with the
+    /// others: it begins after the body's first byte, or is shorter than the body.
     #[inline(always)]
     pub fn is_fragment(self) -> bool
         ensures { result ≡ is_part (view_raw_handshake self.entry) }
@@ -122,12 +125,14 @@ impl<'a> DTLSRawHandshake<'a> {
         self.fragment_offset > 0 || self.fragment_length < self.length
     }
 
-    /// Reads the body within its bytes alone: it answers what [`crate::parse_dtls_message_handshake`] does of a message that is whole,
-    /// memory aside. The rest is what the body leaves of its bytes.
+    /// Parses the body within its bytes. Gives the same answer as
+    /// [`crate::parse_dtls_message_handshake`] on a complete message, but allocates nothing. The
+    /// rest is what the body leaves of its bytes.
     #[inline(always)]
     pub fn parse_body(self) -> IResult<&'a [u8], DTLSBodyView<'a>>
         ensures { Gives view_body_in_place
-            (body_layout self.entry.msg_type.0 self.entry.length (is_part (view_raw_handshake self.entry)))
+            (body_layout self.entry.msg_type.0 self.entry.length
+            (is_part (view_raw_handshake self.entry)))
             self.entry.body.now result }
     {
         body(
@@ -139,16 +144,18 @@ impl<'a> DTLSRawHandshake<'a> {
     }
 }
 
-/// A handshake message of DTLS with its body read in place, or a fragment of one: as [`crate::DTLSMessageHandshake`].
+/// A handshake message of DTLS, or a fragment of one, with its body parsed in place: as
+/// [`crate::DTLSMessageHandshake`].
 #[derive(Debug, PartialEq, Drop)]
 pub struct DTLSHandshakeView<'a> {
-    /// What stands in front of the body, and its bytes.
+    /// The header, and the bytes of the body.
     pub raw: DTLSRawHandshake<'a>,
     /// The body, or a fragment of it.
     pub body: DTLSBodyView<'a>,
 }
 
-/// A whole message, which is judged with its body: as [`crate::parse_dtls_message_handshake`], memory aside.
+/// A message with its body parsed, as an item of a list. Gives the same answer as
+/// [`crate::parse_dtls_message_handshake`], but allocates nothing.
 impl<'a> InPlace<'a> for DTLSHandshakeView<'a> {
     type Read = Self;
 

@@ -18,17 +18,17 @@ use tls_hs::parts::{listed, random_bytes, random_time, suites};
 pub struct DTLSClientHello<'a> {
     /// The version that the client offers.
     pub version: TlsVersion,
-    /// 32 bytes.
+    /// The random, 32 bytes.
     pub random: &'a [u8],
-    /// At most 32 bytes, and at least one; `None` where its length is 0.
+    /// The session id, 1 to 32 bytes; `None` if it is empty.
     pub session_id: Option<&'a [u8]>,
-    /// What the server sent in its HelloVerifyRequest; none in a first ClientHello.
+    /// The cookie from the server's HelloVerifyRequest; empty in a first ClientHello.
     pub cookie: &'a [u8],
     /// The cipher suites that the client offers, in its order.
     pub ciphers: Vec<TlsCipherSuiteID>,
     /// The compression methods that the client offers, in its order.
     pub comp: Vec<TlsCompressionID>,
-    /// The extensions, as they stand after their length; `None` where no whole block follows.
+    /// The extensions, without their length; `None` if no complete block follows.
     pub ext: Option<&'a [u8]>,
 }
 
@@ -79,20 +79,21 @@ impl<'a> ClientHello<'a> for DTLSClientHello<'a> {
 /// The body of a HelloVerifyRequest (RFC 6347, section 4.2.1).
 #[derive(Debug, PartialEq, Drop)]
 pub struct DTLSHelloVerifyRequest<'a> {
-    /// The version that the server speaks.
+    /// The version that the server uses.
     pub server_version: TlsVersion,
-    /// What the client is to send back.
+    /// The cookie that the client must send back.
     pub cookie: &'a [u8],
 }
 
-/// Reads the body of a ClientHello of DTLS (RFC 6347, section 4.2.1): as that of TLS, with a cookie after 1 byte of length
-/// in front of the cipher suites.
+/// Reads the body of a ClientHello of DTLS (RFC 6347, section 4.2.1): as that of TLS, with a cookie
+/// after 1 byte of length before the cipher suites.
 ///
-/// - `Incomplete` of the count of missing bytes, where they are missing in front of the extensions, but not in a list.
-/// - `Error` of kind `Verify` where the session id is longer than 32 bytes.
-/// - `Error` of kind `LengthValue` where the length of the suites is odd, or where that of the suites or of the methods
-///   is above the bytes that are left.
-/// - `OutOfMemory` where a list could not be held.
+/// - `Incomplete` with the number of missing bytes, if they are missing before the extensions, but
+///   not in a list.
+/// - `Error` of kind `Verify` if the session id is longer than 32 bytes.
+/// - `Error` of kind `LengthValue` if the length of the suites is odd, or if that of the suites or
+///   of the methods is greater than the number of remaining bytes.
+/// - `OutOfMemory` if a list can't be allocated.
 #[inline(always)]
 pub(crate) fn client_hello(alloc: Global, i: &[u8]) -> IResult<&[u8], DTLSClientHello>
     ensures { GivesOrMemory view_client_hello client_hello_layout i.now result }
@@ -110,10 +111,10 @@ pub(crate) fn client_hello(alloc: Global, i: &[u8]) -> IResult<&[u8], DTLSClient
     Ok((i, hello))
 }
 
-/// Reads the body of a HelloVerifyRequest (RFC 6347, section 4.2.1): 2 bytes of version, and a cookie after 1 byte of
-/// length.
+/// Reads the body of a HelloVerifyRequest (RFC 6347, section 4.2.1): 2 bytes of version, and a
+/// cookie after 1 byte of length.
 ///
-/// `Incomplete` of the count of missing bytes.
+/// `Incomplete` with the number of missing bytes.
 pub(crate) fn hello_verify_request(i: &[u8]) -> IResult<&[u8], DTLSHelloVerifyRequest>
     ensures { Gives view_hello_verify_request hello_verify_request_layout i.now result }
 {

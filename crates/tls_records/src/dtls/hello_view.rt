@@ -11,27 +11,29 @@ use tls_base::{TlsCipherSuiteID, TlsCompressionID, TlsVersion};
 use tls_hs::ClientHelloView;
 use tls_hs::parts::{client_hello_fields, held_bytes};
 
-/// The body of a ClientHello of DTLS (RFC 6347, section 4.2.1), as [`crate::DTLSClientHello`], but with its lists in place.
+/// The body of a ClientHello of DTLS (RFC 6347, section 4.2.1), as [`crate::DTLSClientHello`], with
+/// its lists in place.
 #[derive(Clone, Copy, Debug, PartialEq)]
 pub struct DTLSClientHelloView<'a> {
     /// The version that the client offers.
     pub version: TlsVersion,
-    /// 32 bytes.
+    /// The random, 32 bytes.
     pub random: &'a [u8],
-    /// At most 32 bytes, and at least one; `None` where its length is 0.
+    /// The session id, 1 to 32 bytes; `None` if it is empty.
     pub session_id: Option<&'a [u8]>,
-    /// What the server sent in its HelloVerifyRequest; none in a first ClientHello.
+    /// The cookie from the server's HelloVerifyRequest; empty in a first ClientHello.
     pub cookie: &'a [u8],
     /// The cipher suites that the client offers, in its order.
     pub ciphers: Items<'a, TlsCipherSuiteID>,
     /// The compression methods that the client offers, in its order.
     pub comp: Items<'a, TlsCompressionID>,
-    /// The extensions, as they stand after their length; `None` where no whole block follows.
+    /// The extensions, without their length; `None` if no complete block follows.
     pub ext: Option<&'a [u8]>,
 }
 
 impl<'a> DTLSClientHelloView<'a> {
-    /// The hello of the fields that TLS has too, with that cookie; of no bytes where it is `None`.
+    /// Returns the hello with the fields that TLS has too and this cookie, which is empty if it is
+    /// `None`.
     #[inline(always)]
     pub fn with_cookie(hello: ClientHelloView<'a>, cookie: Option<&'a [u8]>) -> Self
         ensures version { result.version ≡ hello.entry.version }
@@ -53,10 +55,11 @@ impl<'a> DTLSClientHelloView<'a> {
         }
     }
 
-    /// Reads the body of a ClientHello of DTLS: as that of TLS, with a cookie after 1 byte of length in front of the cipher suites.
+    /// Reads the body of a ClientHello of DTLS in place: as that of TLS, with a cookie after 1 byte
+    /// of length before the cipher suites.
     ///
-    /// All of the body is judged but what stands in the extensions. It refuses what [`crate::parse_dtls_message_handshake`] refuses
-    /// of such a body.
+    /// The whole body is checked, except for the content of the extensions. The refusals are those
+    /// of [`crate::parse_dtls_message_handshake`] on such a body.
     #[tactic(auto, using(layouts::proofs::OneAnswerLemmas::read_allowed), unfolding(crate::specs::DtlsHello::client_hello))]
     #[inline(always)]
     pub fn parse(i: &'a [u8]) -> IResult<&'a [u8], Self>

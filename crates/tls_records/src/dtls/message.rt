@@ -14,23 +14,24 @@ use tls_hs::{TlsMessageApplicationData, TlsMessageHeartbeat, parse_tls_message_c
 
 /// A message of a DTLS record.
 ///
-/// The calls of this crate read `Handshake`, `ChangeCipherSpec` and `Alert`.
+/// The calls of this crate return `Handshake`, `ChangeCipherSpec` and `Alert`.
 #[derive(Debug, PartialEq, Drop)]
 pub enum DTLSMessage<'a> {
     /// A handshake message, or a fragment of one (RFC 6347, section 4.2.2).
     Handshake(DTLSMessageHandshake<'a>),
-    /// The sender changes its cipher (RFC 5246, section 7.1).
+    /// The sender's next records use the new keys (RFC 5246, section 7.1).
     ChangeCipherSpec,
     /// An alert (RFC 5246, section 7.2).
     Alert(TlsMessageAlert),
-    /// Bytes of the application (RFC 5246, section 10); no call reads it.
+    /// Application data (RFC 5246, section 10). No call returns it.
     ApplicationData(TlsMessageApplicationData<'a>),
-    /// A HeartbeatMessage (RFC 6520, section 4); no call reads it.
+    /// A HeartbeatMessage (RFC 6520, section 4). No call returns it.
     Heartbeat(TlsMessageHeartbeat<'a>),
 }
 
 impl<'a> DTLSMessage<'a> {
-    /// Whether it is part of a handshake message, to be joined with the other parts.
+    /// Returns whether this is a fragment of a handshake message, to be reassembled with the
+    /// others.
     pub fn is_fragment(&self) -> bool
         ensures { IsTrue result ↔ IsFragment (view_message self.now) }
     {
@@ -41,17 +42,19 @@ impl<'a> DTLSMessage<'a> {
     }
 }
 
-/// Reads a handshake message of DTLS (RFC 6347, section 4.2.2): 1 byte of type, 3 of length, 2 of message number, 3 of
-/// fragment offset and 3 of fragment length, all big-endian, and a body of as many bytes as the fragment length says. The
-/// body is read within these bytes alone, and what it leaves of them is dropped.
+/// Reads a handshake message of DTLS (RFC 6347, section 4.2.2): 1 byte of type, 3 of length, 2 of
+/// message number, 3 of fragment offset and 3 of fragment length, all big-endian, then a body of
+/// fragment length bytes. The body is read within these bytes, and what it leaves of them is
+/// dropped.
 ///
-/// Where the offset is above 0, or the fragment length below the length, the body is a `Fragment`, of whatever type. A
-/// fragment length above the length is no refusal: the body is read as a whole one, within the fragment's bytes.
+/// If the offset is above 0, or the fragment length below the length, the body is a `Fragment`, for
+/// any type. A fragment length above the length isn't refused: the body is read as a whole one,
+/// within the fragment's bytes.
 ///
-/// - `Incomplete` of the count of missing bytes, where the message isn't whole.
-/// - `Error` of kind `Switch` where the body is whole, and its type is not 1, 2, 3, 11, 14 or 16.
-/// - What the body refuses, `Incomplete` too.
-/// - `OutOfMemory` where a list could not be held.
+/// - `Incomplete` with the number of missing bytes, if the message is incomplete.
+/// - `Error` of kind `Switch` if the body is whole, and its type isn't 1, 2, 3, 11, 14 or 16.
+/// - The refusal of the body, which may be `Incomplete` too.
+/// - `OutOfMemory` if a list can't be allocated.
 #[inline(always)]
 pub fn parse_dtls_message_handshake(alloc: Global, i: &[u8]) -> IResult<&[u8], DTLSMessage>
     ensures { GivesOrMemory view_message handshake_layout i.now result }
@@ -62,7 +65,7 @@ pub fn parse_dtls_message_handshake(alloc: Global, i: &[u8]) -> IResult<&[u8], D
 
 /// Reads a ChangeCipherSpec (RFC 5246, section 7.1): 1 byte, which is 1.
 ///
-/// `Incomplete` of 1 where there is no byte; `Error` of kind `Verify` where it isn't 1.
+/// `Incomplete` with 1 if there is no byte; `Error` of kind `Verify` if it isn't 1.
 pub fn parse_dtls_message_changecipherspec(i: &[u8]) -> IResult<&[u8], DTLSMessage>
     ensures { Gives view_message change_cipher_spec i.now result }
 {
@@ -70,9 +73,9 @@ pub fn parse_dtls_message_changecipherspec(i: &[u8]) -> IResult<&[u8], DTLSMessa
     Ok((i, DTLSMessage::ChangeCipherSpec))
 }
 
-/// Reads an alert (RFC 5246, section 7.2): 1 byte of severity and 1 of description.
+/// Reads an alert (RFC 5246, section 7.2): 1 byte of severity, then 1 of description.
 ///
-/// `Incomplete` of 1 where either is missing.
+/// `Incomplete` with 1 if either is missing.
 pub fn parse_dtls_message_alert(i: &[u8]) -> IResult<&[u8], DTLSMessage>
     ensures { Gives view_message alert_layout i.now result }
 {

@@ -53,40 +53,41 @@ impl<'a> Protocol<'a> for Dtls {
 /// The header of a DTLS record (RFC 6347, section 4.1), 13 bytes.
 #[derive(Debug, PartialEq, Drop)]
 pub struct DTLSRecordHeader {
-    /// What the fragment holds.
+    /// The type of the fragment's content.
     pub content_type: TlsRecordType,
-    /// The version that the sender speaks, or a lower one that it may put here.
+    /// The version that the sender uses, or a lower one that it may put here.
     pub version: TlsVersion,
-    /// How often the sender has changed its cipher.
+    /// The epoch: how often the sender has changed its cipher.
     pub epoch: u16,
-    /// The record's number in its epoch, below 2^48.
+    /// The record's sequence number in its epoch, below 2^48.
     pub sequence_number: u64,
     /// The length of the fragment that follows, in bytes.
     pub length: u16,
 }
 
-/// A DTLS record whose fragment isn't read.
+/// A DTLS record whose fragment isn't parsed.
 #[derive(Debug, PartialEq, Drop)]
 pub struct DTLSRawRecord<'a> {
-    /// What stands in front of the fragment.
+    /// The header of the record.
     pub header: DTLSRecordHeader,
     /// The fragment, `header.length` bytes.
     pub fragment: &'a [u8],
 }
 
-/// A DTLS record that isn't encrypted (RFC 6347, section 4.1), with its messages, of which there is at least one.
+/// A DTLS record that isn't encrypted (RFC 6347, section 4.1), with its messages, at least one.
 #[derive(Debug, PartialEq, Drop)]
 pub struct DTLSPlaintext<'a> {
-    /// What stands in front of the messages.
+    /// The header of the record.
     pub header: DTLSRecordHeader,
     /// The messages, in their order.
     pub messages: Vec<DTLSMessage<'a>>,
 }
 
-/// Reads the header of a DTLS record (RFC 6347, section 4.1): 1 byte of type, 2 of version, 8 of which the upper 2 are
-/// the epoch and the others the sequence number, and 2 of length, all big-endian.
+/// Reads the header of a DTLS record (RFC 6347, section 4.1): 1 byte of type, 2 of version, 8 of
+/// which the upper 2 are the epoch and the others the sequence number, and 2 of length, all
+/// big-endian.
 ///
-/// `Incomplete` of the count that is missing of the first of these four that isn't whole.
+/// `Incomplete` with the bytes missing from the first incomplete one of these four.
 #[tactic(auto, using(layouts::proofs::OneAnswerLemmas::read_allowed, layouts::proofs::OneAnswerLemmas::one_answer, crate::proofs::CounterLemmas::low_bits), unfolding(crate::specs::DtlsRecord::record_header))]
 pub fn parse_dtls_record_header(i: &[u8]) -> IResult<&[u8], DTLSRecordHeader>
     ensures gives { Gives view_header record_header i.now result }
@@ -106,7 +107,7 @@ pub fn parse_dtls_record_header(i: &[u8]) -> IResult<&[u8], DTLSRecordHeader>
     Ok((i, header))
 }
 
-/// Reads a DTLS record and leaves its fragment as it stands.
+/// Reads a DTLS record without parsing its fragment.
 #[tactic(auto, using(layouts::proofs::OneAnswerLemmas::read_allowed), unfolding(crate::specs::DtlsRecord::raw_record))]
 pub(crate) fn raw_record(i: &[u8]) -> IResult<&[u8], DTLSRawRecord>
     ensures { Gives view_raw_record raw_record_layout i.now result }
@@ -119,21 +120,28 @@ pub(crate) fn raw_record(i: &[u8]) -> IResult<&[u8], DTLSRawRecord>
     Ok((i, DTLSRawRecord { header, fragment }))
 }
 
-/// Reads the fragment `i` of a DTLS record with the header `hdr` (RFC 6347, section 4.1), as messages of the header's
-/// type, one or more: 20, ChangeCipherSpec; 21, alerts; 22, handshake messages; as `parse_dtls_message_..` reads each.
-/// They end before the first that isn't read; what is left is no refusal.
+/// Reads the fragment `i` of a DTLS record with the header `hdr` (RFC 6347, section 4.1): one or
+/// more messages of the header's type. They end before the first that can't be read; bytes from
+/// there aren't refused.
 ///
-/// It never answers `Incomplete`, and refuses:
-/// - `Error` of kind `Switch` where the type is another.
-/// - What the first message refuses, but `Error` of kind `Complete` in place of `Incomplete`: the fragment is whole.
-/// - `OutOfMemory` where a list could not be held.
+/// - 20: ChangeCipherSpecs, as [`crate::parse_dtls_message_changecipherspec`];
+/// - 21: alerts, as [`crate::parse_dtls_message_alert`];
+/// - 22: handshake messages, as [`crate::parse_dtls_message_handshake`].
+///
+/// Never returns `Incomplete`. The refusals:
+///
+/// - `Error` of kind `Switch` for another type.
+/// - The refusal of the first message, with `Incomplete` turned into `Error` of kind `Complete`:
+///   the fragment is complete.
+/// - `OutOfMemory` if a list can't be allocated.
 #[tactic(auto, using(layouts::proofs::OneAnswerLemmas::read_allowed, crate::proofs::NoMoreLemmas::list_asks), unfolding(crate::specs::DtlsRecord::record_content))]
 pub fn parse_dtls_record_with_header<'a>(
     alloc: Global,
     i: &'a [u8],
     hdr: &DTLSRecordHeader,
 ) -> IResult<&'a [u8], Vec<DTLSMessage<'a>>>
-    ensures gives { GivesOrMemory (λ v. map view_message v.items) (record_content (view_header hdr.now)) i.now result }
+    ensures gives { GivesOrMemory (λ v. map view_message v.items) (record_content (view_header hdr.now))
+        i.now result }
     ensures never_incomplete { AsksNoMore result }
 {
     match hdr.content_type {
@@ -144,7 +152,7 @@ pub fn parse_dtls_record_with_header<'a>(
     }
 }
 
-/// A raw record, and then its fragment by its header.
+/// Reads a raw record, then its fragment by its header.
 #[tactic(auto, using(layouts::proofs::OneAnswerLemmas::read_allowed, crate::proofs::ContentLemmas::dtls_plaintext_is_raw_then_content))]
 #[inline(never)]
 fn record_with_messages(alloc: Global, i: &[u8]) -> IResult<&[u8], DTLSPlaintext>
@@ -156,15 +164,16 @@ fn record_with_messages(alloc: Global, i: &[u8]) -> IResult<&[u8], DTLSPlaintext
     Ok((i, DTLSPlaintext { header, messages }))
 }
 
-/// Reads a DTLS record and its messages (RFC 6347, section 4.1): its header, and as many bytes as the length there says,
-/// on which [`parse_dtls_record_with_header`] is called; its refusal is the call's. What the messages leave of these bytes
-/// is dropped.
+/// Reads a DTLS record and its messages (RFC 6347, section 4.1): its header, then a fragment of the
+/// length there, which [`parse_dtls_record_with_header`] reads. What the messages leave of the
+/// fragment is dropped.
 ///
-/// - What [`parse_dtls_record_header`] refuses.
-/// - `Error` of kind `TooLarge` where the length is above [`MAX_RECORD_LEN`], in a record of any version, even if the fragment
-///   isn't there yet.
-/// - `Incomplete` of the count of bytes that are missing of the fragment.
-/// - `OutOfMemory` only where the record is whole and not too large.
+/// - The refusals of [`parse_dtls_record_header`].
+/// - `Error` of kind `TooLarge` if the length is above [`MAX_RECORD_LEN`], in a record of any
+///   version, even if the fragment isn't there yet.
+/// - `Incomplete` with the number of bytes missing from the fragment.
+/// - The refusals of [`parse_dtls_record_with_header`].
+/// - `OutOfMemory` only if the record is complete and not too large.
 #[tactic(auto, using(layouts::proofs::OneAnswerLemmas::one_answer, crate::proofs::IncompleteLemmas::dtls_plaintext_memory, crate::proofs::IncompleteLemmas::dtls_plaintext_incomplete))]
 #[inline(always)]
 pub fn parse_dtls_plaintext_record(alloc: Global, i: &[u8]) -> IResult<&[u8], DTLSPlaintext>
@@ -198,11 +207,11 @@ impl<'a> Item<'a> for DTLSPlaintext<'a> {
     }
 }
 
-/// Reads one or more DTLS records, as [`parse_dtls_plaintext_record`] does, up to the first that isn't read; what is left
-/// begins there. A datagram may hold several (RFC 6347, section 4.1.1).
+/// Reads one or more DTLS records, as [`parse_dtls_plaintext_record`], up to the first that can't
+/// be read. The rest begins there. A datagram may hold several records (RFC 6347, section 4.1.1).
 ///
-/// - What the first record refuses, but `Error` of kind `Complete` in place of `Incomplete`.
-/// - `OutOfMemory` where a list could not be held.
+/// - The refusal of the first record, with `Incomplete` turned into `Error` of kind `Complete`.
+/// - `OutOfMemory` if a list can't be allocated.
 pub fn parse_dtls_plaintext_records(alloc: Global, i: &[u8]) -> IResult<&[u8], Vec<DTLSPlaintext>>
     ensures { GivesOrMemory (λ v. map view_plaintext v.items) (list1 plaintext) i.now result }
 {

@@ -16,7 +16,7 @@ use crate::plaintext_view::first_judged;
 use layouts::{Err, Error, ErrorKind, IResult, InPlace, Items};
 use tls_base::{TlsMessageAlert, TlsRecordType};
 
-/// How a ChangeCipherSpec of DTLS is read in place.
+/// ChangeCipherSpecs of DTLS as items of a list.
 pub(crate) struct ChangeCipherSpec;
 
 impl<'a> InPlace<'a> for ChangeCipherSpec {
@@ -36,7 +36,7 @@ impl<'a> InPlace<'a> for ChangeCipherSpec {
     }
 }
 
-/// How an alert of DTLS is read in place.
+/// Alerts of DTLS as items of a list.
 pub(crate) struct Alert;
 
 impl<'a> InPlace<'a> for Alert {
@@ -56,21 +56,22 @@ impl<'a> InPlace<'a> for Alert {
     }
 }
 
-/// A message of a DTLS record, as [`crate::DTLSMessage`], but of a handshake message the body isn't read.
+/// A message of a DTLS record, as [`crate::DTLSMessage`], with the body of a handshake message
+/// unparsed.
 #[derive(Debug, PartialEq, Drop)]
 pub enum DTLSRawMessage<'a> {
     /// A handshake message, or a fragment of one (RFC 6347, section 4.2.2).
     Handshake(DTLSRawHandshake<'a>),
-    /// The sender changes its cipher (RFC 5246, section 7.1).
+    /// The sender's next records use the new keys (RFC 5246, section 7.1).
     ChangeCipherSpec,
     /// An alert (RFC 5246, section 7.2).
     Alert(TlsMessageAlert),
 }
 
-/// The messages of a DTLS record, read as the walk comes to each.
+/// Walks the messages of a DTLS record. Each is parsed when the walk reaches it.
 ///
-/// No body of a handshake message is judged by the walk: it goes on behind one that [`DTLSRawHandshake::parse_body`] refuses, as
-/// the calls that make lists don't.
+/// The walk doesn't check the bodies of handshake messages. So it continues after one that
+/// [`DTLSRawHandshake::parse_body`] refuses, where the calls that make lists end.
 #[derive(Clone, Copy, Debug, PartialEq)]
 pub struct DTLSMessages<'a> {
     content_type: TlsRecordType,
@@ -78,7 +79,7 @@ pub struct DTLSMessages<'a> {
 }
 
 impl<'a> DTLSMessages<'a> {
-    /// The messages in the fragment `bytes` of a record of that type.
+    /// Returns a walk over the messages in the fragment `bytes` of a record of this type.
     #[inline(always)]
     pub fn new(content_type: TlsRecordType, bytes: &'a [u8]) -> Self
         ensures { raw_messages result ≡ messages_of_type content_type.0 bytes.now }
@@ -89,7 +90,7 @@ impl<'a> DTLSMessages<'a> {
         }
     }
 
-    /// The bytes that aren't walked yet.
+    /// Returns the bytes that the walk hasn't reached yet.
     #[inline(always)]
     pub fn bytes(self) -> &'a [u8]
         ensures { result.now ≡ self.entry.bytes.now }
@@ -133,16 +134,19 @@ impl<'a> Iterator for DTLSMessages<'a> {
     }
 }
 
-/// A DTLS record that isn't encrypted (RFC 6347, section 4.1), as [`crate::DTLSPlaintext`], but with its messages in place.
+/// A DTLS record that isn't encrypted (RFC 6347, section 4.1), as [`crate::DTLSPlaintext`], with
+/// its messages in place.
 #[derive(Debug, PartialEq, Drop)]
 pub struct DTLSPlaintextView<'a> {
-    /// What stands in front of the messages.
+    /// The header of the record.
     pub header: DTLSRecordHeader,
-    /// The messages. The first of them is judged, with its body; of the others nothing is, until the walk comes to them.
+    /// The messages. The first is checked, with its body. The others aren't checked until the walk
+    /// reaches them.
     pub messages: DTLSMessages<'a>,
 }
 
-/// Judges the fragment `i` of a record with the header `hdr` as [`crate::parse_dtls_record_with_header`] does: by its first message.
+/// Checks the first message of the fragment `i` of a record with the header `hdr`. Refuses as
+/// [`crate::parse_dtls_record_with_header`].
 #[tactic(auto, using(crate::proofs::DtlsInPlaceLemmas::judges_change_cipher_specs, crate::proofs::DtlsInPlaceLemmas::judges_alerts, crate::proofs::DtlsInPlaceLemmas::judges_handshakes), unfolding(crate::specs::DtlsRecord::record_content))]
 fn fragment_judged<'a>(i: &'a [u8], hdr: &DTLSRecordHeader) -> Result<(), Err<Error<&'a [u8]>>>
     ensures { Tells (λ u. decode_while message_of (messages_of_type hdr.now.content_type.0 i.now))
@@ -159,25 +163,27 @@ fn fragment_judged<'a>(i: &'a [u8], hdr: &DTLSRecordHeader) -> Result<(), Err<Er
     }
 }
 
-/// The messages of the fragment `i` of a DTLS record with the header `hdr`, in place: it answers what
-/// [`crate::parse_dtls_record_with_header`] does, memory aside, and refuses what that refuses.
+/// Returns the messages of the fragment `i` of a DTLS record with the header `hdr`, in place. Gives
+/// the same answer as [`crate::parse_dtls_record_with_header`], also if that refuses, but allocates
+/// nothing.
 ///
-/// The first message is judged, with its body; the others are read as the walk comes to them.
+/// The first message is checked, with its body. The others are read when the walk reaches them.
 #[inline(always)]
 pub fn parse_dtls_record_with_header_in_place<'a>(
     i: &'a [u8],
     hdr: &DTLSRecordHeader,
 ) -> Result<DTLSMessages<'a>, Err<Error<&'a [u8]>>>
-    ensures { Tells (λ m. decode_while message_of (raw_messages m)) (value_of (reading (record_content (view_header hdr.now)) i.now)) result }
+    ensures { Tells (λ m. decode_while message_of (raw_messages m))
+        (value_of (reading (record_content (view_header hdr.now)) i.now)) result }
 {
     fragment_judged(i, hdr)?;
     Ok(DTLSMessages::new(hdr.content_type, i))
 }
 
-/// Reads a DTLS record and its messages in place (RFC 6347, section 4.1): it answers what [`crate::parse_dtls_plaintext_record`]
-/// does, memory aside, and refuses what that refuses.
+/// Reads a DTLS record and its messages in place (RFC 6347, section 4.1). Gives the same answer as
+/// [`crate::parse_dtls_plaintext_record`], also if that refuses, but allocates nothing.
 ///
-/// The header, its length and the first message are judged, and nothing else.
+/// Only the header, its length and the first message are checked.
 #[tactic(auto, using(layouts::proofs::OneAnswerLemmas::read_allowed, crate::proofs::ContentLemmas::dtls_plaintext_is_raw_then_content, crate::proofs::DtlsInPlaceLemmas::content_read, crate::proofs::DtlsInPlaceLemmas::content_refused))]
 #[inline(always)]
 pub fn parse_dtls_plaintext_record_in_place(i: &[u8]) -> IResult<&[u8], DTLSPlaintextView>

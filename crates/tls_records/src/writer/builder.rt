@@ -1,4 +1,4 @@
-//! The texts of messages, added one by one to a vector that has room for them.
+//! Appends the encodings of messages, one by one, to a vector with enough capacity.
 ghost use Rattle.std.specs.Prelude.{◌≡◌, ◌≤◌, ◌+◌, ◌++◌, length, map, vec_len, vec_capacity};
 ghost use Rattle.std.specs.List.{All};
 ghost use Rattle.tls_hs.specs.Message.{view_message};
@@ -24,10 +24,11 @@ pub(crate) fn append_message(out: &mut Vec<u8>, m: &TlsMessage)
     }
 }
 
-/// Appends messages, one after the other.
+/// Appends messages, one after another.
 pub(crate) fn append_messages(out: &mut Vec<u8>, messages: &[TlsMessage])
     requires fits { All FitsMessage (map view_message messages.now) }
-    requires room { vec_len out.old + length (fragment_text (map view_message messages.now)) ≤ vec_capacity out.old }
+    requires room { vec_len out.old + length (fragment_text (map view_message messages.now)) ≤
+        vec_capacity out.old }
     ensures items { out.new.items ≡ out.old.items ++ fragment_text (map view_message messages.now) }
     ensures range { All InRangeMessage (map view_message messages.now) }
 {

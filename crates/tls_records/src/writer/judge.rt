@@ -1,4 +1,5 @@
-//! How long the texts of messages and of fragments are, or why there is none; found without memory.
+//! Computes the lengths of messages and of fragments, or why they can't be written, without
+//! allocating.
 ghost use Rattle.std.specs.Prelude.{map};
 ghost use Rattle.tls_hs.specs.Message.{view_message};
 ghost use Rattle.tls_records.specs.RecordWriter.{JudgesMessage, JudgesFragment};
@@ -7,12 +8,13 @@ use layouts::GenError;
 use tls_hs::TlsMessage;
 use tls_hs::writer::judge::handshake_len;
 
-/// The longest fragment that a record can be written with, in bytes: its length has 2 bytes.
+/// The maximum length of a fragment that can be written, in bytes: its length field has 2 bytes.
 const MAX_FRAGMENT_LEN: usize = 65535;
 
-/// How many bytes a message is written as.
+/// Returns the length of a message in bytes.
 ///
-/// `NotYetImplemented` where the writer doesn't know its kind; `BadLength` where a length doesn't fit its field.
+/// `NotYetImplemented` if the writer doesn't know its kind; `BadLength` if a length doesn't fit its
+/// field.
 pub(crate) fn message_len(m: &TlsMessage) -> Result<usize, GenError>
     ensures { JudgesMessage (view_message m.now) result }
 {
@@ -25,7 +27,8 @@ pub(crate) fn message_len(m: &TlsMessage) -> Result<usize, GenError>
     }
 }
 
-/// How many bytes the messages of a record are written as: all are judged, and then their length.
+/// Returns the length of a record's messages in bytes. All messages are checked before their length
+/// together.
 pub(crate) fn fragment_len(messages: &[TlsMessage]) -> Result<usize, GenError>
     ensures { JudgesFragment (map view_message messages.now) result }
 {

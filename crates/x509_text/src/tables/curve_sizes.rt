@@ -2,14 +2,14 @@
 
 use super::CurveSize;
 
-/// Rows of a table: the content of an object identifier, and the bits of a size.
+/// The rows of a table: the content of an object identifier, and a size in bits.
 macro_rules! sizes {
     ($($content:literal $bits:literal),*) => {
         &[$(CurveSize { content: $content, bits: $bits }),*]
     };
 }
 
-/// The bits of the order of the base point of each curve that has a name here.
+/// The bit length of the order of the base point, for each curve that has a name.
 #[rattlefmt::skip]
 pub(crate) static CURVE_SIZES: &[CurveSize] = sizes!(
     b"\x2a\x86\x48\xce\x3d\x03\x01\x01" 192, // prime192v1

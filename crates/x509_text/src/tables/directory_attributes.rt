@@ -1,8 +1,8 @@
-//! Attributes of names that X.520 defines.
+//! Name attributes that X.520 defines.
 
 use super::{Object, objects};
 
-/// Attributes of names that X.520 defines.
+/// Name attributes that X.520 defines.
 #[rattlefmt::skip]
 pub(crate) static DIRECTORY_ATTRIBUTES: &[Object] = objects!(
     b"\x55\x04\x03" "CN" "commonName", // 2.5.4.3

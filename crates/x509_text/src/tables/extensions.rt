@@ -21,11 +21,16 @@ pub(crate) static EXTENSIONS: &[Object] = objects!(
     b"\x55\x1d\x25" "extendedKeyUsage" "X509v3 Extended Key Usage", // 2.5.29.37
     b"\x55\x1d\x2e" "freshestCRL" "X509v3 Freshest CRL", // 2.5.29.46
     b"\x55\x1d\x36" "inhibitAnyPolicy" "X509v3 Inhibit Any Policy", // 2.5.29.54
-    b"\x2b\x06\x01\x05\x05\x07\x01\x01" "authorityInfoAccess" "Authority Information Access", // 1.3.6.1.5.5.7.1.1
-    b"\x2b\x06\x01\x05\x05\x07\x01\x0b" "subjectInfoAccess" "Subject Information Access", // 1.3.6.1.5.5.7.1.11
+    b"\x2b\x06\x01\x05\x05\x07\x01\x01" "authorityInfoAccess" "Authority Information Access",
+        // 1.3.6.1.5.5.7.1.1
+    b"\x2b\x06\x01\x05\x05\x07\x01\x0b" "subjectInfoAccess" "Subject Information Access",
+        // 1.3.6.1.5.5.7.1.11
     b"\x2b\x06\x01\x05\x05\x07\x01\x18" "tlsfeature" "TLS Feature", // 1.3.6.1.5.5.7.1.24
-    b"\x2b\x06\x01\x04\x01\xd6\x79\x02\x04\x02" "ct_precert_scts" "CT Precertificate SCTs", // 1.3.6.1.4.1.11129.2.4.2
-    b"\x2b\x06\x01\x04\x01\xd6\x79\x02\x04\x03" "ct_precert_poison" "CT Precertificate Poison", // 1.3.6.1.4.1.11129.2.4.3
-    b"\x60\x86\x48\x01\x86\xf8\x42\x01\x01" "nsCertType" "Netscape Cert Type", // 2.16.840.1.113730.1.1
+    b"\x2b\x06\x01\x04\x01\xd6\x79\x02\x04\x02" "ct_precert_scts" "CT Precertificate SCTs",
+        // 1.3.6.1.4.1.11129.2.4.2
+    b"\x2b\x06\x01\x04\x01\xd6\x79\x02\x04\x03" "ct_precert_poison" "CT Precertificate Poison",
+        // 1.3.6.1.4.1.11129.2.4.3
+    b"\x60\x86\x48\x01\x86\xf8\x42\x01\x01" "nsCertType" "Netscape Cert Type",
+        // 2.16.840.1.113730.1.1
     b"\x60\x86\x48\x01\x86\xf8\x42\x01\x0d" "nsComment" "Netscape Comment" // 2.16.840.1.113730.1.13
 );

@@ -7,5 +7,7 @@ use Rattle.capture.proofs.link.link.Goals as goal
 pub returns-in_default : goal.returns-in_default
 returns-in_default c =
     subst (λ (l : Layout ℕ). Gives {X = ℕ} {Y = ℕ} (λ v. v) l c.args.i.now c.no_link.result)
-    (sym (no_row c.args.link_type (omega arith) (omega arith) (omega arith) (omega arith) (omega arith) (omega arith) (omega arith) (omega arith) (omega arith) (omega arith) (omega arith)))
+    (sym (no_row c.args.link_type (omega arith) (omega arith) (omega arith) (omega arith)
+    (omega arith) (omega arith) (omega arith) (omega arith) (omega arith) (omega arith)
+    (omega arith)))
     c.no_link.ensures

@@ -11,24 +11,28 @@ returns-in_default t c = short _ _ _ (omega arith)
 
 pub returns-then-found-eq-END : goal.returns-then-found-eq-END
 returns-then-found-eq-END t c =
-    let step = one_more c.args.most c.args.kind c.args.options.now c.if-most-eq0.false (omega arith) in
+    let step = one_more c.args.most c.args.kind c.args.options.now c.if-most-eq0.false
+    (omega arith) in
     grind (arith, step)
 
 pub returns-then-found-eq-PADDING : goal.returns-then-found-eq-PADDING
 returns-then-found-eq-PADDING t c =
-    let step = one_more c.args.most c.args.kind c.args.options.now c.if-most-eq0.false (omega arith) in
+    let step = one_more c.args.most c.args.kind c.args.options.now c.if-most-eq0.false
+    (omega arith) in
     let behind = take_rest c.args.options.now 1 in
     grind (arith, step, behind)
 
 pub returns-then-len-lt2 : goal.returns-then-len-lt2
 returns-then-len-lt2 t c =
-    let step = one_more c.args.most c.args.kind c.args.options.now c.if-most-eq0.false (omega arith) in
+    let step = one_more c.args.most c.args.kind c.args.options.now c.if-most-eq0.false
+    (omega arith) in
     let behind = take_rest c.args.options.now 2 in
     grind (arith, step, behind)
 
 pub returns-then-found-kind : goal.returns-then-found-kind
 returns-then-found-kind t c =
-    let step = one_more c.args.most c.args.kind c.args.options.now c.if-most-eq0.false (omega arith) in
+    let step = one_more c.args.most c.args.kind c.args.options.now c.if-most-eq0.false
+    (omega arith) in
     let behind = take_rest c.args.options.now 2 in
     grind (arith, step, behind)
 
@@ -36,7 +40,8 @@ pub returns : goal.returns
 returns t c =
     let xs = c.args.options.now in
     let behind = take_rest xs 2 in
-    let next = another c.args.most c.args.kind xs c.if-most-eq0.false (omega arith) c.if-found-eq-END.false
+    let next = another c.args.most c.args.kind xs c.if-most-eq0.false (omega arith)
+    c.if-found-eq-END.false
     c.if-found-eq-PADDING.false
     (omega arith)
     (omega (arith, ap length behind, length-drop 2 xs))

@@ -3,7 +3,8 @@ use Rattle.connections.specs.Memory.{IsFront}
 use Rattle.connections.proofs.memory.forget_crowded.Given as goal
 
 abbrev pub invariant-loop-closed : goal.invariant-loop-closed
-invariant-loop-closed l = IsFront l.initial.closed.entries l.closed.entries × (l.closed.cap ≡ l.initial.closed.cap)
+invariant-loop-closed l = IsFront l.initial.closed.entries l.closed.entries
+    × (l.closed.cap ≡ l.initial.closed.cap)
 
 abbrev pub decreases-loop-closed : goal.decreases-loop-closed
 decreases-loop-closed l = length l.closed.entries

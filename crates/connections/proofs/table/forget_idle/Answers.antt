@@ -13,6 +13,7 @@ loop-last_time-preserved c =
     rw c.len.ensures.len at (c.is_over.ensures.over c.if-not-is_over.false) in
     rw c.pop_lru.ensures.entries (
       last_forgotten c.args.time c.args.closed.now.entries c.loop-last_time.closed.entries
-          c.in-Some.field-0-0.now c.in-Some.last_time.now c.loop-last_time.invariant.0 c.in-Some.ensures over,
+          c.in-Some.field-0-0.now c.in-Some.last_time.now c.loop-last_time.invariant.0
+          c.in-Some.ensures over,
       c.loop-last_time.invariant.1,
     )

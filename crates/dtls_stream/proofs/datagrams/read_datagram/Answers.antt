@@ -16,34 +16,43 @@ use Rattle.dtls_stream.proofs.ReadingLemmas.{
 use Rattle.dtls_stream.proofs.datagrams.read_datagram.Goals as goal
 
 pub records-init : goal.records-init
-records-init c a h st = reading_begins a h c.args.datagram.now _ _ c.args.messages.now (omega arith) st
+records-init c a h st =
+    reading_begins a h c.args.datagram.now _ _ c.args.messages.now (omega arith) st
 
 pub records-preserved : goal.records-preserved
 records-preserved c a h st =
     reading_next a h (fragments_of c.args.datagram.now) (datagram a h c.args.datagram.now)
-    (length c.args.datagram.now - c.records.taken) (length c.args.datagram.now - (c.records.taken + 1))
+    (length c.args.datagram.now - c.records.taken)
+    (length c.args.datagram.now - (c.records.taken + 1))
     c.records.left.now c.in-Ok.rest.now
-    (view_raw_record c.in-Ok.raw) (view_events c.args.events.now.items) (view_events c.records.events.items)
+    (view_raw_record c.in-Ok.raw) (view_events c.args.events.now.items)
+    (view_events c.records.events.items)
     (view_events c.hear_record.new.events.items) c.records.messages c.hear_record.new.messages
-    (omega arith) c.in-Ok.ensures.read (c.records.invariant a h st) c.in_ok-hear_record-in-Ok.ensures.told
+    (omega arith) c.in-Ok.ensures.read (c.records.invariant a h st)
+    c.in_ok-hear_record-in-Ok.ensures.told
 
 pub returns-in_err-hear_record-in-Ok-clause-stopped : goal.returns-in_err-hear_record-in-Ok-clause-stopped
 returns-in_err-hear_record-in-Ok-clause-stopped c a h st =
     any_err c.from_residual.result
     (reading_cut a h (fragments_of c.args.datagram.now) (datagram a h c.args.datagram.now)
-    (length c.args.datagram.now - c.records.taken) (length c.args.datagram.now - (c.records.taken + 1))
+    (length c.args.datagram.now - c.records.taken)
+    (length c.args.datagram.now - (c.records.taken + 1))
     c.records.left.now c.in-Ok.rest.now
-    (view_raw_record c.in-Ok.raw) (view_events c.args.events.now.items) (view_events c.records.events.items)
+    (view_raw_record c.in-Ok.raw) (view_events c.args.events.now.items)
+    (view_events c.records.events.items)
     (view_events c.hear_record.new.events.items) c.records.messages c.hear_record.new.messages
-    (omega arith) c.in-Ok.ensures.read (c.records.invariant a h st) c.in_err-hear_record-in-Ok.ensures.stopped)
+    (omega arith) c.in-Ok.ensures.read (c.records.invariant a h st)
+    c.in_err-hear_record-in-Ok.ensures.stopped)
 
 pub returns-in-Err-clause-told : goal.returns-in-Err-clause-told
 returns-in-Err-clause-told c a h st =
     on_ok c.tell_unread.result c.tell_unread.ensures.told
     (reading_fails a h (fragments_of c.args.datagram.now) (datagram a h c.args.datagram.now)
-    (length c.args.datagram.now - c.records.taken) (length c.args.datagram.now - (c.records.taken + 1))
+    (length c.args.datagram.now - c.records.taken)
+    (length c.args.datagram.now - (c.records.taken + 1))
     c.records.left.now
-    (refusal_of c.in-Err.error) (view_events c.args.events.now.items) (view_events c.records.events.items)
+    (refusal_of c.in-Err.error) (view_events c.args.events.now.items)
+    (view_events c.records.events.items)
     (view_events c.tell_unread.new.events.items) c.records.messages
     (omega arith) c.in-Err.ensures.read (c.records.invariant a h st))
 
@@ -58,6 +67,7 @@ returns-in-Err-clause-stopped c a h st =
 pub returns-clause-told : goal.returns-clause-told
 returns-clause-told c a h st =
     reading_ends a h (fragments_of c.args.datagram.now) (datagram a h c.args.datagram.now)
-    (length c.args.datagram.now - c.records.taken) c.records.left.now (view_events c.args.events.now.items)
+    (length c.args.datagram.now - c.records.taken) c.records.left.now
+    (view_events c.args.events.now.items)
     (view_events c.records.events.items) c.records.messages
     (omega arith) (c.records.invariant a h st)

@@ -7,5 +7,6 @@ use Rattle.dtls_stream.proofs.datagrams.read_datagram.Given as goal
 abbrev pub invariant-records : goal.invariant-records
 invariant-records l =
     (a : Limits) (h : Heard) → Stands a h l.initial.messages →
-    IsReading a h (fragments_of l.fn.datagram) (datagram a h l.fn.datagram) (length l.fn.datagram - l.taken) l.left
+    IsReading a h (fragments_of l.fn.datagram) (datagram a h l.fn.datagram)
+    (length l.fn.datagram - l.taken) l.left
     (view_events l.initial.events.items) (view_events l.events.items) l.messages

@@ -6,7 +6,8 @@ use Rattle.dtls_stream.proofs.datagrams.read_datagrams.Goals as goal
 
 pub loop-datagram-init : goal.loop-datagram-init
 loop-datagram-init c =
-    subst (λ es. AreReading (view_limits c.args.limits) (views c.args.datagrams.now) (views c.args.datagrams.now)
+    subst (λ es. AreReading (view_limits c.args.limits) (views c.args.datagrams.now)
+    (views c.args.datagrams.now)
     (view_events es) c.new-messages.result) (sym c.new-events.ensures.items)
     (datagrams_begin (view_limits c.args.limits) (views c.args.datagrams.now) c.new-messages.result
     c.new-messages.ensures)
@@ -21,4 +22,5 @@ pub returns : goal.returns
 returns c =
     datagrams_end (view_limits c.args.limits) (views c.args.datagrams.now)
     (views (drop c.loop-datagram.datagram-index c.args.datagrams.now)) _ c.loop-datagram.messages
-    (drop_past c.args.datagrams.now c.loop-datagram.datagram-index c.loop-datagram-test.false) c.loop-datagram.invariant
+    (drop_past c.args.datagrams.now c.loop-datagram.datagram-index c.loop-datagram-test.false)
+    c.loop-datagram.invariant

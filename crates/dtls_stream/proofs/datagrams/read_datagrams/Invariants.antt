@@ -6,5 +6,6 @@ use Rattle.dtls_stream.proofs.datagrams.read_datagrams.Given as goal
 
 abbrev pub invariant-loop-datagram : goal.invariant-loop-datagram
 invariant-loop-datagram l =
-    AreReading (view_limits l.fn.limits) (views l.datagrams) (views (drop l.datagram-index l.datagrams))
+    AreReading (view_limits l.fn.limits) (views l.datagrams)
+    (views (drop l.datagram-index l.datagrams))
     (view_events l.events.items) l.messages

@@ -17,7 +17,8 @@ loop-i-preserved c =
       | then-not-have-at w ↦ (
         λ i. ap (λ h. cell h c.if-not-have-at.held i) w.have-is
             ∙ ap (λ h. cell (slice_set c.loop-i.have at true) h i) w.held-is
-            ∙ filled_now first c.loop-i.have c.loop-i.held c.args.offset c.loop-i.i at _ c.args.bytes.now was.0 refl
+            ∙ filled_now first c.loop-i.have c.loop-i.held c.args.offset c.loop-i.i at _
+            c.args.bytes.now was.0 refl
             in_have in_held w.if-not-have-at.true refl i,
         ap (λ n. n + sum_by absent c.if-not-have-at.have) w.filled-is
             ∙ ap (λ h. (c.loop-i.filled + 1) + sum_by absent h) w.have-is
@@ -25,8 +26,10 @@ loop-i-preserved c =
         omega (arith, w.filled-is, was.2),
       )
       | else-not-have-at w ↦ (
-        λ i. ap (λ h. cell h c.if-not-have-at.held i) w.have-is ∙ ap (λ h. cell c.loop-i.have h i) w.held-is
-            ∙ filled_before first c.loop-i.have c.loop-i.held c.args.offset c.loop-i.i at c.args.bytes.now was.0 refl
+        λ i. ap (λ h. cell h c.if-not-have-at.held i) w.have-is
+            ∙ ap (λ h. cell c.loop-i.have h i) w.held-is
+            ∙ filled_before first c.loop-i.have c.loop-i.held c.args.offset c.loop-i.i at
+            c.args.bytes.now was.0 refl
             w.if-not-have-at.false i,
         ap (λ n. n + sum_by absent c.if-not-have-at.have) w.filled-is
             ∙ ap (λ h. c.loop-i.filled + sum_by absent h) w.have-is ∙ was.1,

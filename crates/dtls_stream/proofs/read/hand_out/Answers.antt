@@ -7,7 +7,8 @@ use Rattle.dtls_stream.proofs.read.hand_out.Goals as goal
 pub returns-in_default-clause-told : goal.returns-in_default-clause-told
 returns-in_default-clause-told c l h st =
     let way = c.whole.invariant l h st in
-    subst (λ es. AreHandedOut l h (view_events c.args.events.now.items) (view_events es) c.take_front.new.self)
+    subst (λ es. AreHandedOut l h (view_events c.args.events.now.items) (view_events es)
+    c.take_front.new.self)
     (sym c.in_ok-reserve.ensures.items)
     (ends l h _ _ c.whole.messages c.take_front.new.self c.take_front.result way c.in_default.is
     (c.take_front.ensures.message l _ way.stands) (c.take_front.ensures.stands l _ way.stands))

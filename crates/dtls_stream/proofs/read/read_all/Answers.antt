@@ -7,14 +7,16 @@ loop-fragment-init c l h st = heard_none l h _ _ st
 
 pub loop-fragment-preserved : goal.loop-fragment-preserved
 loop-fragment-preserved c l h st =
-    heard_next l h c.args.fragments.now c.loop-fragment.fragment-index _ _ _ _ c.loop-fragment.messages
+    heard_next l h c.args.fragments.now c.loop-fragment.fragment-index _ _ _ _
+    c.loop-fragment.messages
     c.hear.new.messages
     c.loop-fragment-test.true (c.loop-fragment.invariant l h st) c.in_ok-hear.ensures.told
 
 pub returns-in_err-hear-clause-stopped : goal.returns-in_err-hear-clause-stopped
 returns-in_err-hear-clause-stopped c l h st =
     any_err c.from_residual.result
-    (stopped_next l h c.args.fragments.now c.loop-fragment.fragment-index _ _ _ _ c.loop-fragment.messages
+    (stopped_next l h c.args.fragments.now c.loop-fragment.fragment-index _ _ _ _
+    c.loop-fragment.messages
     c.hear.new.messages
     c.loop-fragment-test.true (c.loop-fragment.invariant l h st) c.in_err-hear.ensures.stopped)
 

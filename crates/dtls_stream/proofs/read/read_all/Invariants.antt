@@ -6,5 +6,6 @@ use Rattle.dtls_stream.proofs.read.read_all.Given as goal
 abbrev pub invariant-loop-fragment : goal.invariant-loop-fragment
 invariant-loop-fragment l =
     (a : Limits) (h : Heard) → Stands a h l.initial.messages →
-    AreHeard a h (view_fragments (take l.fragment-index l.fragments)) (view_events l.initial.events.items)
+    AreHeard a h (view_fragments (take l.fragment-index l.fragments))
+    (view_events l.initial.events.items)
     (view_events l.events.items) l.messages

@@ -12,9 +12,11 @@ use Rattle.dtls_stream.proofs.records.read_handshake.Goals as goal
 pub returns-in_err-read_all-in-Ok-clause-stopped : goal.returns-in_err-read_all-in-Ok-clause-stopped
 returns-in_err-read_all-in-Ok-clause-stopped c l h st =
     any_err c.from_residual.result
-    (fragments_stopped l h (view_events c.args.events.now.items) (view_events c.read_all.new.events.items)
+    (fragments_stopped l h (view_events c.args.events.now.items)
+    (view_events c.read_all.new.events.items)
     c.read_all.new.messages
-    (reading (list1 fragment) c.args.bytes.now) (view_fragments c.in-Ok.fragments.items) c.in-Ok.rest.now
+    (reading (list1 fragment) c.args.bytes.now) (view_fragments c.in-Ok.fragments.items)
+    c.in-Ok.rest.now
     (c.in-Ok.ensures.read tt)
     (subst (λ fs. IsStopped l h (view_fragments fs) (view_events c.args.events.now.items)
     (view_events c.read_all.new.events.items) c.read_all.new.messages)
@@ -23,9 +25,11 @@ returns-in_err-read_all-in-Ok-clause-stopped c l h st =
 pub returns-in_ok-read_all-in-Ok-clause-stopped : goal.returns-in_ok-read_all-in-Ok-clause-stopped
 returns-in_ok-read_all-in-Ok-clause-stopped c l h st =
     on_err c.tell_left_over.result c.tell_left_over.ensures.stopped
-    (fragments_untold l h (view_events c.args.events.now.items) (view_events c.read_all.new.events.items)
+    (fragments_untold l h (view_events c.args.events.now.items)
+    (view_events c.read_all.new.events.items)
     (view_events c.tell_left_over.new.events.items) c.read_all.new.messages
-    (reading (list1 fragment) c.args.bytes.now) (view_fragments c.in-Ok.fragments.items) c.in-Ok.rest.now
+    (reading (list1 fragment) c.args.bytes.now) (view_fragments c.in-Ok.fragments.items)
+    c.in-Ok.rest.now
     (c.in-Ok.ensures.read tt)
     (subst (λ fs. AreHeard l h (view_fragments fs) (view_events c.args.events.now.items)
     (view_events c.read_all.new.events.items) c.read_all.new.messages)
@@ -33,12 +37,14 @@ returns-in_ok-read_all-in-Ok-clause-stopped c l h st =
 
 pub returns-in-Err-OutOfMemory-clause-stopped : goal.returns-in-Err-OutOfMemory-clause-stopped
 returns-in-Err-OutOfMemory-clause-stopped c l h st =
-    cut_none l h (those_read (reading (list1 fragment) c.args.bytes.now)) (fragment_record_step c.args.bytes.now l h).1
+    cut_none l h (those_read (reading (list1 fragment) c.args.bytes.now))
+    (fragment_record_step c.args.bytes.now l h).1
     (view_events c.args.events.now.items) c.args.messages.now st
 
 pub returns-in_err-push-in-Err-clause-stopped : goal.returns-in_err-push-in-Err-clause-stopped
 returns-in_err-push-in-Err-clause-stopped c l h st =
     any_err c.from_residual-in_err-push-in-Err.result
-    (cut_same l h (those_read (reading (list1 fragment) c.args.bytes.now)) (fragment_record_step c.args.bytes.now l h).1
+    (cut_same l h (those_read (reading (list1 fragment) c.args.bytes.now))
+    (fragment_record_step c.args.bytes.now l h).1
     (view_events c.args.events.now.items) (view_events c.push.new.self.items)
     c.args.messages.now (ap view_events c.in_err-push-in-Err.ensures.items) st)

@@ -12,9 +12,11 @@ pub returns-in_ok-tell_messages-in-Ok-clause-told : goal.returns-in_ok-tell_mess
 returns-in_ok-tell_messages-in-Ok-clause-told c h =
     rw (← c.content_bytes.ensures)
     (on_ok c.tell_left_over.result c.tell_left_over.ensures.told
-    (content_ok h (view_events c.args.events.now.items) (view_events c.tell_messages.new.events.items)
+    (content_ok h (view_events c.args.events.now.items)
+    (view_events c.tell_messages.new.events.items)
     (view_events c.tell_left_over.new.events.items)
-    (reading (record_content (view_header c.args.raw.now.header)) c.content_bytes.result.now) c.in-Ok.messages.items
+    (reading (record_content (view_header c.args.raw.now.header)) c.content_bytes.result.now)
+    c.in-Ok.messages.items
     c.in-Ok.rest.now (c.in-Ok.ensures.gives.read tt)
     (c.in_ok-tell_messages-in-Ok.ensures.told
     ∙ ap (λ ms. view_events c.args.events.now.items ++ map (λ m. event_of (view_message m)) ms)
@@ -24,10 +26,13 @@ pub returns-in_err-tell_messages-in-Ok-clause-stopped : goal.returns-in_err-tell
 returns-in_err-tell_messages-in-Ok-clause-stopped c h =
     rw (← c.content_bytes.ensures)
     (any_err c.from_residual.result
-    (content_stopped h (view_events c.args.events.now.items) (view_events c.tell_messages.new.events.items)
-    (reading (record_content (view_header c.args.raw.now.header)) c.content_bytes.result.now) c.in-Ok.messages.items
+    (content_stopped h (view_events c.args.events.now.items)
+    (view_events c.tell_messages.new.events.items)
+    (reading (record_content (view_header c.args.raw.now.header)) c.content_bytes.result.now)
+    c.in-Ok.messages.items
     c.in-Ok.rest.now (c.in-Ok.ensures.gives.read tt)
-    (subst (λ ms. AreToldInPart (map (λ m. event_of (view_message m)) ms) (view_events c.args.events.now.items)
+    (subst (λ ms. AreToldInPart (map (λ m. event_of (view_message m)) ms)
+    (view_events c.args.events.now.items)
     (view_events c.tell_messages.new.events.items))
     c.deref.ensures.value c.in_err-tell_messages-in-Ok.ensures.stopped)))
 
@@ -35,9 +40,11 @@ pub returns-in_ok-tell_messages-in-Ok-clause-stopped : goal.returns-in_ok-tell_m
 returns-in_ok-tell_messages-in-Ok-clause-stopped c h =
     rw (← c.content_bytes.ensures)
     (on_err c.tell_left_over.result c.tell_left_over.ensures.stopped
-    (content_untold h (view_events c.args.events.now.items) (view_events c.tell_messages.new.events.items)
+    (content_untold h (view_events c.args.events.now.items)
+    (view_events c.tell_messages.new.events.items)
     (view_events c.tell_left_over.new.events.items)
-    (reading (record_content (view_header c.args.raw.now.header)) c.content_bytes.result.now) c.in-Ok.messages.items
+    (reading (record_content (view_header c.args.raw.now.header)) c.content_bytes.result.now)
+    c.in-Ok.messages.items
     c.in-Ok.rest.now (c.in-Ok.ensures.gives.read tt)
     (c.in_ok-tell_messages-in-Ok.ensures.told
     ∙ ap (λ ms. view_events c.args.events.now.items ++ map (λ m. event_of (view_message m)) ms)

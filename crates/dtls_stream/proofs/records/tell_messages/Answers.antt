@@ -11,4 +11,5 @@ returns-in_err-push-clause-stopped c =
     any_err c.from_residual.result
     (part_taken (λ m. event_of (view_message m)) c.args.messages.now c.loop-message.message-index
     (view_events c.args.events.now.items) (view_events c.loop-message.events.items)
-    (view_events c.push.new.self.items) c.loop-message.invariant (ap view_events c.in_err-push.ensures.items))
+    (view_events c.push.new.self.items) c.loop-message.invariant
+    (ap view_events c.in_err-push.ensures.items))

@@ -7,4 +7,5 @@ use Rattle.dtls_stream.proofs.records.tell_messages.Given as goal
 abbrev pub invariant-loop-message : goal.invariant-loop-message
 invariant-loop-message l =
     view_events l.events.items
-    ≡ view_events l.initial.events.items ++ map (λ m. event_of (view_message m)) (take l.message-index l.messages)
+    ≡ view_events l.initial.events.items ++ map (λ m. event_of (view_message m))
+    (take l.message-index l.messages)

@@ -20,4 +20,5 @@ returns-in_err-add-clause-err c =
     on_err c.from_residual.result
     (rw c.in_err-add.ensures.refused
     (ap (λ l. lru_cache l c.args.table.now.cap)
-    (set_value_same (are_keys c.args.key.now) c.args.table.now.entries c.in-Some.waiting.now found)))
+    (set_value_same (are_keys c.args.key.now) c.args.table.now.entries
+    c.in-Some.waiting.now found)))

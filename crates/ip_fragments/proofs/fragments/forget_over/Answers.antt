@@ -18,7 +18,8 @@ loop-oldest-preserved-after-is_late c =
     let sum = i.1 in
     let low = i.2 in
     rw c.pop_lru.ensures.entries (
-      last_forgotten c.args.time c.args.more c.args.waiting.now.entries u k w i.0 c.in-Some.ensures over,
+      last_forgotten c.args.time c.args.more c.args.waiting.now.entries u k w i.0
+          c.in-Some.ensures over,
       omega (arith, front, its, sum),
       omega (arith, low),
       i.3,

@@ -17,4 +17,5 @@ pub returns : goal.returns
 returns g c =
     let are : AreBytes c.args.i.now = search rules in
     list_ends_over g.T.Item.view g.T.Item.layout (map g.T.Item.view c.args.first.items) c.args.i.now
-    (λ v. map g.T.Item.view v.items) c.loop-alloc.items c.loop-alloc.rest are c.loop-alloc.invariant (search rules)
+    (λ v. map g.T.Item.view v.items) c.loop-alloc.items c.loop-alloc.rest are c.loop-alloc.invariant
+    (search rules)

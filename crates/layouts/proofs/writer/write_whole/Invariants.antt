@@ -1,4 +1,4 @@
--- what the writer has taken is a front of the bytes
+-- the `Write` has taken a prefix of the bytes
 use Rattle.std.proofs.Common.{◌-◌, ◌≤◌, length, take}
 use Rattle.std.specs.Io.KnownBytes.{Appends}
 use Rattle.layouts.proofs.writer.write_whole.Given as goal

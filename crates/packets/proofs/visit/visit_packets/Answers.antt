@@ -5,7 +5,8 @@ use Rattle.packets.proofs.visit.visit_packets.Goals as goal
 pub steps-preserved-in-Ok-true : goal.steps-preserved-in-Ok-true
 steps-preserved-in-Ok-true g c = record {
   on =
-      on_if_went _ (g.V.PacketVisitor.taken c.steps.visitor) _ _ _ c.steps.capture _ c.steps.buffer _ _
+      on_if_went _ (g.V.PacketVisitor.taken c.steps.visitor) _ _ _ c.steps.capture _
+      c.steps.buffer _ _
       c.steps.invariant.on c.in-Ok-true.ensures.goes c.in-Ok-true.field-0-test;
   sound = λ h. c.in-Ok-true.ensures.sound (c.steps.invariant.sound h);
 }
@@ -13,7 +14,8 @@ steps-preserved-in-Ok-true g c = record {
 pub steps-preserved : goal.steps-preserved
 steps-preserved g c = record {
   on =
-      on_if_came _ (g.V.PacketVisitor.taken c.steps.visitor) _ _ (g.R.Read.remaining c.steps.reader) _ c.steps.capture _
+      on_if_came _ (g.V.PacketVisitor.taken c.steps.visitor) _ _ (g.R.Read.remaining c.steps.reader)
+      _ c.steps.capture _
       c.steps.buffer c.visit_front.new.buffer _ _ _ c.steps.invariant.on c.in-Ok-false.ensures.goes
       c.in-Ok-false.field-0-test c.in-Ok.ensures.ok;
   sound = λ h. c.in-Ok-false.ensures.sound (c.steps.invariant.sound h);
@@ -22,7 +24,8 @@ steps-preserved g c = record {
 pub returns-in-Ok-eq0-clause-all : goal.returns-in-Ok-eq0-clause-all
 returns-in-Ok-eq0-clause-all g c =
     read_all _ _ _ _ _ (end_of c.visit_front.new.capture c.held.result.now) c.end_in.result
-    (over_if _ (g.V.PacketVisitor.taken c.steps.visitor) _ _ (g.R.Read.remaining c.steps.reader) _ c.steps.capture _
+    (over_if _ (g.V.PacketVisitor.taken c.steps.visitor) _ _ (g.R.Read.remaining c.steps.reader) _
+    c.steps.capture _
     c.steps.buffer c.visit_front.new.buffer _ _ _ _ c.steps.invariant.on c.in-Ok-false.ensures.goes
     c.in-Ok-false.field-0-test
     c.in-Ok-eq0.ensures.ok c.in-Ok-eq0.field-0-test c.held.ensures) c.end_in.ensures
@@ -30,7 +33,8 @@ returns-in-Ok-eq0-clause-all g c =
 pub returns-in-Ok-eq0-clause-cause : goal.returns-in-Ok-eq0-clause-cause
 returns-in-Ok-eq0-clause-cause g c =
     read_cause _ _ _ _ _ (end_of c.visit_front.new.capture c.held.result.now) c.end_in.result
-    (over_if _ (g.V.PacketVisitor.taken c.steps.visitor) _ _ (g.R.Read.remaining c.steps.reader) _ c.steps.capture _
+    (over_if _ (g.V.PacketVisitor.taken c.steps.visitor) _ _ (g.R.Read.remaining c.steps.reader) _
+    c.steps.capture _
     c.steps.buffer c.visit_front.new.buffer _ _ _ _ c.steps.invariant.on c.in-Ok-false.ensures.goes
     c.in-Ok-false.field-0-test
     c.in-Ok-eq0.ensures.ok c.in-Ok-eq0.field-0-test c.held.ensures) c.end_in.ensures
@@ -38,5 +42,6 @@ returns-in-Ok-eq0-clause-cause g c =
 pub returns-in-Err-clause-cause : goal.returns-in-Err-clause-cause
 returns-in-Err-clause-cause g c =
     rw c.visit_error.ensures
-    (failed _ _ (g.V.PacketVisitor.taken c.steps.visitor) _ _ _ c.steps.capture c.steps.buffer _ c.steps.invariant.on
+    (failed _ _ (g.V.PacketVisitor.taken c.steps.visitor) _ _ _ c.steps.capture c.steps.buffer _
+    c.steps.invariant.on
     c.in-Err.ensures.goes)

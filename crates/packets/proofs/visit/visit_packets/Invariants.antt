@@ -6,5 +6,6 @@ abbrev pub invariant-steps : goal.invariant-steps
 invariant-steps g l = record {
   on : IsOn (g.V.PacketVisitor.taken l.initial.visitor) (g.V.PacketVisitor.taken l.visitor)
       (g.R.Read.remaining l.initial.reader) (g.R.Read.remaining l.reader) l.capture l.buffer;
-  sound : g.V.PacketVisitor.is_sound l.initial.visitor ≡ true → g.V.PacketVisitor.is_sound l.visitor ≡ true;
+  sound : g.V.PacketVisitor.is_sound l.initial.visitor ≡ true
+      → g.V.PacketVisitor.is_sound l.visitor ≡ true;
 }

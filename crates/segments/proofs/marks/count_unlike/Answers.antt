@@ -14,18 +14,23 @@ loop-i-preserved c =
     elim c.if-marks-i.branch [
       | then-marks-i+then-is_unlike w ↦ (
         omega (arith, inv.0, w.count-is),
-        unlike_one ms bs ys i c.loop-i.count c.if-marks-i.count _ true true c.requires.bytes c.requires.new
-            c.loop-i-test.true w.if-marks-i.true (unlike_is _ _ w.if-is_unlike.true) w.count-is inv.1,
+        unlike_one ms bs ys i c.loop-i.count c.if-marks-i.count _ true true c.requires.bytes
+            c.requires.new
+            c.loop-i-test.true w.if-marks-i.true (unlike_is _ _ w.if-is_unlike.true)
+            w.count-is inv.1,
       )
       | else-marks-i w ↦ elim w.else-marks-i.branch [
         | else-marks-i-via-then-marks-i+else-is_unlike v ↦ (
           omega (arith, inv.0, w.count-is),
-          unlike_one ms bs ys i c.loop-i.count c.if-marks-i.count _ true false c.requires.bytes c.requires.new
-              c.loop-i-test.true v.if-marks-i.true (alike_is _ _ v.if-is_unlike.false) (omega (arith, w.count-is)) inv.1,
+          unlike_one ms bs ys i c.loop-i.count c.if-marks-i.count _ true false c.requires.bytes
+              c.requires.new
+              c.loop-i-test.true v.if-marks-i.true (alike_is _ _ v.if-is_unlike.false)
+              (omega (arith, w.count-is)) inv.1,
         )
         | else-marks-i-via-else-marks-i v ↦ (
           omega (arith, inv.0, w.count-is),
-          unlike_one ms bs ys i c.loop-i.count c.if-marks-i.count _ false _ c.requires.bytes c.requires.new
+          unlike_one ms bs ys i c.loop-i.count c.if-marks-i.count _ false _ c.requires.bytes
+              c.requires.new
               c.loop-i-test.true v.if-marks-i.false refl (omega (arith, w.count-is)) inv.1,
         )
       ]

@@ -23,15 +23,20 @@ loop-i-preserved c =
     let k : length (marked ms0 bs0) ≡ length ms = omega (arith, long, same.marks) in
     let m : length ys ≡ length ms = omega (arith, c.requires.new, same.marks) in
     elim c.if-not-marks-i.branch [
-      | then-not-marks-i w ↦ filling_put (marked ms0 bs0) ys i c.loop-i.count c.if-not-marks-i.count ms
-          c.if-not-marks-i.marks bs c.if-not-marks-i.bytes c.loop-i.invariant h l k m w.if-not-marks-i.true
+      | then-not-marks-i w ↦
+          filling_put (marked ms0 bs0) ys i c.loop-i.count c.if-not-marks-i.count ms
+          c.if-not-marks-i.marks bs c.if-not-marks-i.bytes c.loop-i.invariant h l k m
+          w.if-not-marks-i.true
           w.marks-is w.bytes-is w.count-is
-      | else-not-marks-i w ↦ filling_kept (marked ms0 bs0) ys i c.loop-i.count c.if-not-marks-i.count ms
-          c.if-not-marks-i.marks bs c.if-not-marks-i.bytes c.loop-i.invariant h l k m w.if-not-marks-i.false
+      | else-not-marks-i w ↦
+          filling_kept (marked ms0 bs0) ys i c.loop-i.count c.if-not-marks-i.count ms
+          c.if-not-marks-i.marks bs c.if-not-marks-i.bytes c.loop-i.invariant h l k m
+          w.if-not-marks-i.false
           w.marks-is w.bytes-is w.count-is
     ]
 
 pub returns-clause-filled : goal.returns-clause-filled
 returns-clause-filled c =
-    filling_ends (marked c.args.marks.now c.args.bytes.now) c.args.new.now c.loop-i.i c.loop-i.count _
+    filling_ends (marked c.args.marks.now c.args.bytes.now) c.args.new.now c.loop-i.i
+    c.loop-i.count _
     c.loop-i.invariant c.loop-i-test.false

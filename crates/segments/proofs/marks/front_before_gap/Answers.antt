@@ -7,9 +7,11 @@ returns-then-not-marks-i c =
 
 pub loop-i-preserved : goal.loop-i-preserved
 loop-i-preserved c =
-    run_so_far c.args.marks.now c.args.bytes.now c.loop-i.i c.requires c.loop-i-test.true c.if-not-marks-i.false
+    run_so_far c.args.marks.now c.args.bytes.now c.loop-i.i c.requires c.loop-i-test.true
+    c.if-not-marks-i.false
     c.loop-i.invariant
 
 pub returns : goal.returns
 returns c =
-    run_ended c.args.marks.now c.args.bytes.now c.loop-i.i c.requires c.loop-i-test.false c.loop-i.invariant
+    run_ended c.args.marks.now c.args.bytes.now c.loop-i.i c.requires c.loop-i-test.false
+    c.loop-i.invariant

@@ -12,6 +12,8 @@ loop-done-preserved c =
     let same : done + most - done ≡ most = omega arith in
     let fits : done + most ≤ length ys = omega (arith, inv.0, most_is, c.loop-done-test.true) in (
       fits,
-      over_more c.loop-done.out.items c.append_over_page.new.out.items c.args.out.now.items _ ys c.args.first done most
-          (done + most - done) c.args.pages.now same fits inv.1 c.in_ok-append_over_page.ensures.out,
+      over_more c.loop-done.out.items c.append_over_page.new.out.items c.args.out.now.items _ ys
+          c.args.first done most
+          (done + most - done) c.args.pages.now same fits inv.1
+          c.in_ok-append_over_page.ensures.out,
     )

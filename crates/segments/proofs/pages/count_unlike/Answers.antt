@@ -15,6 +15,7 @@ loop-done-preserved c =
     let long = part_long ys done most (done + most - done) same fits in (
       omega (arith, inv.0, more.within, long),
       fits,
-      unlike_more ys c.args.first done most (done + most - done) c.loop-done.count c.unlike_in_page-count.result
+      unlike_more ys c.args.first done most (done + most - done) c.loop-done.count
+          c.unlike_in_page-count.result
           c.args.pages.now same fits inv.2 more.is,
     )

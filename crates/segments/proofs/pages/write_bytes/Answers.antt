@@ -24,7 +24,8 @@ loop-done-preserved c =
       subst (λ xs. IsWritten c.args.at xs c.args.pages.now c.write_in_page-count.new.pages
           (c.loop-done.count + c.write_in_page-count.result))
           (ap (λ j. take done ys ++ take j (drop done ys)) same ∙ sym (take-add done most ys))
-          (written_on c.args.at (c.args.at + done) c.loop-done.count c.write_in_page-count.result (take done ys) _
+          (written_on c.args.at (c.args.at + done) c.loop-done.count c.write_in_page-count.result
+          (take done ys) _
           c.args.pages.now c.loop-done.pages c.write_in_page-count.new.pages
           (ap (λ n. c.args.at + n) (sym front)) inv.2 more.written),
     )

@@ -12,7 +12,8 @@ loop-segment-init c = (
       subst (λ h. IsHandingOut stream (IsCovered c.args.first_place []) c.new-out.result.items h)
       (sym c.new-stream.ensures)
       (subst (λ o. IsHandingOut stream (IsCovered c.args.first_place []) o record
-      { first = c.args.first_place; limit = c.args.limit; taken = 0; cells = [] }) (sym c.new-out.ensures.items)
+      { first = c.args.first_place; limit = c.args.limit; taken = 0; cells = [] }) (sym
+      c.new-out.ensures.items)
       (handing_starts stream c.args.first_place c.args.limit)),
 )
 
@@ -33,9 +34,11 @@ loop-segment-preserved c =
     let next = take_more ss i (0, record { ref_ptr = (0, 0); now = [] }) c.loop-segment-test.true in (
       ap (λ h. h.first) new ∙ c.loop-segment.invariant.0,
       λ stream short parts.
-          subst (λ o. IsHandingOut stream (IsCovered f (take (i + 1) ss)) o c.take.new.self) (sym out)
+          subst (λ o. IsHandingOut stream (IsCovered f (take (i + 1) ss)) o c.take.new.self)
+          (sym out)
           (subst (λ h. IsHandingOut stream (IsCovered f (take (i + 1) ss))
-          (c.loop-segment.out.items ++ run (with_segment s.0 s.1.now c.loop-segment.stream).cells) h) (sym new)
+          (c.loop-segment.out.items ++ run (with_segment s.0 s.1.now c.loop-segment.stream).cells)
+          h) (sym new)
           (subst (λ xs. IsHandingOut stream (IsCovered f xs)
           (c.loop-segment.out.items ++ run (with_segment s.0 s.1.now c.loop-segment.stream).cells)
           (without_front (length (run (with_segment s.0 s.1.now c.loop-segment.stream).cells))
@@ -48,7 +51,10 @@ loop-segment-preserved c =
 pub returns : goal.returns
 returns c = λ stream short parts.
     let all = take_all c.loop-segment.segment-index c.args.segments.now c.loop-segment-test.false in
-    longest stream (IsCovered c.args.first_place c.args.segments.now) c.loop-segment.out.items c.loop-segment.stream
-    (subst (λ ss. IsHandingOut stream (IsCovered c.args.first_place ss) c.loop-segment.out.items c.loop-segment.stream)
+    longest stream (IsCovered c.args.first_place c.args.segments.now) c.loop-segment.out.items
+    c.loop-segment.stream
+    (subst (λ ss. IsHandingOut stream (IsCovered c.args.first_place ss) c.loop-segment.out.items
+    c.loop-segment.stream)
     all
-    (c.loop-segment.invariant.1 stream short (subst (AreParts stream c.args.first_place) (sym all) parts)))
+    (c.loop-segment.invariant.1 stream short
+    (subst (AreParts stream c.args.first_place) (sym all) parts)))

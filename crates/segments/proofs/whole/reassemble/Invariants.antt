@@ -7,5 +7,7 @@ use Rattle.segments.proofs.whole.reassemble.Given as goal
 abbrev pub invariant-loop-segment : goal.invariant-loop-segment
 invariant-loop-segment l =
     (l.stream.first ≡ l.first_place)
-    × ((stream : Bytes) → length stream < 2 ^ 31 → AreParts stream l.first_place (take l.segment-index l.segments)
-    → IsHandingOut stream (IsCovered l.first_place (take l.segment-index l.segments)) l.out.items l.stream)
+    × ((stream : Bytes) → length stream < 2 ^ 31
+    → AreParts stream l.first_place (take l.segment-index l.segments)
+    → IsHandingOut stream (IsCovered l.first_place (take l.segment-index l.segments))
+    l.out.items l.stream)

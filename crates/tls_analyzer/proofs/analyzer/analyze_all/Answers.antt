@@ -5,7 +5,8 @@ pub loop-side-preserved : goal.loop-side-preserved
 loop-side-preserved c = (
   c.loop-side.invariant.0,
   c.loop-side.invariant.1,
-  piece_heard c.loop-side.invariant.0 c.loop-side.analyzer c.hear.new.self c.args.pieces.now c.loop-side.side-index _
+  piece_heard c.loop-side.invariant.0 c.loop-side.analyzer c.hear.new.self c.args.pieces.now
+      c.loop-side.side-index _
       c.loop-side-test.true
       c.loop-side.invariant.2 c.in_ok-hear.ensures,
 )
@@ -14,7 +15,8 @@ pub returns : goal.returns
 returns c = record {
   begun = c.loop-side.invariant.0;
   new = c.loop-side.invariant.1;
-  heard = all_heard c.loop-side.invariant.0 c.loop-side.analyzer c.args.pieces.now c.loop-side.side-index
+  heard = all_heard c.loop-side.invariant.0 c.loop-side.analyzer c.args.pieces.now
+      c.loop-side.side-index
       c.loop-side-test.false
       c.loop-side.invariant.2;
 }

@@ -1,4 +1,4 @@
--- the pieces so far were heard, from a beginning on
+-- the pieces so far were read, from the beginning
 use Rattle.std.proofs.Common.{take}
 use Rattle.tls_stream.specs.Conversations.{views}
 use Rattle.tls_analyzer.specs.Analyzers.{AreHeardOn, IsNew}
@@ -6,4 +6,5 @@ use Rattle.tls_analyzer.specs.declared.analyzer.Analyzer.{Analyzer}
 use Rattle.tls_analyzer.proofs.analyzer.analyze_all.Given as goal
 
 abbrev pub invariant-loop-side : goal.invariant-loop-side
-invariant-loop-side l = (t : Analyzer) × IsNew t × AreHeardOn t (views (take l.side-index l.pieces)) l.analyzer
+invariant-loop-side l =
+    (t : Analyzer) × IsNew t × AreHeardOn t (views (take l.side-index l.pieces)) l.analyzer

@@ -8,17 +8,21 @@ use Rattle.tls_analyzer.proofs.hearer.tell.Goals as goal
 
 pub returns-clause-flow : goal.returns-clause-flow
 returns-clause-flow g c =
-    same_step c.args.side (view_said c.args.said.now) (option_map view_heard c.said_message-message.result)
+    same_step c.args.side (view_said c.args.said.now)
+    (option_map view_heard c.said_message-message.result)
     c.of_message-kind.result c.said_event_with-event.result c.args.flow.now c.step.new.flow
     (view_summary c.args.handshake.now) (search rules)
     (c.of_message-kind.ensures
-    ∙ ap kind_of_message (copied_view view_heard c.as_ref.result c.said_message-message.result c.as_ref.ensures.value))
+    ∙ ap kind_of_message
+    (copied_view view_heard c.as_ref.result c.said_message-message.result c.as_ref.ensures.value))
     (search rules) (search rules)
 
 pub returns-clause-event : goal.returns-clause-event
 returns-clause-event g c =
-    same_event c.args.side (view_said c.args.said.now) (option_map view_heard c.said_message-message.result)
+    same_event c.args.side (view_said c.args.said.now)
+    (option_map view_heard c.said_message-message.result)
     c.of_message-kind.result c.said_event_with-event.result (search rules)
     (c.of_message-kind.ensures
-    ∙ ap kind_of_message (copied_view view_heard c.as_ref.result c.said_message-message.result c.as_ref.ensures.value))
+    ∙ ap kind_of_message
+    (copied_view view_heard c.as_ref.result c.said_message-message.result c.as_ref.ensures.value))
     (search rules)

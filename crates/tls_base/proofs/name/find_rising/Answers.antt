@@ -9,4 +9,5 @@ returns-in-Some c =
     ∙ sym (found_beside c.args.numbers.now c.args.names.now c.args.n c.in-Some.k c.in-Some.ensures)
 
 pub returns-in-None : goal.returns-in-None
-returns-in-None c = sym (found_nowhere c.args.numbers.now c.args.names.now c.args.n c.in-None.ensures)
+returns-in-None c =
+    sym (found_nowhere c.args.numbers.now c.args.names.now c.args.n c.in-None.ensures)

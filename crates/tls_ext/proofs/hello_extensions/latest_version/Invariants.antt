@@ -11,4 +11,5 @@ invariant-loop-version l =
     (goal.iterator-loop-version).can_next l.version-iterator ×
     (goal.iterator-loop-version).is_finite l.version-iterator ×
     (latest (items_in (number 2) l.fn.versions.bytes.now)
-    ≡ with_known (option_map (λ v. v.0) l.best) (latest (items_in (number 2) l.version-iterator.bytes.now)))
+    ≡ with_known (option_map (λ v. v.0) l.best)
+    (latest (items_in (number 2) l.version-iterator.bytes.now)))

@@ -10,4 +10,5 @@ on_ok (Err e) P p = tt
 
 pub returns-clause-reads_back : goal.returns-clause-reads_back
 returns-clause-reads_back g c = on_ok c.write_whole.result _
-    (extensions_read (map view c.args.extensions.now) c.in_ok-len.ensures.0 c.append_extensions.ensures.range)
+    (extensions_read (map view c.args.extensions.now) c.in_ok-len.ensures.0
+    c.append_extensions.ensures.range)

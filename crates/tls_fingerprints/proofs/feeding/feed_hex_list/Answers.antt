@@ -16,7 +16,8 @@ loop-n-preserved c = λ m held.
     let front = m ++ flat_map (λ n. 44 ∷ four_digits n) (take i os) in
     subst (Holds256 c.update-in-loop-n.new.self)
     (ap (λ t. front ++ t) c.led_digits-digits.ensures
-    ∙ append_assoc m (flat_map (λ n. 44 ∷ four_digits n) (take i os)) (44 ∷ four_digits (get_or os i 0))
+    ∙ append_assoc m (flat_map (λ n. 44 ∷ four_digits n) (take i os))
+    (44 ∷ four_digits (get_or os i 0))
     ∙ ap (λ t. m ++ t) (sym (each_next (λ n. 44 ∷ four_digits n) os i 0 short)))
     (c.update-in-loop-n.ensures front (c.loop-n.invariant m held))
 
@@ -25,8 +26,10 @@ returns c = λ m held.
     let over : length c.in-Some.others.now ≤ c.loop-n.n-index = omega arith in
     let front = m ++ four_digits c.in-Some.first.now in
     subst (Holds256 c.loop-n.text)
-    (joined_all 44 four_digits c.in-Some.first.now c.in-Some.others.now c.args.numbers.now c.loop-n.n-index m front
+    (joined_all 44 four_digits c.in-Some.first.now c.in-Some.others.now c.args.numbers.now
+    c.loop-n.n-index m front
     (front ++ flat_map (λ n. 44 ∷ four_digits n) (take c.loop-n.n-index c.in-Some.others.now))
     c.in-Some.ensures.cases.0 refl refl over)
     (c.loop-n.invariant front
-    (subst (Holds256 c.update.new.self) (ap (λ t. m ++ t) c.four_digits-digits.ensures) (c.update.ensures m held)))
+    (subst (Holds256 c.update.new.self) (ap (λ t. m ++ t) c.four_digits-digits.ensures)
+    (c.update.ensures m held)))

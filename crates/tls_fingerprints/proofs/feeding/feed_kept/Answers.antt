@@ -24,7 +24,8 @@ loop-n-init c =
       is_finite = tt;
       ahead = λ m held. ahead_begins Holds c.args.text.now m
           (dashed (without_grease (items_in (number 2) c.args.numbers.bytes.now)))
-          (dashed (without_grease (items_in (number 2) c.into_iter-n-iterator.result.bytes.now))) held
+          (dashed (without_grease (items_in (number 2) c.into_iter-n-iterator.result.bytes.now)))
+          held
           (ap (λ b. dashed (without_grease (items_in (number 2) b))) same);
     }
 
@@ -34,7 +35,8 @@ loop-n-preserved-then-is_grease c = record {
   is_finite = tt;
   ahead = λ m held. ahead_stays Holds c.loop-n.text _ _ _ (c.loop-n.invariant.ahead m held)
       (ap (left_text 45 decimal c.loop-n.is_first)
-      (kept_skips _ _ c.in-Some.n c.in-Some.ensures.steps (sym c.is_grease.ensures ∙ c.if-is_grease.true)));
+      (kept_skips _ _ c.in-Some.n c.in-Some.ensures.steps
+      (sym c.is_grease.ensures ∙ c.if-is_grease.true)));
 }
 
 pub loop-n-preserved : goal.loop-n-preserved
@@ -44,7 +46,8 @@ loop-n-preserved c = record {
   ahead = λ m held. ahead_goes_on Holds c.loop-n.text c.feed_next.new.text _ _
       (behind_others 45 c.loop-n.is_first (decimal c.in-Some.n)) _ (c.loop-n.invariant.ahead m held)
       (ap (left_text 45 decimal c.loop-n.is_first)
-      (kept_keeps _ _ c.in-Some.n c.in-Some.ensures.steps (sym c.is_grease.ensures ∙ c.if-is_grease.false))
+      (kept_keeps _ _ c.in-Some.n c.in-Some.ensures.steps
+      (sym c.is_grease.ensures ∙ c.if-is_grease.false))
       ∙ left_next 45 decimal c.loop-n.is_first c.in-Some.n
       (without_grease (items_in (number 2) c.next.new.self.bytes.now)))
       c.feed_next.ensures;

@@ -12,5 +12,6 @@ invariant-loop-n l = record {
   is_finite : (goal.iterator-loop-n).is_finite l.n-iterator;
   ahead : (m : List ℕ) → Holds l.initial.text m → IsAhead Holds l.text
       (m ++ dashed (without_grease (items_in (number 2) l.fn.numbers.bytes.now)))
-      (left_text 45 decimal l.is_first (without_grease (items_in (number 2) l.n-iterator.bytes.now)));
+      (left_text 45 decimal l.is_first
+      (without_grease (items_in (number 2) l.n-iterator.bytes.now)));
 }

@@ -12,5 +12,6 @@ invariant-loop-kind l = record {
   is_finite : (goal.iterator-loop-kind).is_finite l.kind-iterator;
   ahead : (m : List ℕ) → Holds l.initial.text m → IsAhead Holds l.text
       (m ++ dashed (without_grease (items_in extension_type l.fn.types.bytes.now)))
-      (left_text 45 decimal l.is_first (without_grease (items_in extension_type l.kind-iterator.bytes.now)));
+      (left_text 45 decimal l.is_first
+      (without_grease (items_in extension_type l.kind-iterator.bytes.now)));
 }

@@ -9,7 +9,9 @@ use Rattle.tls_fingerprints.proofs.laws.ja4_types_in_any_order.Goals as goal
 pub returns : goal.returns
 returns c g h moved e =
     ap (λ ns. with_algorithms (hex_list ns) (without_grease (algorithms_in g.extensions)))
-    (rising_kept_twice (λ n. not (is_grease n)) (λ n. not (is_told_before n)) (types_in g.extensions)
+    (rising_kept_twice (λ n. not (is_grease n)) (λ n. not (is_told_before n))
+    (types_in g.extensions)
     (types_in h.extensions) moved)
-    ∙ ap (λ ns. with_algorithms (hex_list (rising (other_types (without_grease (types_in h.extensions)))))
+    ∙ ap (λ ns. with_algorithms
+    (hex_list (rising (other_types (without_grease (types_in h.extensions)))))
     (without_grease ns)) e

@@ -5,5 +5,6 @@ use Rattle.tls_fingerprints.proofs.numbers.add_dashed.Goals as goal
 pub returns : goal.returns
 returns g c =
     let over : length c.in-Some.others.now ≤ c.loop-n.n-index = omega arith in
-    joined_all 45 g.N.Integer.text c.in-Some.first.now c.in-Some.others.now c.args.numbers.now c.loop-n.n-index _ _ _
+    joined_all 45 g.N.Integer.text c.in-Some.first.now c.in-Some.others.now c.args.numbers.now
+    c.loop-n.n-index _ _ _
     c.in-Some.ensures.cases.0 c.in_ok-add_decimal.ensures c.loop-n.invariant over

@@ -6,6 +6,8 @@ use Rattle.tls_fingerprints.proofs.numbers.push_hex_list.Goals as goal
 pub returns : goal.returns
 returns c =
     let over : length c.in-Some.others.now ≤ c.loop-n.n-index = omega arith in
-    let begun : c.extend_from_slice.new.self.items ≡ c.args.text.now.items ++ four_digits c.in-Some.first.now = search rules in
-    joined_all 44 four_digits c.in-Some.first.now c.in-Some.others.now c.args.numbers.now c.loop-n.n-index _ _ _
+    let begun : c.extend_from_slice.new.self.items ≡ c.args.text.now.items ++ four_digits
+    c.in-Some.first.now = search rules in
+    joined_all 44 four_digits c.in-Some.first.now c.in-Some.others.now c.args.numbers.now
+    c.loop-n.n-index _ _ _
     c.in-Some.ensures.cases.0 begun c.loop-n.invariant over

@@ -23,17 +23,20 @@ loop-n-preserved-then-is_grease c = record {
   is_finite = tt;
   within = c.loop-n.invariant.within;
   kept = ap (λ ns. take c.loop-n.count c.loop-n.room ++ ns)
-      (sym (kept_skips _ _ c.in-Some.n c.in-Some.ensures.steps (sym c.is_grease.ensures ∙ c.if-is_grease.true)))
+      (sym (kept_skips _ _ c.in-Some.n c.in-Some.ensures.steps
+      (sym c.is_grease.ensures ∙ c.if-is_grease.true)))
       ∙ c.loop-n.invariant.kept;
 }
 
 pub loop-n-preserved : goal.loop-n-preserved
 loop-n-preserved c =
     let short : c.loop-n.count < length c.loop-n.room = search rules in
-    let keeps = kept_keeps _ _ c.in-Some.n c.in-Some.ensures.steps (sym c.is_grease.ensures ∙ c.if-is_grease.false) in
+    let keeps = kept_keeps _ _ c.in-Some.n c.in-Some.ensures.steps
+    (sym c.is_grease.ensures ∙ c.if-is_grease.false) in
     record {
       can_next = tt;
       is_finite = tt;
       within = omega (arith, length-set c.loop-n.room c.loop-n.count c.in-Some.n);
-      kept = room_filled c.loop-n.room c.loop-n.count c.in-Some.n _ _ _ short keeps c.loop-n.invariant.kept;
+      kept = room_filled c.loop-n.room c.loop-n.count c.in-Some.n _ _ _ short keeps
+          c.loop-n.invariant.kept;
     }

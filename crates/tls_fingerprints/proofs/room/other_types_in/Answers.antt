@@ -23,7 +23,8 @@ loop-kind-init c =
 
 pub loop-kind-preserved-then-is_grease : goal.loop-kind-preserved-then-is_grease
 loop-kind-preserved-then-is_grease c =
-    let skips = kept_skips _ _ c.in-Some.kind.0 c.in-Some.ensures.steps (sym c.is_grease.ensures ∙ c.if-is_grease.true) in
+    let skips = kept_skips _ _ c.in-Some.kind.0 c.in-Some.ensures.steps
+    (sym c.is_grease.ensures ∙ c.if-is_grease.true) in
     record {
       can_next = tt;
       is_finite = tt;
@@ -37,32 +38,39 @@ loop-kind-preserved-then-is_grease c =
 pub loop-kind-preserved-then-is_told_before : goal.loop-kind-preserved-then-is_told_before
 loop-kind-preserved-then-is_told_before c =
     let short : c.loop-kind.all < length c.loop-kind.room = search rules in
-    let keeps = kept_keeps _ _ c.in-Some.kind.0 c.in-Some.ensures.steps (sym c.is_grease.ensures ∙ c.if-is_grease.false) in
+    let keeps = kept_keeps _ _ c.in-Some.kind.0 c.in-Some.ensures.steps
+    (sym c.is_grease.ensures ∙ c.if-is_grease.false) in
     let fewer = c.loop-kind.invariant.fewer in
     record {
       can_next = tt;
       is_finite = tt;
       within = omega (arith, short);
       fewer = omega (arith, fewer);
-      counted = counted_more c.loop-kind.all c.in-Some.kind.0 _ _ _ keeps c.loop-kind.invariant.counted;
+      counted = counted_more c.loop-kind.all c.in-Some.kind.0 _ _ _ keeps
+          c.loop-kind.invariant.counted;
       kept = ap (λ ns. take c.loop-kind.others c.loop-kind.room ++ ns)
-          (sym (others_skip _ _ c.in-Some.kind.0 keeps (sym c.is_told_before.ensures ∙ c.if-is_told_before.true)))
+          (sym (others_skip _ _ c.in-Some.kind.0 keeps
+          (sym c.is_told_before.ensures ∙ c.if-is_told_before.true)))
           ∙ c.loop-kind.invariant.kept;
     }
 
 pub loop-kind-preserved : goal.loop-kind-preserved
 loop-kind-preserved c =
     let short : c.loop-kind.all < length c.loop-kind.room = search rules in
-    let keeps = kept_keeps _ _ c.in-Some.kind.0 c.in-Some.ensures.steps (sym c.is_grease.ensures ∙ c.if-is_grease.false) in
+    let keeps = kept_keeps _ _ c.in-Some.kind.0 c.in-Some.ensures.steps
+    (sym c.is_grease.ensures ∙ c.if-is_grease.false) in
     let fewer = c.loop-kind.invariant.fewer in
     let room : c.loop-kind.others < length c.loop-kind.room = omega (arith, short, fewer) in
     record {
       can_next = tt;
       is_finite = tt;
-      within = omega (arith, short, length-set c.loop-kind.room c.loop-kind.others c.in-Some.kind.0);
+      within = omega
+          (arith, short, length-set c.loop-kind.room c.loop-kind.others c.in-Some.kind.0);
       fewer = omega (arith, fewer);
-      counted = counted_more c.loop-kind.all c.in-Some.kind.0 _ _ _ keeps c.loop-kind.invariant.counted;
+      counted = counted_more c.loop-kind.all c.in-Some.kind.0 _ _ _ keeps
+          c.loop-kind.invariant.counted;
       kept = room_filled c.loop-kind.room c.loop-kind.others c.in-Some.kind.0 _ _ _ room
-          (others_keep _ _ c.in-Some.kind.0 keeps (sym c.is_told_before.ensures ∙ c.if-is_told_before.false))
+          (others_keep _ _ c.in-Some.kind.0 keeps
+          (sym c.is_told_before.ensures ∙ c.if-is_told_before.false))
           c.loop-kind.invariant.kept;
     }

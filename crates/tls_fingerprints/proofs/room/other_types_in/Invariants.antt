@@ -13,6 +13,7 @@ invariant-loop-kind l = record {
   fewer : l.others ≤ l.all;
   counted : l.all + length (without_grease (items_in extension_type l.kind-iterator.bytes.now))
       ≡ length (without_grease (items_in extension_type l.fn.types.bytes.now));
-  kept : take l.others l.room ++ other_types (without_grease (items_in extension_type l.kind-iterator.bytes.now))
+  kept : take l.others l.room ++ other_types
+      (without_grease (items_in extension_type l.kind-iterator.bytes.now))
       ≡ other_types (without_grease (items_in extension_type l.fn.types.bytes.now));
 }

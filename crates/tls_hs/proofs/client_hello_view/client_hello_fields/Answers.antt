@@ -20,15 +20,19 @@ returns-clause-lies c =
       after_cookie = c.in_ok-i-4.i.now;
       after_suites = c.in_ok-i-5.i.now;
       after_methods = c.in_ok-i-6.i.now;
-      version = number_leads 2 c.args.i.now c.in_ok-i.version.0 c.in_ok-i.i.now c.in_ok-i.ensures.allowed;
+      version = number_leads 2 c.args.i.now c.in_ok-i.version.0 c.in_ok-i.i.now
+          c.in_ok-i.ensures.allowed;
       random = random.0;
       size = random.1;
-      session_id = session_id_leads c.in_ok-i-2.i.now (option_map (λ x. x.now) c.in_ok-i-3.session_id)
+      session_id =
+          session_id_leads c.in_ok-i-2.i.now (option_map (λ x. x.now) c.in_ok-i-3.session_id)
           c.in_ok-i-3.i.now c.in_ok-i-3.ensures.allowed;
-      cookie = cookie_leads c.args.has_cookie c.in_ok-i-3.i.now (option_map (λ x. x.now) c.in_ok-i-4.cookie)
+      cookie = cookie_leads c.args.has_cookie c.in_ok-i-3.i.now
+          (option_map (λ x. x.now) c.in_ok-i-4.cookie)
           c.in_ok-i-4.i.now c.in_ok-i-4.ensures.allowed;
       cipher_suites = c.in_ok-i-5.ensures.leads;
       compression_methods = c.in_ok-i-6.ensures.leads;
-      extensions = extensions_lead c.in_ok-i-6.i.now (option_map (λ x. x.now) c.extension_block.result.1)
+      extensions =
+          extensions_lead c.in_ok-i-6.i.now (option_map (λ x. x.now) c.extension_block.result.1)
           c.extension_block.result.0.now c.extension_block.ensures.allowed;
     })

@@ -6,5 +6,6 @@ use Rattle.tls_hs.proofs.hello_fields.cipher_suites_in_place.Goals as goal
 pub returns-clause-leads : goal.returns-clause-leads
 returns-clause-leads c =
     subst (λ x. Leads 2 c.args.i.now x c.split_at.result.1.now) (sym c.new.ensures)
-    (cut_leads 2 _ c.args.i.now c.in_ok-after.after.now c.split_at.result.0.now c.split_at.result.1.now
+    (cut_leads 2 _ c.args.i.now c.in_ok-after.after.now c.split_at.result.0.now
+    c.split_at.result.1.now
     c.in_ok-after.k c.in_ok-after.ensures.allowed c.split_at.ensures.front c.split_at.ensures.back)

@@ -14,5 +14,7 @@ returns c =
     ∷ bytes (codes "record_digest") read.record_digest.now
     ∷ bytes (codes "encrypted_sni") read.encrypted_sni.now
     ∷ [] in
-    let shared = c.add.ensures.fields _ share (c.hexadecimal.ensures [] c.new.ensures.fields) c.share_of.ensures in
-    names_shown c.finish.result all (c.finish.ensures.fields _ (c.bytes-2.ensures _ (c.bytes.ensures _ shared)))
+    let shared = c.add.ensures.fields _ share (c.hexadecimal.ensures [] c.new.ensures.fields)
+    c.share_of.ensures in
+    names_shown c.finish.result all
+    (c.finish.ensures.fields _ (c.bytes-2.ensures _ (c.bytes.ensures _ shared)))

@@ -10,4 +10,5 @@ returns c =
     let all : Entries =
     decimal (codes "name_type") c.from.result ∷ (codes "host_name", data_of host_name) ∷ [] in
     names_shown c.finish.result all
-    (c.finish.ensures.fields _ (c.add.ensures.fields _ (data_of host_name) typed (shows_itself host_name)))
+    (c.finish.ensures.fields _
+    (c.add.ensures.fields _ (data_of host_name) typed (shows_itself host_name)))

@@ -13,13 +13,18 @@ print_items-returns g t c =
     let first = g.S.Serializer.written c.begin_seq.new.self in
     let end = g.S.Serializer.written c.end_seq.new.self in
     let len : c.len.result ≡ length c.args.items.now.items = search rules in
-    let begun = subst (λ n. Logs (g.S.Serializer.written c.args.out.now) first (seq_begins (Some n))) (len ∙ sym (items_len-items_view c.args.items.now.items)) c.in_ok-begin_seq.ensures in
-    let none : drop c.loop-item.item-index xs ≡ [] = drop_all c.loop-item.item-index xs (omega arith) in
+    let begun = subst
+    (λ n. Logs (g.S.Serializer.written c.args.out.now) first (seq_begins (Some n)))
+    (len ∙ sym (items_len-items_view c.args.items.now.items)) c.in_ok-begin_seq.ensures in
+    let none : drop c.loop-item.item-index xs ≡ [] =
+    drop_all c.loop-item.item-index xs (omega arith) in
     on_ok_weaker c.end_seq.result (λ e. (
       first,
       begun,
       subst (λ ys. SendsItems (items_view ys) first end) c.deref-item-items.ensures.value
-          (c.loop-item.invariant end (subst (λ ys. SendsItems (items_view ys) (g.S.Serializer.written c.loop-item.out) end) (sym none) e)),
+          (c.loop-item.invariant end
+          (subst (λ ys. SendsItems (items_view ys) (g.S.Serializer.written c.loop-item.out) end)
+          (sym none) e)),
     )) c.end_seq.ensures
 
 pub print_fields-returns : goal.print_fields-returns
@@ -28,11 +33,16 @@ print_fields-returns g t c =
     let first = g.S.Serializer.written c.begin_map.new.self in
     let end = g.S.Serializer.written c.end_map.new.self in
     let len : c.len.result ≡ length c.args.fields.now.items = search rules in
-    let begun = subst (λ n. Logs (g.S.Serializer.written c.args.out.now) first (map_begins (Some n))) (len ∙ sym (members_len-members_view c.args.fields.now.items)) c.in_ok-begin_map.ensures in
-    let none : drop c.loop-name.name-index xs ≡ [] = drop_all c.loop-name.name-index xs (omega arith) in
+    let begun = subst
+    (λ n. Logs (g.S.Serializer.written c.args.out.now) first (map_begins (Some n)))
+    (len ∙ sym (members_len-members_view c.args.fields.now.items)) c.in_ok-begin_map.ensures in
+    let none : drop c.loop-name.name-index xs ≡ [] =
+    drop_all c.loop-name.name-index xs (omega arith) in
     on_ok_weaker c.end_map.result (λ e. (
       first,
       begun,
       subst (λ ys. SendsMembers (members_view ys) first end) c.deref-name-items.ensures.value
-          (c.loop-name.invariant end (subst (λ ys. SendsMembers (members_view ys) (g.S.Serializer.written c.loop-name.out) end) (sym none) e)),
+          (c.loop-name.invariant end
+          (subst (λ ys. SendsMembers (members_view ys) (g.S.Serializer.written c.loop-name.out)
+          end) (sym none) e)),
     )) c.end_map.ensures

@@ -16,13 +16,17 @@ returns-clause-places c =
     let said = held (option_map (λ x. x.now) c.in_ok-rest.cookie) in
     let cookie : Stands w c.unwrap_or.result said =
     subst (λ q. Stands w q said) (sym c.unwrap_or.ensures)
-    (held_there w c.client_hello_places_in-cookie_place.result.1 (option_map (λ x. x.now) c.in_ok-rest.cookie)
+    (held_there w c.client_hello_places_in-cookie_place.result.1
+    (option_map (λ x. x.now) c.in_ok-rest.cookie)
     (c.client_hello_places_in-cookie_place.ensures.cookie c.in_ok-rest.ensures.lies)) in
     record {
       random = subst (λ x. Stands w p.random x.now) (sym is.random) s.random;
-      session_id = subst (λ x. MayStand w p.session_id (option_map (λ y. y.now) x)) (sym is.session_id) s.session_id;
+      session_id = subst (λ x. MayStand w p.session_id (option_map (λ y. y.now) x))
+          (sym is.session_id) s.session_id;
       cookie = subst (λ x. Stands w c.unwrap_or.result x) (sym is.cookie) cookie;
       cipher_suites = subst (λ x. Stands w p.ciphers x.bytes.now) (sym is.ciphers) s.cipher_suites;
-      compression_methods = subst (λ x. Stands w p.comp x.bytes.now) (sym is.comp) s.compression_methods;
-      extensions = subst (λ x. MayStand w p.ext (option_map (λ y. y.now) x)) (sym is.ext) s.extensions;
+      compression_methods =
+          subst (λ x. Stands w p.comp x.bytes.now) (sym is.comp) s.compression_methods;
+      extensions =
+          subst (λ x. MayStand w p.ext (option_map (λ y. y.now) x)) (sym is.ext) s.extensions;
     }

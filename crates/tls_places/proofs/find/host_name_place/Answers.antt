@@ -9,8 +9,10 @@ use Rattle.tls_places.proofs.find.host_name_place.Goals as goal
 pub returns-in-Some-clause-tells : goal.returns-in-Some-clause-tells
 returns-in-Some-clause-tells c =
     c.outward.ensures.tells (host_name c.args.block.now)
-    (lies_there c.args.block.now c.in-Some.outer c.in_ok-outer.field-0 c.in-Some.is c.in_ok-outer.ensures.within)
-    (subst (λ x. IsWithin x c.first_name_place.result) c.bytes_at.ensures c.first_name_place.ensures.within)
+    (lies_there c.args.block.now c.in-Some.outer c.in_ok-outer.field-0 c.in-Some.is
+    c.in_ok-outer.ensures.within)
+    (subst (λ x. IsWithin x c.first_name_place.result) c.bytes_at.ensures
+    c.first_name_place.ensures.within)
     (part_told c.args.block.now c.bytes_at.result.now c.in-Some.outer
     (λ x. picked first_name (reading content.server_names x))
     (in_content content.server_names first_name) _ c.first_name_place.result (λ y. refl)

@@ -13,11 +13,14 @@ use Rattle.tls_places.proofs.find.protocol_names_place.Goals as goal
 list_stands : (c : goal.After-place_within)
     → Stands c.args.block.now c.place_within.result c.in_ok-inner.field-0-1-0.bytes.now
 list_stands c =
-    c.place_within.ensures (bytes_at c.args.block.now c.in-Some.outer) c.in_ok-inner.field-0-1-0.bytes.now
+    c.place_within.ensures (bytes_at c.args.block.now c.in-Some.outer)
+    c.in_ok-inner.field-0-1-0.bytes.now
     (lies_stands c.args.block.now c.in-Some.outer
-    (lies_there c.args.block.now c.in-Some.outer c.in_ok-outer.field-0 c.in-Some.is c.in_ok-outer.ensures.within))
+    (lies_there c.args.block.now c.in-Some.outer c.in_ok-outer.field-0 c.in-Some.is
+    c.in_ok-outer.ensures.within))
     (stands_same c.bytes_at.result.now
-    (bytes_at c.args.block.now c.in-Some.outer) c.in_ok-inner.field-0-1-0.bytes.now c.in_ok-inner.inner
+    (bytes_at c.args.block.now c.in-Some.outer) c.in_ok-inner.field-0-1-0.bytes.now
+    c.in_ok-inner.inner
     c.bytes_at.ensures c.in_ok-inner.ensures.stands)
 
 pub returns-clause-tells : goal.returns-clause-tells
@@ -27,7 +30,8 @@ returns-clause-tells c = record {
       ∙ sym (ap (in_content content.application_layer_protocol_negotiation names_of_protocols)
       (sym (told_there c.args.block.now c.in-Some.outer c.in_ok-outer.field-0 _ c.in-Some.is
       c.in_ok-outer.ensures.tells))
-      ∙ ap (λ x. picked names_of_protocols (reading content.application_layer_protocol_negotiation x))
+      ∙ ap (λ x. picked names_of_protocols
+      (reading content.application_layer_protocol_negotiation x))
       (sym c.bytes_at.ensures)
       ∙ ap (picked names_of_protocols) c.in_ok-inner.ensures.gives.read);
 }

@@ -11,4 +11,5 @@ returns-clause-stands g c = λ at.
 
 pub returns-clause-ends : goal.returns-clause-ends
 returns-clause-ends g c = λ at.
-    ends_read g.T.InPlace.layout c.args.whole.now c.args.i.now _ c.in_ok-rest.rest.now at c.in_ok-rest.ensures.allowed
+    ends_read g.T.InPlace.layout c.args.whole.now c.args.i.now _ c.in_ok-rest.rest.now at
+    c.in_ok-rest.ensures.allowed

@@ -9,11 +9,13 @@ use Rattle.tls_places.proofs.host_name.host_name_place_of_fragment.Goals as goal
 pub returns-in-Some-clause-tells : goal.returns-in-Some-clause-tells
 returns-in-Some-clause-tells c =
     c.outward.ensures.tells (name_in_body (body_of_type 1 c.args.fragment.now))
-    (lies_there c.args.fragment.now c.in-Some.outer c.in_ok-outer.field-0 c.in-Some.is c.in_ok-outer.ensures.within)
+    (lies_there c.args.fragment.now c.in-Some.outer c.in_ok-outer.field-0 c.in-Some.is
+    c.in_ok-outer.ensures.within)
     (subst (λ x. IsWithin x c.host_name_place_of_hello.result) c.bytes_at.ensures
     c.host_name_place_of_hello.ensures.within)
     (part_told c.args.fragment.now c.bytes_at.result.now c.in-Some.outer
-    (λ x. name_in_hello (reading client_hello x)) name_in_body _ c.host_name_place_of_hello.result (λ y. refl)
+    (λ x. name_in_hello (reading client_hello x)) name_in_body _ c.host_name_place_of_hello.result
+    (λ y. refl)
     c.bytes_at.ensures
     (told_there c.args.fragment.now c.in-Some.outer c.in_ok-outer.field-0 _ c.in-Some.is
     c.in_ok-outer.ensures.tells) c.host_name_place_of_hello.ensures.tells)

@@ -11,20 +11,26 @@ use Rattle.tls_places.proofs.host_name.host_name_place_of_hello.Goals as goal
 
 stand : (c : goal.After-outward) → MayStand c.args.body.now (Some c.in-Some.outer)
     (option_map (λ x. x.now) c.in_ok-rest.hello.ext)
-stand c = subst (λ p. MayStand c.args.body.now p (option_map (λ x. x.now) c.in_ok-rest.hello.ext)) c.in-Some.is
+stand c = subst (λ p. MayStand c.args.body.now p (option_map (λ x. x.now) c.in_ok-rest.hello.ext))
+    c.in-Some.is
     c.in_ok-rest.ensures.within.extensions
 
 lies : (c : goal.After-outward) → Lies c.args.body.now c.in-Some.outer
-lies c = (stands_held c.args.body.now c.in-Some.outer (option_map (λ x. x.now) c.in_ok-rest.hello.ext) (stand c)).within
+lies c = (stands_held c.args.body.now c.in-Some.outer
+    (option_map (λ x. x.now) c.in_ok-rest.hello.ext) (stand c)).within
 
-found : (c : goal.After-outward) → IsWithin (bytes_at c.args.body.now c.in-Some.outer) c.host_name_place.result
-found c = subst (λ x. IsWithin x c.host_name_place.result) c.bytes_at.ensures c.host_name_place.ensures.within
+found : (c : goal.After-outward)
+    → IsWithin (bytes_at c.args.body.now c.in-Some.outer) c.host_name_place.result
+found c = subst (λ x. IsWithin x c.host_name_place.result) c.bytes_at.ensures
+    c.host_name_place.ensures.within
 
 pub returns-in-Some-clause-tells : goal.returns-in-Some-clause-tells
 returns-in-Some-clause-tells c =
-    c.outward.ensures.tells (name_in_hello (reading client_hello c.args.body.now)) (lies c) (found c)
+    c.outward.ensures.tells (name_in_hello (reading client_hello c.args.body.now))
+    (lies c) (found c)
     (name_told c.args.body.now c.in_ok-rest.rest.now
-    (view_client_hello_in_place c.in_ok-rest.hello) c.in_ok-rest.ensures.gives.read c.in-Some.outer c.bytes_at.result.now
+    (view_client_hello_in_place c.in_ok-rest.hello) c.in_ok-rest.ensures.gives.read c.in-Some.outer
+    c.bytes_at.result.now
     c.host_name_place.result (stand c)
     c.bytes_at.ensures c.host_name_place.ensures.tells)
 
@@ -35,5 +41,6 @@ pub returns-in-None-clause-tells : goal.returns-in-None-clause-tells
 returns-in-None-clause-tells c =
     none_told c.args.body.now c.in_ok-rest.rest.now
     (view_client_hello_in_place c.in_ok-rest.hello) c.in_ok-rest.ensures.gives.read
-    (subst (λ p. MayStand c.args.body.now p (option_map (λ x. x.now) c.in_ok-rest.hello.ext)) c.in-None.is
+    (subst (λ p. MayStand c.args.body.now p (option_map (λ x. x.now) c.in_ok-rest.hello.ext))
+    c.in-None.is
     c.in_ok-rest.ensures.within.extensions)

@@ -6,7 +6,8 @@ use Rattle.tls_places.specs.Place.{IsWithin, Stands}
 use Rattle.tls_places.proofs.HostNameLemmas.{handshake_told}
 use Rattle.tls_places.proofs.host_name.host_name_place_of_record.Goals as goal
 
-fragment : (c : goal.After-outward) → Stands c.args.i.now c.in_ok-record.outer c.in_ok-record.record.bytes.now
+fragment : (c : goal.After-outward)
+    → Stands c.args.i.now c.in_ok-record.outer c.in_ok-record.record.bytes.now
 fragment c = c.in_ok-record.ensures.stands (ends_here c.args.i.now)
 
 pub returns-clause-tells : goal.returns-clause-tells
@@ -16,4 +17,5 @@ returns-clause-tells c =
     (sym (fragment c).is) c.host_name_place_of_fragment.ensures.within)
     (handshake_told c.args.i.now c.in_ok-record.field-0-0.now c.in_ok-record.outer
     (view_raw_record c.in_ok-record.record) c.host_name_place_of_fragment.result
-    c.in_ok-record.ensures.gives.read c.if-ne.ensures (fragment c).is c.host_name_place_of_fragment.ensures.tells)
+    c.in_ok-record.ensures.gives.read c.if-ne.ensures (fragment c).is
+    c.host_name_place_of_fragment.ensures.tells)

@@ -8,10 +8,12 @@ found_is c = c.in_ok-inner.was ∙ ap Ok c.in-Some.is
 
 pub returns-in-Some-clause-tells : goal.returns-in-Some-clause-tells
 returns-in-Some-clause-tells c = λ a out here t.
-    some_told c.args.whole.now c.args.outer c.in-Some.inner c.place_within.result c.place_within.ensures c.args.found
+    some_told c.args.whole.now c.args.outer c.in-Some.inner c.place_within.result
+    c.place_within.ensures c.args.found
     (found_is c) a out here t
 
 pub returns-in-Some-clause-within : goal.returns-in-Some-clause-within
 returns-in-Some-clause-within c = λ out here.
-    some_within c.args.whole.now c.args.outer c.in-Some.inner c.place_within.result c.place_within.ensures c.args.found
+    some_within c.args.whole.now c.args.outer c.in-Some.inner c.place_within.result
+    c.place_within.ensures c.args.found
     (found_is c) out here

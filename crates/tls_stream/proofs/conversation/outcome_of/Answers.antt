@@ -5,11 +5,13 @@ use Rattle.tls_stream.proofs.conversation.outcome_of.Goals as goal
 
 pub loop-side-preserved : goal.loop-side-preserved
 loop-side-preserved c =
-    piece_heard c.args.limit c.args.pieces.now c.loop-side.side-index _ c.loop-side.conversation c.hear.new.self
+    piece_heard c.args.limit c.args.pieces.now c.loop-side.side-index _ c.loop-side.conversation
+    c.hear.new.self
     c.loop-side-test.true c.loop-side.invariant c.in_ok-hear.ensures.heard
 
 pub returns : goal.returns
 returns c =
     subst (λ o. IsOutcomeOf o c.args.limit (views c.args.pieces.now)) (sym c.outcome.ensures)
-    (all_heard c.args.limit c.args.pieces.now c.loop-side.side-index c.loop-side.conversation c.loop-side-test.false
+    (all_heard c.args.limit c.args.pieces.now c.loop-side.side-index c.loop-side.conversation
+    c.loop-side-test.false
     c.loop-side.invariant)

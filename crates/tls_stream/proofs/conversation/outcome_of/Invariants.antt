@@ -1,4 +1,4 @@
--- the pieces so far were heard
+-- the pieces so far were followed
 use Rattle.std.proofs.Common.{List, take}
 use Rattle.tls_flow.specs.declared.event.Event.{Event}
 use Rattle.tls_stream.specs.Conversations.{Hears, IsBegun, views}

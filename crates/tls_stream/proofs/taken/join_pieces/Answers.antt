@@ -6,7 +6,8 @@ use Rattle.tls_stream.proofs.taken.join_pieces.Goals as goal
 
 pub loop-piece-init : goal.loop-piece-init
 loop-piece-init c =
-    let b = begun c.new-taken.result.items c.with_limit-direction.result c.args.limit c.new-taken.ensures.items
+    let b = begun c.new-taken.result.items c.with_limit-direction.result c.args.limit
+    c.new-taken.ensures.items
     c.with_limit-direction.ensures in
     record { said = b.0; none = b.1 }
 
@@ -16,7 +17,8 @@ loop-piece-preserved c =
     (elements c.take_messages.new.taken.items) c.take_messages.new.direction t)
     c.if-branch.false c.in_ok-take_messages.ensures in
     record {
-      said = one_piece c.args.pieces.now c.loop-piece.piece-index _ (elements c.loop-piece.taken.items)
+      said = one_piece c.args.pieces.now c.loop-piece.piece-index _
+          (elements c.loop-piece.taken.items)
           (elements c.take_messages.new.taken.items) c.loop-piece.direction c.feed.new.self
           c.take_messages.new.direction c.args.limit
           c.loop-piece-test.true c.loop-piece.invariant.said c.in_ok-feed.ensures.held taken.same;

@@ -1,4 +1,4 @@
--- what is taken, and what is still to come, is what the pieces so far say and those that are still to come
+-- the messages taken and those still to come are those of the pieces so far and of what follows
 use Rattle.std.proofs.Common.{◌≡◌, [], take}
 use Rattle.tls_stream.specs.Frames.{elements, joined}
 use Rattle.tls_stream.specs.Events.{events}

@@ -9,5 +9,6 @@ abbrev pub invariant-loop-kind : goal.invariant-loop-kind
 invariant-loop-kind l =
     (goal.iterator-loop-kind).can_next l.kind-iterator ×
     (goal.iterator-loop-kind).is_finite l.kind-iterator ×
-    (map view_server_name l.others.items ++ others_among (items_in server_name l.kind-iterator.bytes.now)
+    (map view_server_name l.others.items ++ others_among
+    (items_in server_name l.kind-iterator.bytes.now)
     ≡ others_among (items_in server_name l.fn.names.bytes.now))

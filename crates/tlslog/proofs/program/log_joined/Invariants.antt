@@ -1,4 +1,4 @@
-use Rattle.tlslog.specs.Run.{HasWritten}
+use Rattle.log_io.specs.Run.{HasWritten}
 use Rattle.tlslog.proofs.program.log_joined.Given as goal
 
 -- So far it has written unless it failed.

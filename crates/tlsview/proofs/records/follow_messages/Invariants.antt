@@ -1,4 +1,4 @@
--- what is left of the messages leads where all of them do
+-- the rest of the messages leads where all of them do
 use Rattle.std.proofs.Common.{◌≡◌, drop, map}
 use Rattle.tls_states.specs.Symbols.{symbol_of}
 use Rattle.tls_states.specs.Steps.{run}

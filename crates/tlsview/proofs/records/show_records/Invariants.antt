@@ -1,4 +1,4 @@
--- what is printed so far and what the other records print is what all print
+-- what is printed so far and what the other records print is what all of them print
 use Rattle.std.proofs.Common.{◌≡◌, ◌++◌, length}
 use Rattle.std.specs.String.{string_bytes}
 use Rattle.tlsview.specs.Out.{half, half_part}

@@ -10,19 +10,25 @@ returns-clause-shows c = λ there end.
     let b = c.args.bytes.now in
     let t = there.tbs_certificate in
     record {
-      signed_bytes = in_c_stands b _ c.in_c-signed_bytes.result _ c.in_c-signed_bytes.ensures there.signed_bytes;
-      serial_number = in_c_stands b _ c.in_c-serial_number.result _ c.in_c-serial_number.ensures t.serial_number;
-      signature_algorithm = in_c_stands b _ c.in_c-signature_algorithm.result _ c.in_c-signature_algorithm.ensures
+      signed_bytes = in_c_stands b _ c.in_c-signed_bytes.result _ c.in_c-signed_bytes.ensures
+          there.signed_bytes;
+      serial_number =
+          in_c_stands b _ c.in_c-serial_number.result _ c.in_c-serial_number.ensures t.serial_number;
+      signature_algorithm =
+          in_c_stands b _ c.in_c-signature_algorithm.result _ c.in_c-signature_algorithm.ensures
           there.signature_algorithm.algorithm;
       issuer = name_in_c b _ c.in_c-issuer.result _ c.in_c-issuer.ensures t.issuer;
       subject = name_in_c b _ c.in_c-subject.result _ c.in_c-subject.ensures t.subject;
-      key_algorithm = in_c_stands b _ c.in_c-key_algorithm.result _ c.in_c-key_algorithm.ensures t.key.algorithm.algorithm;
+      key_algorithm = in_c_stands b _ c.in_c-key_algorithm.result _ c.in_c-key_algorithm.ensures
+          t.key.algorithm.algorithm;
       key_parameters = subst (λ y. StandsAt b c.held_in_c-key_parameters.result (held y))
           (viewed c.args.certificate.now.tbs_certificate.subject_public_key_info.algorithm.parameters)
           (c.held_in_c-key_parameters.ensures b _ (may_stand b _ _ t.key.algorithm.parameters));
       public_key = in_c_stands b _ c.in_c-public_key.result _ c.in_c-public_key.ensures t.key.key;
-      extensions = items_in_c extension b _ c.in_c-extensions.result _ c.in_c-extensions.ensures t.extensions;
-      signature = in_c_stands b _ c.in_c-signature.result _ c.in_c-signature.ensures there.signature_value;
+      extensions =
+          items_in_c extension b _ c.in_c-extensions.result _ c.in_c-extensions.ensures t.extensions;
+      signature = in_c_stands b _ c.in_c-signature.result _ c.in_c-signature.ensures
+          there.signature_value;
       not_before = search rules;
       not_after = search rules;
       version = refl;

@@ -10,6 +10,7 @@ pub returns-in-Ok : goal.returns-in-Ok
 returns-in-Ok c =
     let b = c.args.bytes.now in
     let x = c.in-Ok.field-0-1-0.bytes.now in
-    answered general_names (λ v _. ItemsStandAt general_name b c.in_c.result v) b b c.in-Ok.field-0-0.now
+    answered general_names (λ v _. ItemsStandAt general_name b c.in_c.result v) b b
+    c.in-Ok.field-0-0.now
     (items_in general_name x) refl c.in-Ok.ensures.gives.read
     (items_in_c general_name b x c.in_c.result c.in-Ok.place c.in_c.ensures c.in-Ok.ensures.places)

@@ -13,11 +13,14 @@ returns-in-Ok c =
     let i = c.in-Some.i.now in
     let r = c.in-Ok.rest.now in
     let v = view_extension c.in-Ok.extension in
-    let there : ExtensionStands b c.in-Ok.extension c.in-Ok.places = c.in-Ok.ensures.places c.in-Some.ensures.ends in
-    told extension (ShowsX509Extension b _) b i r v c.args.offset c.in-Some.ensures.is c.in-Some.ensures.inside
+    let there : ExtensionStands b c.in-Ok.extension c.in-Ok.places =
+    c.in-Ok.ensures.places c.in-Some.ensures.ends in
+    told extension (ShowsX509Extension b _) b i r v c.args.offset c.in-Some.ensures.is
+    c.in-Some.ensures.inside
     c.in-Ok.ensures.gives.read (record {
       oid = in_c_stands b _ c.in_c-oid.result _ c.in_c-oid.ensures there.extn_id;
       value = in_c_stands b _ c.in_c-value.result _ c.in_c-value.ensures there.extn_value;
       critical = refl;
-      next = c.offset_of.ensures (ends_read extension b i v r c.in-Some.ensures.ends c.in-Ok.ensures.gives.allowed);
+      next = c.offset_of.ensures
+          (ends_read extension b i v r c.in-Some.ensures.ends c.in-Ok.ensures.gives.allowed);
     })

@@ -13,11 +13,13 @@ returns-in-Ok c =
     let i = c.in-Some.i.now in
     let r = c.in-Ok.rest.now in
     let v = view_general_name c.in-Ok.name in
-    told general_name (ShowsName b _) b i r v c.args.offset c.in-Some.ensures.is c.in-Some.ensures.inside
+    told general_name (ShowsName b _) b i r v c.args.offset c.in-Some.ensures.is
+    c.in-Some.ensures.inside
     c.in-Ok.ensures.gives.read (record {
       kind = search rules;
       content = subst (λ x. StandsAt b c.in_c-content.result x) (name_viewed c.in-Ok.name)
           (in_c_stands b _ c.in_c-content.result _ c.in_c-content.ensures
           (c.in-Ok.ensures.places c.in-Some.ensures.ends));
-      next = c.offset_of.ensures (ends_read general_name b i v r c.in-Some.ensures.ends c.in-Ok.ensures.gives.allowed);
+      next = c.offset_of.ensures
+          (ends_read general_name b i v r c.in-Some.ensures.ends c.in-Ok.ensures.gives.allowed);
     })

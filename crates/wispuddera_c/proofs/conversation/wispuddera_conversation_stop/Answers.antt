@@ -17,7 +17,8 @@ returns-else-is_stopped-clause-told c = λ events are. record {
   none = λ other. (
     refl,
     no_stop_with events c.args.conversation.now are
-        (sym (c.is_stopped.ensures ∙ ap is_failed (c.outcome.ensures ∙ ap outcome_at c.state.ensures))
+        (sym (c.is_stopped.ensures
+        ∙ ap is_failed (c.outcome.ensures ∙ ap outcome_at c.state.ensures))
         ∙ c.if-is_stopped.false),
   );
 }

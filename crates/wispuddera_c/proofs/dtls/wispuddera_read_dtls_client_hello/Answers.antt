@@ -20,11 +20,14 @@ returns-in-Ok c =
       random = subst (λ q. Stands b q h.random.now) (sym c.in_c.ensures) p.random;
       session_id = c.held_in_c.ensures b _ p.session_id;
       cookie = subst (λ q. Stands b q h.cookie.now) (sym c.in_c-in-Ok.ensures) p.cookie;
-      cipher_suites = items_stand (number 2) b c.in_c-in-Ok-2.result _ _ c.in_c-in-Ok-2.ensures p.cipher_suites;
+      cipher_suites =
+          items_stand (number 2) b c.in_c-in-Ok-2.result _ _ c.in_c-in-Ok-2.ensures p.cipher_suites;
       compression_methods =
-          items_stand (number 1) b c.in_c-in-Ok-3.result _ _ c.in_c-in-Ok-3.ensures p.compression_methods;
+          items_stand (number 1) b c.in_c-in-Ok-3.result _ _ c.in_c-in-Ok-3.ensures
+          p.compression_methods;
       has_extensions = c.is_some.ensures ∙ some_of_map (λ x. x.now) h.ext;
       extensions = c.held_in_c-in-Ok.ensures b _ p.extensions;
       next = c.offset_of.ensures
-          (ends_read client_hello b b v c.in-Ok.rest.now (ends_here b) c.in-Ok.ensures.gives.allowed);
+          (ends_read client_hello b b v c.in-Ok.rest.now (ends_here b)
+          c.in-Ok.ensures.gives.allowed);
     })

@@ -6,6 +6,7 @@ pub returns-in-Some-clause-told : goal.returns-in-Some-clause-told
 returns-in-Some-clause-told c = λ events behind. (
   c.outcome.result,
   c.number_of_outcome.ensures,
-  outcome_there events c.args.flow.now c.in-Some.state c.outcome.result (sym c.state_of.ensures ∙ c.in-Some.is)
+  outcome_there events c.args.flow.now c.in-Some.state c.outcome.result
+      (sym c.state_of.ensures ∙ c.in-Some.is)
       c.outcome.ensures behind,
 )

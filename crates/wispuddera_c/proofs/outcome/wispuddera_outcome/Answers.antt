@@ -5,5 +5,6 @@ pub returns : goal.returns
 returns c = (
   c.outcome.result,
   c.number_of_outcome.ensures,
-  outcome_holds c.args.events.now c.flow_of.result c.outcome.result c.flow_of.ensures c.outcome.ensures,
+  outcome_holds c.args.events.now c.flow_of.result c.outcome.result c.flow_of.ensures
+      c.outcome.ensures,
 )

@@ -13,13 +13,15 @@ returns-clause-fed c = λ lies.
     let o : ℕ = c.args.held.now.offset in
     let n : ℕ = c.min-count.result in
     let least : n ≡ min (length c.args.piece.now) (length old - a) =
-    c.min-count.ensures ∙ ap (λ k. min (length c.args.piece.now) (k - a)) c.copy_within.ensures.len in
+    c.min-count.ensures
+    ∙ ap (λ k. min (length c.args.piece.now) (k - a)) c.copy_within.ensures.len in
     let short : n ≤ length c.args.piece.now = omega (arith, least) in
     let fits : a + n ≤ length old = omega (arith, least, lies) in
     let size : length (take n c.args.piece.now) ≡ n = length-take-le n c.args.piece.now short in
     let count : o + a - o ≡ a = omega arith in
     let moved : c.copy_within.new.self ≡ paste old 0 (drop o old) a =
-    subst (λ k. c.copy_within.new.self ≡ paste old 0 (drop o old) k) count c.copy_within.ensures.after in
+    subst (λ k. c.copy_within.new.self ≡ paste old 0 (drop o old) k) count
+    c.copy_within.ensures.after in
     record {
       all_there_is_room_for = least;
       holds = fed_stands old c.copy_within.new.self _ c.args.piece.now o a n lies short fits moved

@@ -5,4 +5,5 @@ use Rattle.x509_places.proofs.algorithm.optional_element_at.Goals as goal
 pub returns-clause-places : goal.returns-clause-places
 returns-clause-places c = λ at.
     c.place_before-place.ensures
-    (element_before _ c.args.i.now (view_element c.in_ok-rest.x) c.in_ok-rest.rest.now at c.in_ok-rest.ensures.allowed)
+    (element_before _ c.args.i.now (view_element c.in_ok-rest.x) c.in_ok-rest.rest.now at
+    c.in_ok-rest.ensures.allowed)

@@ -9,5 +9,6 @@ pub returns-clause-places : goal.returns-clause-places
 returns-clause-places c = λ at.
     let w = take (length c.args.whole.now - c.args.behind) c.args.whole.now in
     let after : EndsWith w c.in_ok-after_version.after_version.now =
-    ends_read (optional 0xa0 version) w c.args.i.now _ c.in_ok-after_version.after_version.now at c.in_ok-after_version.ensures.allowed in
+    ends_read (optional 0xa0 version) w c.args.i.now _ c.in_ok-after_version.after_version.now at
+    c.in_ok-after_version.ensures.allowed in
     c.in_ok-after_serial.ensures.places after

@@ -9,7 +9,9 @@ pub returns-clause-places : goal.returns-clause-places
 returns-clause-places c = λ at.
     let w = take (length c.args.whole.now - c.args.behind) c.args.whole.now in
     let first : EndsWith w c.in_ok-after_issuer.after_issuer.now =
-    ends_read (optional 0x81 bit_string) w c.args.i.now _ c.in_ok-after_issuer.after_issuer.now at c.in_ok-after_issuer.ensures.allowed in
+    ends_read (optional 0x81 bit_string) w c.args.i.now _ c.in_ok-after_issuer.after_issuer.now at
+    c.in_ok-after_issuer.ensures.allowed in
     let second : EndsWith w c.in_ok-after_subject.after_subject.now =
-    ends_read (optional 0x82 bit_string) w c.in_ok-after_issuer.after_issuer.now _ c.in_ok-after_subject.after_subject.now first c.in_ok-after_subject.ensures.allowed in
+    ends_read (optional 0x82 bit_string) w c.in_ok-after_issuer.after_issuer.now _
+    c.in_ok-after_subject.after_subject.now first c.in_ok-after_subject.ensures.allowed in
     c.held_or_none-found.ensures.places c.args.whole.now (c.in_ok-rest.ensures.places second)

@@ -4,4 +4,5 @@ use Rattle.x509_text.proofs.exponent.small_number.Given as goal
 
 abbrev pub invariant-loop-byte : goal.invariant-loop-byte
 invariant-loop-byte l =
-    (number_from l.number (drop l.byte-index l.bytes) ≡ number_of l.bytes) × (l.number < 18446744073709551616)
+    (number_from l.number (drop l.byte-index l.bytes) ≡ number_of l.bytes)
+    × (l.number < 18446744073709551616)

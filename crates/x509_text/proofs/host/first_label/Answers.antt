@@ -6,7 +6,8 @@ use Rattle.x509_text.proofs.host.first_label.Goals as goal
 pub returns-then-byte-eq46-clause-split : goal.returns-then-byte-eq46-clause-split
 returns-then-byte-eq46-clause-split c =
     rw (take_rest, add-one)
-    (first_ends c.args.name.now c.loop-at.at c.loop-at.invariant c.loop-at-test.true c.if-byte-eq46.true)
+    (first_ends c.args.name.now c.loop-at.at c.loop-at.invariant c.loop-at-test.true
+    c.if-byte-eq46.true)
 
 pub returns-clause-split : goal.returns-clause-split
 returns-clause-split c =

@@ -4,4 +4,5 @@ use Rattle.x509_text.specs.Host.{is_name_byte}
 use Rattle.x509_text.proofs.host.is_label.Given as goal
 
 abbrev pub invariant-loop-byte : goal.invariant-loop-byte
-invariant-loop-byte l = list_all is_name_byte (drop l.byte-index l.label) ≡ list_all is_name_byte l.label
+invariant-loop-byte l =
+    list_all is_name_byte (drop l.byte-index l.label) ≡ list_all is_name_byte l.label

@@ -8,7 +8,8 @@ use Rattle.x509_text.proofs.name.add_set.Given as goal
 
 abbrev pub invariant-loop-attribute : goal.invariant-loop-attribute
 invariant-loop-attribute l =
-    string_bytes l.text ++ behind 43 attribute_text (reverse (map view_attribute l.attributes.items))
+    string_bytes l.text ++ behind 43 attribute_text
+    (reverse (map view_attribute l.attributes.items))
     ≡ string_bytes l.fn.text ++ set_text (items_in attribute l.fn.set.bytes.now)
 
 abbrev pub decreases-loop-attribute : goal.decreases-loop-attribute

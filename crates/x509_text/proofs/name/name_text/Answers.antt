@@ -10,6 +10,8 @@ loop-set-init c =
     let sets = with_attributes (items_in relative_distinguished_name c.args.name.bytes.now) in
     join_begun 44 set_text (items_in attribute c.in-Some.last.bytes.now)
     (reverse (map (λ s. items_in attribute s.bytes.now) c.pop.new.self.items)) (reverse sets) [] _
-    (last_first (λ s. items_in attribute s.bytes.now) c.in_ok-sets.sets.items c.pop.new.self.items sets c.in-Some.last
+    (last_first (λ s. items_in attribute s.bytes.now) c.in_ok-sets.sets.items c.pop.new.self.items
+    sets c.in-Some.last
     c.in_ok-sets.ensures c.in-Some.ensures.items)
-    (c.in_ok-add_set.ensures ∙ ap (λ t. t ++ set_text (items_in attribute c.in-Some.last.bytes.now)) c.new-text.ensures.bytes)
+    (c.in_ok-add_set.ensures ∙ ap (λ t. t ++ set_text (items_in attribute c.in-Some.last.bytes.now))
+    c.new-text.ensures.bytes)

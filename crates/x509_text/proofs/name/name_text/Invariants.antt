@@ -8,7 +8,8 @@ use Rattle.x509_text.proofs.name.name_text.Given as goal
 
 abbrev pub invariant-loop-set : goal.invariant-loop-set
 invariant-loop-set l =
-    string_bytes l.text ++ behind 44 set_text (reverse (map (λ s. items_in attribute s.bytes.now) l.sets.items))
+    string_bytes l.text ++ behind 44 set_text
+    (reverse (map (λ s. items_in attribute s.bytes.now) l.sets.items))
     ≡ name_text (items_in relative_distinguished_name l.fn.name.bytes.now)
 
 abbrev pub decreases-loop-set : goal.decreases-loop-set

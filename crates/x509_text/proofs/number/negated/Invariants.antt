@@ -4,4 +4,5 @@ use Rattle.x509_text.proofs.number.negated.Given as goal
 
 abbrev pub invariant-loop-byte : goal.invariant-loop-byte
 invariant-loop-byte l =
-    l.negated.items ++ negated_from l.zeros (drop l.byte-index (reverse l.fn.number)) ≡ negated_from true (reverse l.fn.number)
+    l.negated.items ++ negated_from l.zeros (drop l.byte-index (reverse l.fn.number)) ≡ negated_from
+    true (reverse l.fn.number)

@@ -9,6 +9,8 @@ loop-arc-init c =
     rw c.into_iter-arc-iterator.ensures.into_iter_gives (
       tt,
       tt,
-      join_begun 46 arc_text (view_arc c.in-Some.first) (arcs_left c.next.new.self.next c.next.new.self.numbers.bytes.now)
-          (arcs_of c.args.oid.content.now) _ _ (sym c.arcs-arcs.ensures ∙ c.in-Some.ensures.steps) c.in_ok-add_arc.ensures,
+      join_begun 46 arc_text (view_arc c.in-Some.first)
+          (arcs_left c.next.new.self.next c.next.new.self.numbers.bytes.now)
+          (arcs_of c.args.oid.content.now) _ _ (sym c.arcs-arcs.ensures ∙ c.in-Some.ensures.steps)
+          c.in_ok-add_arc.ensures,
     )

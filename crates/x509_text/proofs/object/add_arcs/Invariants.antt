@@ -9,5 +9,6 @@ abbrev pub invariant-loop-arc : goal.invariant-loop-arc
 invariant-loop-arc l =
     (goal.iterator-loop-arc).can_next l.arc-iterator ×
     (goal.iterator-loop-arc).is_finite l.arc-iterator ×
-    (string_bytes l.text ++ behind 46 arc_text (arcs_left l.arc-iterator.next l.arc-iterator.numbers.bytes.now)
+    (string_bytes l.text ++ behind 46 arc_text
+    (arcs_left l.arc-iterator.next l.arc-iterator.numbers.bytes.now)
     ≡ string_bytes l.fn.text ++ numbers_text (arcs_of l.fn.oid.content.now))

@@ -9,5 +9,6 @@ abbrev pub invariant-loop-c : goal.invariant-loop-c
 invariant-loop-c l =
     (goal.iterator-loop-c).can_next l.c-iterator ×
     (goal.iterator-loop-c).is_finite l.c-iterator ×
-    (string_bytes l.text ++ flat_map encode_utf8 (items_in universal_character l.c-iterator.bytes.now)
+    (string_bytes l.text ++ flat_map encode_utf8
+    (items_in universal_character l.c-iterator.bytes.now)
     ≡ flat_map encode_utf8 (items_in universal_character l.fn.content))

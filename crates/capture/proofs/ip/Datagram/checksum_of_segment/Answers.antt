@@ -8,7 +8,8 @@ use Rattle.capture.proofs.ip.Datagram.checksum_of_segment.Goals as goal
 pub returns : goal.returns
 returns c =
     let self = c.args.self.now in
-    let addresses = address_words (view_address self.source) + address_words (view_address self.destination) in
+    let addresses =
+    address_words (view_address self.source) + address_words (view_address self.destination) in
     let length = segment_length (view_segment c.args.segment.now) in
     c.checksum_by.ensures
     ∙ same_checksum _ _ _ _ _

@@ -5,4 +5,7 @@ use Rattle.connections.proofs.by_five_tuple.ByFiveTuple.contains.Goals as goal
 pub returns : goal.returns
 returns g c =
     rw (← c.self.view_is)
-    (c.contains.ensures ∙ ap is_some (lookup-unhashed c.self.inside.keys c.args.five_tuple.now c.known-ends.result c.known-ends.ensures c.self.inside.table.entries c.self.invariant.0))
+    (c.contains.ensures
+    ∙ ap is_some
+    (lookup-unhashed c.self.inside.keys c.args.five_tuple.now c.known-ends.result
+    c.known-ends.ensures c.self.inside.table.entries c.self.invariant.0))

@@ -12,23 +12,36 @@ returns-in_err-value g c =
       record {
         writes_back = tt;
         value = c.in_err-value.ensures.value
-            ∙ lookup-unhashed c.self.inside.keys c.args.five_tuple.now c.change_to.new.self c.change_to.ensures c.self.inside.table.entries c.self.invariant.0;
+            ∙ lookup-unhashed c.self.inside.keys c.args.five_tuple.now c.change_to.new.self
+            c.change_to.ensures c.self.inside.table.entries c.self.invariant.0;
       },
     )
 
 pub invariant_of-self-lent : goal.invariant_of-self-lent
 invariant_of-self-lent g c =
     λ w. (
-      AreHashed-set_value c.self.inside.keys c.args.five_tuple.now c.change_to.new.self c.change_to.ensures _ w
-          (AreHashed-promoted c.self.inside.keys c.args.five_tuple.now c.change_to.new.self c.change_to.ensures c.self.inside.table.entries c.self.invariant.0),
+      AreHashed-set_value c.self.inside.keys c.args.five_tuple.now c.change_to.new.self
+          c.change_to.ensures _ w
+          (AreHashed-promoted c.self.inside.keys c.args.five_tuple.now c.change_to.new.self
+          c.change_to.ensures c.self.inside.table.entries c.self.invariant.0),
       rw c.change_to.ensures refl,
     )
 
 pub returns : goal.returns
 returns g c =
-    let ends = c.change_to.new.self in let is = c.change_to.ensures in let keys = c.self.inside.keys in let e = c.args.five_tuple.now in let xs = c.self.inside.table.entries in let cap = c.self.inside.table.cap in
-    let written = λ (w : g.row.V.Denot). set_value-unhashed keys e ends is (promoted (test keys e ends is) xs) w (AreHashed-promoted keys e ends is xs c.self.invariant.0) ∙ ap (λ l. set_value (is_five_tuple e) l w) (promoted-unhashed keys e ends is xs c.self.invariant.0) in
+    let ends = c.change_to.new.self in let is = c.change_to.ensures in let keys =
+    c.self.inside.keys in let e = c.args.five_tuple.now in let xs = c.self.inside.table.entries in
+    let cap = c.self.inside.table.cap in
+    let written =
+    λ (w : g.row.V.Denot). set_value-unhashed keys e ends is (promoted (test keys e ends is) xs) w
+    (AreHashed-promoted keys e ends is xs c.self.invariant.0)
+    ∙ ap (λ l. set_value (is_five_tuple e) l w)
+    (promoted-unhashed keys e ends is xs c.self.invariant.0) in
     rw (← c.self.view_is) (
       (λ i. inl (c.in_ok-value.value.ghost_name, λ w. ap (λ es. lru_cache es cap) (written w) i)),
-      record { writes_back = tt; value = rw (← lookup-unhashed keys e ends is xs c.self.invariant.0) c.in_ok-value.ensures.value },
+      record {
+        writes_back = tt;
+        value =
+            rw (← lookup-unhashed keys e ends is xs c.self.invariant.0) c.in_ok-value.ensures.value;
+      },
     )

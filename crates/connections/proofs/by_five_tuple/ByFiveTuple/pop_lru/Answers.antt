@@ -6,7 +6,8 @@ use Rattle.connections.proofs.by_five_tuple.ByFiveTuple.pop_lru.Goals as goal
 
 pub returns-clause-value : goal.returns-clause-value
 returns-clause-value g c =
-    rw (← c.self.view_is) (ap (option_map unhashed_entry) c.in_ok-ends.ensures.value ∙ last_entry-unhashed c.self.inside.table.entries)
+    rw (← c.self.view_is) (ap (option_map unhashed_entry) c.in_ok-ends.ensures.value
+    ∙ last_entry-unhashed c.self.inside.table.entries)
 
 pub returns-clause-entries : goal.returns-clause-entries
 returns-clause-entries g c =

@@ -26,4 +26,5 @@ returns-clause-left_out g c =
     where_err c.put.result
     (λ p. subst (λ x. LeavesOutSyn c.args.segment.now c.args.self.now x)
     (sym (p ∙ ap (without_bytes c.without_data.result) c.keep_data_of_syn.ensures))
-    (nothing c.keep_data_of_syn.new.self.waiting c.without_data.result c.without_data.ensures)) c.put.ensures.left_out
+    (nothing c.keep_data_of_syn.new.self.waiting c.without_data.result
+    c.without_data.ensures)) c.put.ensures.left_out

@@ -4,6 +4,7 @@ use Rattle.connections.proofs.connection.Connection.take_datagram.Goals.{then-sh
 
 pub returns-clause-taken : goal.returns-clause-taken
 returns-clause-taken g c = elim c.if-shows_damage.branch [
-  | then-shows_damage w ↦ inr (w.restart.new.self, w.restart.ensures, rw w.self-is at c.accept_datagram.ensures.counted)
+  | then-shows_damage w ↦
+      inr (w.restart.new.self, w.restart.ensures, rw w.self-is at c.accept_datagram.ensures.counted)
   | else-shows_damage w ↦ inl (rw w.self-is at c.accept_datagram.ensures.counted)
 ]

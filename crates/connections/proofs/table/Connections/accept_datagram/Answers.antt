@@ -8,28 +8,48 @@ use Rattle.connections.proofs.table.Connections.accept_datagram.Goals as goal
 
 pub returns-in-Some-clause-put : goal.returns-in-Some-clause-put
 returns-in-Some-clause-put g c =
-    let d = c.args.datagram.now in let e = five_tuple_of_datagram d in let xs = c.self.inside.live.entries in
+    let d = c.args.datagram.now in let e = five_tuple_of_datagram d in let xs =
+    c.self.inside.live.entries in
     rw (c.between-five_tuple.ensures, ← c.self.view_is)
     (put_in e (TakesDatagram d) xs c.take_datagram.new.self c.in-Some.exchange.now
-    (rw c.between-five_tuple.ensures at c.in-Some.ensures.value) (subst (λ x. TakesDatagramIn d x c.take_datagram.new.self) c.get_mut-in-Some.ensures.value c.take_datagram.ensures.taken))
+    (rw c.between-five_tuple.ensures at c.in-Some.ensures.value)
+    (subst (λ x. TakesDatagramIn d x c.take_datagram.new.self) c.get_mut-in-Some.ensures.value
+    c.take_datagram.ensures.taken))
 
 pub returns-clause-put : goal.returns-clause-put
 returns-clause-put g c =
-    let d = c.args.datagram.now in let e = five_tuple_of_datagram d in let xs = c.self.inside.live.entries in
-    rw (← c.self.view_is) (put_new e (TakesDatagram d) xs c.of_datagram.result c.put_under.new.table.entries
+    let d = c.args.datagram.now in let e = five_tuple_of_datagram d in let xs =
+    c.self.inside.live.entries in
+    rw (← c.self.view_is)
+    (put_new e (TakesDatagram d) xs c.of_datagram.result c.put_under.new.table.entries
     (rw c.between-five_tuple.ensures at c.in_default.ensures.value)
-    (c.of_datagram.ensures.begun, c.of_datagram.ensures.waits) (rw (c.between-five_tuple.ensures, c.in_ok-exchange.ensures) at c.in_ok-put_under.ensures.put))
+    (c.of_datagram.ensures.begun, c.of_datagram.ensures.waits)
+    (rw (c.between-five_tuple.ensures, c.in_ok-exchange.ensures) at
+    c.in_ok-put_under.ensures.put))
 
 pub returns-in-Some-clause-accounted : goal.returns-in-Some-clause-accounted
 returns-in-Some-clause-accounted g c =
     rw (c.between-five_tuple.ensures, ← c.self.view_is)
     (accounted_written (five_tuple_of_datagram c.args.datagram.now)
-    (record { live = c.self.inside.live.entries; closed = c.self.inside.closed.entries; held = c.self.inside.held })
-    c.in-Some.exchange.now c.take_datagram.new.self (rw c.between-five_tuple.ensures at c.in-Some.ensures.value) (c.take_datagram.ensures.weight ∙ ap (λ x. x.weight) c.get_mut-in-Some.ensures.value))
+    (record {
+      live = c.self.inside.live.entries;
+      closed = c.self.inside.closed.entries;
+      held =
+          c.self.inside.held;
+    })
+    c.in-Some.exchange.now c.take_datagram.new.self
+    (rw c.between-five_tuple.ensures at c.in-Some.ensures.value)
+    (c.take_datagram.ensures.weight ∙ ap (λ x. x.weight) c.get_mut-in-Some.ensures.value))
 
 pub returns-clause-accounted : goal.returns-clause-accounted
 returns-clause-accounted g c =
     rw (c.in_ok-put_under.ensures.put, c.in_ok-exchange.ensures, ← c.self.view_is)
     (accounted_first c.between-five_tuple.result
-    (record { live = c.self.inside.live.entries; closed = c.self.inside.closed.entries; held = c.self.inside.held })
-    c.of_datagram.result c.self.inside.closed.entries c.in_default.ensures.value c.of_datagram.ensures.weight)
+    (record {
+      live = c.self.inside.live.entries;
+      closed = c.self.inside.closed.entries;
+      held =
+          c.self.inside.held;
+    })
+    c.of_datagram.result c.self.inside.closed.entries c.in_default.ensures.value
+    c.of_datagram.ensures.weight)

@@ -6,5 +6,11 @@ pub returns-in-Some : goal.returns-in-Some
 returns-in-Some g c =
     rw (← c.self.view_is)
     (accounted_written c.between-five_tuple.result
-    (record { live = c.self.inside.live.entries; closed = c.self.inside.closed.entries; held = c.self.inside.held })
-    c.in-Some.connection.now c.accept_kept.new.self c.in-Some.ensures.value (c.accept_kept.ensures ∙ ap (λ x. x.weight) c.get_mut-in-Some.ensures.value))
+    (record {
+      live = c.self.inside.live.entries;
+      closed = c.self.inside.closed.entries;
+      held =
+          c.self.inside.held;
+    })
+    c.in-Some.connection.now c.accept_kept.new.self c.in-Some.ensures.value
+    (c.accept_kept.ensures ∙ ap (λ x. x.weight) c.get_mut-in-Some.ensures.value))

@@ -7,7 +7,12 @@ pub returns-clause-begun : goal.returns-clause-begun
 returns-clause-begun g c =
     rw (← c.self.view_is) (record {
       its = c.accept.new.self;
-      takes = (c.of_segment.result, c.of_segment.ensures, subst (λ x. Accepts c.args.segment.now x c.accept.new.self) (c.get_mut.ensures.value ∙ c.in_ok-connection.ensures) c.in_ok-accept.ensures.taken);
+      takes = (
+        c.of_segment.result,
+        c.of_segment.ensures,
+        subst (λ x. Accepts c.args.segment.now x c.accept.new.self)
+            (c.get_mut.ensures.value ∙ c.in_ok-connection.ensures) c.in_ok-accept.ensures.taken,
+      );
       stands = rw (c.in_ok-put_under.ensures.put, c.pop.ensures.entries) refl;
     })
 
@@ -15,6 +20,12 @@ pub returns-clause-accounted : goal.returns-clause-accounted
 returns-clause-accounted g c =
     rw (c.in_ok-put_under.ensures.put, ← c.self.view_is)
     (λ h. accounted_first c.args.five_tuple
-    (record { live = c.self.inside.live.entries; closed = c.self.inside.closed.entries; held = c.self.inside.held })
+    (record {
+      live = c.self.inside.live.entries;
+      closed = c.self.inside.closed.entries;
+      held =
+          c.self.inside.held;
+    })
     c.accept.new.self c.pop.new.self.entries (sym h)
-    (c.accept.ensures.weight ∙ ap (λ x. x.weight) (c.get_mut.ensures.value ∙ c.in_ok-connection.ensures ∙ c.of_segment.ensures.0)))
+    (c.accept.ensures.weight ∙ ap (λ x. x.weight)
+    (c.get_mut.ensures.value ∙ c.in_ok-connection.ensures ∙ c.of_segment.ensures.0)))

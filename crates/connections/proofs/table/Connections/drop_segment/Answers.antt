@@ -9,13 +9,27 @@ pub returns-in-Some-clause-drops : goal.returns-in-Some-clause-drops
 returns-in-Some-clause-drops g c =
     rw (c.between-five_tuple.ensures, ← c.self.view_is)
     (counts_at (five_tuple_of c.args.segment.now)
-    (record { live = c.self.inside.live.entries; closed = c.self.inside.closed.entries; held = c.self.inside.held })
-    c.in-Some.connection.now c.drop_segment.new.self (rw c.between-five_tuple.ensures at c.in-Some.ensures.value) (subst (λ x. ChangesCountsAlone x c.drop_segment.new.self) c.get_mut.ensures.value c.drop_segment.ensures))
+    (record {
+      live = c.self.inside.live.entries;
+      closed = c.self.inside.closed.entries;
+      held =
+          c.self.inside.held;
+    })
+    c.in-Some.connection.now c.drop_segment.new.self
+    (rw c.between-five_tuple.ensures at c.in-Some.ensures.value)
+    (subst (λ x. ChangesCountsAlone x c.drop_segment.new.self) c.get_mut.ensures.value
+    c.drop_segment.ensures))
 
 pub returns-in-Some-clause-accounted : goal.returns-in-Some-clause-accounted
 returns-in-Some-clause-accounted g c =
     rw (c.between-five_tuple.ensures, ← c.self.view_is)
     (accounted_with (five_tuple_of c.args.segment.now)
-    (record { live = c.self.inside.live.entries; closed = c.self.inside.closed.entries; held = c.self.inside.held })
-    c.in-Some.connection.now c.drop_segment.new.self (rw c.between-five_tuple.ensures at c.in-Some.ensures.value)
+    (record {
+      live = c.self.inside.live.entries;
+      closed = c.self.inside.closed.entries;
+      held =
+          c.self.inside.held;
+    })
+    c.in-Some.connection.now c.drop_segment.new.self
+    (rw c.between-five_tuple.ensures at c.in-Some.ensures.value)
     (ap (λ x. x.weight) c.drop_segment.ensures ∙ ap (λ x. x.weight) c.get_mut.ensures.value))

@@ -5,4 +5,9 @@ pub returns-then-not-is_first-clause-accounted : goal.returns-then-not-is_first-
 returns-then-not-is_first-clause-accounted g c =
     rw (c.promote.ensures.entries, ← c.self.view_is)
     (accounted_promoted c.args.five_tuple.now
-    (record { live = c.self.inside.live.entries; closed = c.self.inside.closed.entries; held = c.self.inside.held }))
+    (record {
+      live = c.self.inside.live.entries;
+      closed = c.self.inside.closed.entries;
+      held =
+          c.self.inside.held;
+    }))

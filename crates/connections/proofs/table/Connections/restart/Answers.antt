@@ -9,13 +9,27 @@ pub returns-clause-restarts : goal.returns-clause-restarts
 returns-clause-restarts g c =
     rw (c.between-five_tuple.ensures, ← c.self.view_is)
     (anew_at c.args.segment.now.time (five_tuple_of c.args.segment.now)
-    (record { live = c.self.inside.live.entries; closed = c.self.inside.closed.entries; held = c.self.inside.held })
-    c.in-Some.connection.now c.restart.new.self (rw c.between-five_tuple.ensures at c.in-Some.ensures.value) (subst (λ x. IsAnew c.args.segment.now.time x c.restart.new.self) c.get_mut.ensures.value c.restart.ensures))
+    (record {
+      live = c.self.inside.live.entries;
+      closed = c.self.inside.closed.entries;
+      held =
+          c.self.inside.held;
+    })
+    c.in-Some.connection.now c.restart.new.self
+    (rw c.between-five_tuple.ensures at c.in-Some.ensures.value)
+    (subst (λ x. IsAnew c.args.segment.now.time x c.restart.new.self) c.get_mut.ensures.value
+    c.restart.ensures))
 
 pub returns-clause-accounted : goal.returns-clause-accounted
 returns-clause-accounted g c =
     rw (c.between-five_tuple.ensures, ← c.self.view_is)
     (accounted_with (five_tuple_of c.args.segment.now)
-    (record { live = c.self.inside.live.entries; closed = c.self.inside.closed.entries; held = c.self.inside.held })
-    c.in-Some.connection.now c.restart.new.self (rw c.between-five_tuple.ensures at c.in-Some.ensures.value)
+    (record {
+      live = c.self.inside.live.entries;
+      closed = c.self.inside.closed.entries;
+      held =
+          c.self.inside.held;
+    })
+    c.in-Some.connection.now c.restart.new.self
+    (rw c.between-five_tuple.ensures at c.in-Some.ensures.value)
     (ap (λ x. x.weight) c.restart.ensures.is_silent ∙ ap (λ x. x.weight) c.get_mut.ensures.value))

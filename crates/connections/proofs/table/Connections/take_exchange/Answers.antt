@@ -11,30 +11,67 @@ pub returns-in_err-another-clause-err : goal.returns-in_err-another-clause-err
 returns-in_err-another-clause-err g c =
     let e = five_tuple_of_datagram c.args.datagram.now in let xs = c.self.inside.live.entries in
     rw (c.between-five_tuple.ensures, ← c.self.view_is)
-    (on_err c.from_residual.result (ap (λ l. record { live = l; closed = c.self.inside.closed.entries; held = c.self.inside.held })
-    (set_value_same (is_five_tuple e) xs c.in-Some.exchange.now (sym (rw c.between-five_tuple.ensures at c.in-Some.ensures.value)))))
+    (on_err c.from_residual.result
+    (ap (λ l. record {
+      live = l;
+      closed = c.self.inside.closed.entries;
+      held =
+          c.self.inside.held;
+    })
+    (set_value_same (is_five_tuple e) xs c.in-Some.exchange.now
+    (sym (rw c.between-five_tuple.ensures at c.in-Some.ensures.value)))))
 
 pub returns-in_err-another-clause-accounted : goal.returns-in_err-another-clause-accounted
 returns-in_err-another-clause-accounted g c =
     rw (c.between-five_tuple.ensures, ← c.self.view_is)
     (accounted_with (five_tuple_of_datagram c.args.datagram.now)
-    (record { live = c.self.inside.live.entries; closed = c.self.inside.closed.entries; held = c.self.inside.held })
-    c.in-Some.exchange.now c.in-Some.exchange.now (rw c.between-five_tuple.ensures at c.in-Some.ensures.value) refl)
+    (record {
+      live = c.self.inside.live.entries;
+      closed = c.self.inside.closed.entries;
+      held =
+          c.self.inside.held;
+    })
+    c.in-Some.exchange.now c.in-Some.exchange.now
+    (rw c.between-five_tuple.ensures at c.in-Some.ensures.value) refl)
 
 pub returns-clause-left : goal.returns-clause-left
 returns-clause-left g c =
-    rw (c.between-five_tuple.ensures, ← c.self.view_is, c.replace.ensures.after, c.in_ok-another.ensures)
+    rw (
+      c.between-five_tuple.ensures,
+      ← c.self.view_is,
+      c.replace.ensures.after,
+      c.in_ok-another.ensures,
+    )
     (after_at c.args.datagram.now
-    (record { live = c.self.inside.live.entries; closed = c.self.inside.closed.entries; held = c.self.inside.held })
-    c.in-Some.exchange.now c.after.result c.saturating_sub-self-inside.result (rw c.between-five_tuple.ensures at c.in-Some.ensures.value)
+    (record {
+      live = c.self.inside.live.entries;
+      closed = c.self.inside.closed.entries;
+      held =
+          c.self.inside.held;
+    })
+    c.in-Some.exchange.now c.after.result c.saturating_sub-self-inside.result
+    (rw c.between-five_tuple.ensures at c.in-Some.ensures.value)
     (subst (λ x. IsAfter c.args.datagram.now x c.after.result) c.get.ensures c.after.ensures)
-    (rw (c.deref.ensures, c.into_box-over.ensures, c.replace.ensures.value) at c.saturating_sub-self-inside.ensures))
+    (rw (c.deref.ensures, c.into_box-over.ensures, c.replace.ensures.value) at
+    c.saturating_sub-self-inside.ensures))
 
 pub returns-clause-accounted : goal.returns-clause-accounted
 returns-clause-accounted g c =
-    rw (c.between-five_tuple.ensures, ← c.self.view_is, c.replace.ensures.after, c.in_ok-another.ensures)
+    rw (
+      c.between-five_tuple.ensures,
+      ← c.self.view_is,
+      c.replace.ensures.after,
+      c.in_ok-another.ensures,
+    )
     (accounted_replaced (five_tuple_of_datagram c.args.datagram.now)
-    (record { live = c.self.inside.live.entries; closed = c.self.inside.closed.entries; held = c.self.inside.held })
-    c.in-Some.exchange.now c.after.result c.saturating_sub-self-inside.result (rw c.between-five_tuple.ensures at c.in-Some.ensures.value)
+    (record {
+      live = c.self.inside.live.entries;
+      closed = c.self.inside.closed.entries;
+      held =
+          c.self.inside.held;
+    })
+    c.in-Some.exchange.now c.after.result c.saturating_sub-self-inside.result
+    (rw c.between-five_tuple.ensures at c.in-Some.ensures.value)
     (ap (λ x. x.weight) c.after.ensures.is_silent)
-    (rw (c.deref.ensures, c.into_box-over.ensures, c.replace.ensures.value) at c.saturating_sub-self-inside.ensures))
+    (rw (c.deref.ensures, c.into_box-over.ensures, c.replace.ensures.value) at
+    c.saturating_sub-self-inside.ensures))

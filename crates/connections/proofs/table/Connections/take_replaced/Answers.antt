@@ -10,11 +10,18 @@ returns-clause-replaced g c =
     let was = c.deref_mut.ensures.value ∙ c.into_box-over.ensures ∙ c.replace.ensures.value in
     rw (c.between-five_tuple.ensures, ← c.self.view_is, c.replace.ensures.after)
     (replaced_by c.args.segment.now
-    (record { live = c.self.inside.live.entries; closed = c.self.inside.closed.entries; held = c.self.inside.held })
-    c.in-Some-another.beginning c.in_ok-another.another c.in-Some-get_mut.place.now c.forget_syns.new.self c.saturating_sub-self-inside.result
+    (record {
+      live = c.self.inside.live.entries;
+      closed = c.self.inside.closed.entries;
+      held =
+          c.self.inside.held;
+    })
+    c.in-Some-another.beginning c.in_ok-another.another c.in-Some-get_mut.place.now
+    c.forget_syns.new.self c.saturating_sub-self-inside.result
     c.in-Some-another.ensures c.in_ok-another.ensures.begun
     (rw c.between-five_tuple.ensures at c.in-Some-get_mut.ensures.value)
-    (c.forget_syns.ensures ∙ ap {A = Connection _} (λ x. record x { waiting = c.forget_syns.new.self.waiting }) was)
+    (c.forget_syns.ensures
+    ∙ ap {A = Connection _} (λ x. record x { waiting = c.forget_syns.new.self.waiting }) was)
     (rw c.deref.ensures at c.saturating_sub-self-inside.ensures))
 
 pub returns-clause-accounted : goal.returns-clause-accounted
@@ -23,7 +30,13 @@ returns-clause-accounted g c =
     let same = ap (λ x. x.weight) c.forget_syns.ensures ∙ ap (λ x. x.weight) was in
     rw (c.between-five_tuple.ensures, ← c.self.view_is, c.replace.ensures.after)
     (accounted_replaced_first (five_tuple_of c.args.segment.now)
-    (record { live = c.self.inside.live.entries; closed = c.self.inside.closed.entries; held = c.self.inside.held })
+    (record {
+      live = c.self.inside.live.entries;
+      closed = c.self.inside.closed.entries;
+      held =
+          c.self.inside.held;
+    })
     c.in-Some-get_mut.place.now c.in_ok-another.another c.saturating_sub-self-inside.result
-    (rw c.between-five_tuple.ensures at c.in-Some-get_mut.ensures.value) c.in_ok-another.ensures.weight
+    (rw c.between-five_tuple.ensures at c.in-Some-get_mut.ensures.value)
+    c.in_ok-another.ensures.weight
     (rw (c.deref.ensures, same) at c.saturating_sub-self-inside.ensures))

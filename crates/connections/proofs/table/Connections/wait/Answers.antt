@@ -9,13 +9,26 @@ pub returns-in-Some-clause-drops : goal.returns-in-Some-clause-drops
 returns-in-Some-clause-drops g c =
     rw (c.between-five_tuple.ensures, ← c.self.view_is)
     (counts_at (five_tuple_of c.args.segment.now)
-    (record { live = c.self.inside.live.entries; closed = c.self.inside.closed.entries; held = c.self.inside.held })
-    c.in-Some.connection.now c.wait.new.self (rw c.between-five_tuple.ensures at c.in-Some.ensures.value) (subst (λ x. ChangesCountsAlone x c.wait.new.self) c.get_mut.ensures.value c.wait.ensures))
+    (record {
+      live = c.self.inside.live.entries;
+      closed = c.self.inside.closed.entries;
+      held =
+          c.self.inside.held;
+    })
+    c.in-Some.connection.now c.wait.new.self
+    (rw c.between-five_tuple.ensures at c.in-Some.ensures.value)
+    (subst (λ x. ChangesCountsAlone x c.wait.new.self) c.get_mut.ensures.value c.wait.ensures))
 
 pub returns-in-Some-clause-accounted : goal.returns-in-Some-clause-accounted
 returns-in-Some-clause-accounted g c =
     rw (c.between-five_tuple.ensures, ← c.self.view_is)
     (accounted_with (five_tuple_of c.args.segment.now)
-    (record { live = c.self.inside.live.entries; closed = c.self.inside.closed.entries; held = c.self.inside.held })
-    c.in-Some.connection.now c.wait.new.self (rw c.between-five_tuple.ensures at c.in-Some.ensures.value)
+    (record {
+      live = c.self.inside.live.entries;
+      closed = c.self.inside.closed.entries;
+      held =
+          c.self.inside.held;
+    })
+    c.in-Some.connection.now c.wait.new.self
+    (rw c.between-five_tuple.ensures at c.in-Some.ensures.value)
     (ap (λ x. x.weight) c.wait.ensures ∙ ap (λ x. x.weight) c.get_mut.ensures.value))

@@ -16,6 +16,7 @@ pub returns-clause-taken : goal.returns-clause-taken
 returns-clause-taken c l h st =
     let next = ap (λ k. k.next) c.self.view_is in
     let ahead = ap (λ k. k.limits.ahead) c.self.view_is in
-    taken_ok l h c.args.self.now c.add_at.new.self (view_fragment c.args.fragment.now) _ c.add_at.result st
+    taken_ok l h c.args.self.now c.add_at.new.self (view_fragment c.args.fragment.now) _
+    c.add_at.result st
     (omega (arith, next, c.if-seq-self.false)) (omega (arith, next, ahead, c.if-index-self.false))
     c.add_at.ensures.added c.add_at.ensures.changed

@@ -9,5 +9,6 @@ pub returns : goal.returns
 returns c l h st =
     let first : slot c.args.self.now 0 ≡ Some c.in-Some-Some.part = grind (arith, common_steps) in
     let same : c.is_some.result ≡ is_some c.body.result = (let s = c.is_some.ensures in cc) in
-    same ∙ front_whole l h c.args.self.now c.in-Some-Some.part c.body.result st first c.body.ensures.complete
+    same ∙ front_whole l h c.args.self.now c.in-Some-Some.part c.body.result st first
+    c.body.ensures.complete
     c.body.ensures.body

@@ -8,7 +8,8 @@ use Rattle.dtls_stream.proofs.messages.Messages.take_front.Goals as goal
 pub returns-then-is_none-clause-message : goal.returns-then-is_none-clause-message
 returns-then-is_none-clause-message c l h st =
     front_none l h c.args.self.now c.in-Some-Some.part st (grind (arith, common_steps))
-    (λ all. let some = c.body.ensures.complete.1 all in let none = c.if-is_none.ensures in absurd cc)
+    (λ all. let some = c.body.ensures.complete.1 all in let none =
+    c.if-is_none.ensures in absurd cc)
 
 pub returns-clause-message : goal.returns-clause-message
 returns-clause-message c l h st =
@@ -18,4 +19,5 @@ returns-clause-message c l h st =
     ap Some c.into_message.ensures
     ∙ front_some l h c.args.self.now c.in_ok-part.part c.in_ok-part.part.held st taken
     (subst (λ p. IsBody p p.held) same
-    (body_held c.body.result c.in-Some-Some.part c.body.ensures.body c.body.ensures.held c.if-is_none.ensures))
+    (body_held c.body.result c.in-Some-Some.part c.body.ensures.body c.body.ensures.held
+    c.if-is_none.ensures))

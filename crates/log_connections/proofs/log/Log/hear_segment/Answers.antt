@@ -4,5 +4,7 @@ use Rattle.log_connections.proofs.log.Log.hear_segment.Goals as goal
 pub returns-in-Some : goal.returns-in-Some
 returns-in-Some g c =
     rw c.between.ensures
-    (heard_by_open c.args.segment.now c.args.self.now.connections c.in-Some.connection.now c.accept.new.self
-    c.hear.new.connection (rw c.between.ensures at c.in-Some.ensures.value) c.in_ok-accept.ensures.taken c.in_ok-hear.ensures)
+    (heard_by_open c.args.segment.now c.args.self.now.connections c.in-Some.connection.now
+    c.accept.new.self
+    c.hear.new.connection (rw c.between.ensures at c.in-Some.ensures.value)
+    c.in_ok-accept.ensures.taken c.in_ok-hear.ensures)

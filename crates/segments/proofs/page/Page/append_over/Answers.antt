@@ -11,8 +11,10 @@ returns-clause-out c =
     let a = c.args.at in
     let ys = c.args.new.now in
     let n = length ys in
-    subst (λ v. OnOk c.append_standing.result (c.append_standing.new.out.items ≡ c.args.out.now.items ++ over v ys))
-    (part_is i.marks i.bytes a (a + n - a) n (omega arith) ∙ ap (λ v. take n (drop a v)) c.self.view_is)
+    subst (λ v. OnOk c.append_standing.result
+    (c.append_standing.new.out.items ≡ c.args.out.now.items ++ over v ys))
+    (part_is i.marks i.bytes a (a + n - a) n (omega arith)
+    ∙ ap (λ v. take n (drop a v)) c.self.view_is)
     c.append_standing.ensures.out
 
 pub append_standing-requires-clause-standing : goal.append_standing-requires-clause-standing

@@ -21,5 +21,6 @@ returns-then-known-n c =
     let fits = c.requires in
     front_whole i.marks i.bytes a (a + n - a) n (omega arith) (omega (arith, l.marks_long, fits))
     (l.bytes_long ∙ sym l.marks_long)
-    (sym c.if-known-n.true ∙ c.known.ensures.is ∙ ap (λ v. known (take n (drop a v))) (sym c.self.view_is))
+    (sym c.if-known-n.true ∙ c.known.ensures.is
+    ∙ ap (λ v. known (take n (drop a v))) (sym c.self.view_is))
     ∙ ap (λ v. run (take n (drop a v))) c.self.view_is

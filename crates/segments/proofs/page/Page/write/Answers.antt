@@ -15,10 +15,13 @@ returns-clause-put c =
     let l = c.self.invariant in
     let same : k ≡ n = omega arith in
     let fits = c.requires in
-    written_part i.marks c.fill_empty-count.new.marks i.bytes c.fill_empty-count.new.bytes ys a k (l.bytes_long ∙ sym l.marks_long) same
+    written_part i.marks c.fill_empty-count.new.marks i.bytes c.fill_empty-count.new.bytes ys a k
+    (l.bytes_long ∙ sym l.marks_long) same
     (omega (arith, fits, l.marks_long))
-    (c.fill_empty-count.auto.marks ∙ part_length i.marks a k (omega (arith, fits, same, l.marks_long)))
-    (c.fill_empty-count.auto.bytes ∙ part_length i.bytes a k (omega (arith, fits, same, l.bytes_long)))
+    (c.fill_empty-count.auto.marks
+    ∙ part_length i.marks a k (omega (arith, fits, same, l.marks_long)))
+    (c.fill_empty-count.auto.bytes
+    ∙ part_length i.bytes a k (omega (arith, fits, same, l.bytes_long)))
     c.fill_empty-count.ensures.filled
     ∙ ap (put a ys) c.self.view_is
 
@@ -31,11 +34,14 @@ returns-clause-counted c =
     let l = c.self.invariant in
     let same : k ≡ n = omega arith in
     let fits = c.requires in
-    counted_part i.marks c.fill_empty-count.new.marks i.bytes c.fill_empty-count.new.bytes a k n c.fill_empty-count.result
+    counted_part i.marks c.fill_empty-count.new.marks i.bytes c.fill_empty-count.new.bytes a k n
+    c.fill_empty-count.result
     (l.bytes_long ∙ sym l.marks_long) same
     (omega (arith, fits, l.marks_long))
-    (c.fill_empty-count.auto.marks ∙ part_length i.marks a k (omega (arith, fits, same, l.marks_long)))
-    (c.fill_empty-count.auto.bytes ∙ part_length i.bytes a k (omega (arith, fits, same, l.bytes_long)))
+    (c.fill_empty-count.auto.marks
+    ∙ part_length i.marks a k (omega (arith, fits, same, l.marks_long)))
+    (c.fill_empty-count.auto.bytes
+    ∙ part_length i.bytes a k (omega (arith, fits, same, l.bytes_long)))
     c.fill_empty-count.ensures.counted
     ∙ ap (λ v. known (take n (drop a v)) + c.fill_empty-count.result) c.self.view_is
 
@@ -65,9 +71,12 @@ invariant_of-self c =
     let l = c.self.invariant in
     let same : k ≡ n = omega arith in
     let fits = c.requires in
-    let marks = c.fill_empty-count.auto.marks ∙ part_length i.marks a k (omega (arith, fits, same, l.marks_long)) in
-    let bytes = c.fill_empty-count.auto.bytes ∙ part_length i.bytes a k (omega (arith, fits, same, l.bytes_long)) in
-    let set = marks_replaced i.marks c.fill_empty-count.new.marks i.bytes c.fill_empty-count.new.bytes a k n
+    let marks = c.fill_empty-count.auto.marks
+    ∙ part_length i.marks a k (omega (arith, fits, same, l.marks_long)) in
+    let bytes = c.fill_empty-count.auto.bytes
+    ∙ part_length i.bytes a k (omega (arith, fits, same, l.bytes_long)) in
+    let set = marks_replaced i.marks c.fill_empty-count.new.marks i.bytes
+    c.fill_empty-count.new.bytes a k n
     c.fill_empty-count.result
     (l.bytes_long ∙ sym l.marks_long) same
     (omega (arith, fits, l.marks_long))
@@ -76,11 +85,14 @@ invariant_of-self c =
     let h = l.held_is in
     record {
       marks_long =
-          replaced_long i.marks c.fill_empty-count.new.marks a k (omega (arith, fits, same, l.marks_long)) marks
+          replaced_long i.marks c.fill_empty-count.new.marks a k
+          (omega (arith, fits, same, l.marks_long)) marks
           ∙ l.marks_long;
       bytes_long =
-          replaced_long i.bytes c.fill_empty-count.new.bytes a k (omega (arith, fits, same, l.bytes_long)) bytes
+          replaced_long i.bytes c.fill_empty-count.new.bytes a k
+          (omega (arith, fits, same, l.bytes_long)) bytes
           ∙ l.bytes_long;
-      held_is = (let t : i.held + c.fill_empty-count.result ≡ set_marks i.marks + c.fill_empty-count.result =
+      held_is = (let t : i.held + c.fill_empty-count.result ≡ set_marks i.marks
+          + c.fill_empty-count.result =
           omega (arith, h) in t) ∙ sym set;
     }

@@ -15,12 +15,15 @@ invariant_of-self c =
     let o' = c.append_joined.new.out.ok.0 in
     let l = c.len.ensures in
     let l' = c.len-held.ensures in
-    let n_is : n ≡ length c.append_joined.new.out.items - length i.front.items = omega (arith, o, o', l, l') in
-    (appended i.first i.limit i.start i.taken i.front.items c.append_joined.new.out.items i.window c.drop_front.new.self
+    let n_is : n ≡ length c.append_joined.new.out.items - length i.front.items =
+    omega (arith, o, o', l, l') in
+    (appended i.first i.limit i.start i.taken i.front.items c.append_joined.new.out.items i.window
+    c.drop_front.new.self
     ys n c.self.invariant small
     c.in-Ok.ensures.out
     n_is
-    (c.drop_front.ensures ∙ ap (λ k. drop k i.window) (c.min-count.ensures ∙ ap (min n) c.len-in-Ok.ensures))).sound
+    (c.drop_front.ensures
+    ∙ ap (λ k. drop k i.window) (c.min-count.ensures ∙ ap (min n) c.len-in-Ok.ensures))).sound
 
 pub returns-in-Ok-clause-ok : goal.returns-in-Ok-clause-ok
 returns-in-Ok-clause-ok c =
@@ -34,10 +37,13 @@ returns-in-Ok-clause-ok c =
     let o' = c.append_joined.new.out.ok.0 in
     let l = c.len.ensures in
     let l' = c.len-held.ensures in
-    let n_is : n ≡ length c.append_joined.new.out.items - length i.front.items = omega (arith, o, o', l, l') in
-    (appended i.first i.limit i.start i.taken i.front.items c.append_joined.new.out.items i.window c.drop_front.new.self
+    let n_is : n ≡ length c.append_joined.new.out.items - length i.front.items =
+    omega (arith, o, o', l, l') in
+    (appended i.first i.limit i.start i.taken i.front.items c.append_joined.new.out.items i.window
+    c.drop_front.new.self
     ys n c.self.invariant small
     c.in-Ok.ensures.out
     n_is
-    (c.drop_front.ensures ∙ ap (λ k. drop k i.window) (c.min-count.ensures ∙ ap (min n) c.len-in-Ok.ensures))).held
+    (c.drop_front.ensures
+    ∙ ap (λ k. drop k i.window) (c.min-count.ensures ∙ ap (min n) c.len-in-Ok.ensures))).held
     ∙ ap (with_located (0, ys)) (c.self.view_is ∙ c.make_room.ensures)

@@ -8,5 +8,6 @@ returns c =
     let i = c.self.inside in
     let in_order = ap length c.available.ensures in
     let behind : known i.window ≡ known_behind c.args.self.now.cells =
-    sym (behind_is i.start i.taken i.limit i.front.items i.window c.self.invariant) ∙ ap (λ h. known_behind h.cells) c.self.view_is in
+    sym (behind_is i.start i.taken i.limit i.front.items i.window c.self.invariant)
+    ∙ ap (λ h. known_behind h.cells) c.self.view_is in
     omega (arith, in_order, behind)

@@ -9,4 +9,5 @@ returns-then-len-self c =
     let o = i.front.ok.0 in
     let l = c.len.ensures in
     let more = c.if-len-self.true in
-    sym (gap_front i.start i.front.items i.window (omega (arith, o, l, more))) ∙ ap (λ h. gap h.cells) c.self.view_is
+    sym (gap_front i.start i.front.items i.window (omega (arith, o, l, more)))
+    ∙ ap (λ h. gap h.cells) c.self.view_is

@@ -15,7 +15,8 @@ drop_front-requires c =
     let few = subst (λ k. n ≤ k) all c.requires.within in
     let front_is =
     c.in-Ok.ensures.out
-    ∙ ap (λ k. i.front.items ++ run (drop k i.window)) (c.min-from.ensures ∙ ap (min n) c.len.ensures)
+    ∙ ap (λ k. i.front.items ++ run (drop k i.window))
+    (c.min-from.ensures ∙ ap (min n) c.len.ensures)
     ∙ ap (λ r. i.front.items ++ run r) (drop_min n i.window) in
     let o = i.front.ok.0 in
     let o' = c.append_run.new.out.ok.0 in
@@ -35,15 +36,18 @@ invariant_of-self c =
     let few = subst (λ k. n ≤ k) all c.requires.within in
     let front_is =
     c.in-Ok.ensures.out
-    ∙ ap (λ k. i.front.items ++ run (drop k i.window)) (c.min-from.ensures ∙ ap (min n) c.len.ensures)
+    ∙ ap (λ k. i.front.items ++ run (drop k i.window))
+    (c.min-from.ensures ∙ ap (min n) c.len.ensures)
     ∙ ap (λ r. i.front.items ++ run r) (drop_min n i.window) in
     let o = i.front.ok.0 in
     let o' = c.append_run.new.out.ok.0 in
     let l = c.len-in-Ok.ensures in
     let l' = c.len-held.ensures in
     let m_is : n + (c.len-in-Ok.result - c.len-held.result)
-    ≡ n + (length c.append_run.new.out.items - length i.front.items) = omega (arith, o, o', l, l') in
-    (skipped i.first i.limit i.start i.taken n _ i.front.items c.append_run.new.out.items i.window c.drop_front.new.self
+    ≡ n + (length c.append_run.new.out.items - length i.front.items) =
+    omega (arith, o, o', l, l') in
+    (skipped i.first i.limit i.start i.taken n _ i.front.items c.append_run.new.out.items i.window
+    c.drop_front.new.self
     c.self.invariant none few front_is m_is c.drop_front.ensures).sound
 
 pub returns-in-Ok-clause-ok : goal.returns-in-Ok-clause-ok
@@ -57,14 +61,17 @@ returns-in-Ok-clause-ok c =
     let few = subst (λ k. n ≤ k) all c.requires.within in
     let front_is =
     c.in-Ok.ensures.out
-    ∙ ap (λ k. i.front.items ++ run (drop k i.window)) (c.min-from.ensures ∙ ap (min n) c.len.ensures)
+    ∙ ap (λ k. i.front.items ++ run (drop k i.window))
+    (c.min-from.ensures ∙ ap (min n) c.len.ensures)
     ∙ ap (λ r. i.front.items ++ run r) (drop_min n i.window) in
     let o = i.front.ok.0 in
     let o' = c.append_run.new.out.ok.0 in
     let l = c.len-in-Ok.ensures in
     let l' = c.len-held.ensures in
     let m_is : n + (c.len-in-Ok.result - c.len-held.result)
-    ≡ n + (length c.append_run.new.out.items - length i.front.items) = omega (arith, o, o', l, l') in
-    (skipped i.first i.limit i.start i.taken n _ i.front.items c.append_run.new.out.items i.window c.drop_front.new.self
+    ≡ n + (length c.append_run.new.out.items - length i.front.items) =
+    omega (arith, o, o', l, l') in
+    (skipped i.first i.limit i.start i.taken n _ i.front.items c.append_run.new.out.items i.window
+    c.drop_front.new.self
     c.self.invariant none few front_is m_is c.drop_front.ensures).held
     ∙ ap (without_front n) c.self.view_is

@@ -22,7 +22,8 @@ overflow_add-self-2 c =
     ∙ ap length (run_held i.start i.taken i.limit i.front.items i.window c.self.invariant) in
     let few = c.requires in
     let len = length-drop i.start i.front.items in
-    let small = (wanted_is i.first i.limit i.start i.taken i.front.items i.window c.self.invariant).1 in
+    let small = (wanted_is i.first i.limit i.start i.taken i.front.items i.window
+    c.self.invariant).1 in
     omega (arith, front, few, len, small)
 
 pub invariant_of-self : goal.invariant_of-self

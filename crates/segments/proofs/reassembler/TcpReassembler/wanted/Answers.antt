@@ -8,7 +8,8 @@ overflow_add-result c =
     let i = c.self.inside in
     let l = c.len.ensures in
     let o = i.front.ok.0 in
-    let small = (wanted_is i.first i.limit i.start i.taken i.front.items i.window c.self.invariant).1 in
+    let small = (wanted_is i.first i.limit i.start i.taken i.front.items i.window
+    c.self.invariant).1 in
     omega (arith, l, o, small)
 
 pub returns-clause-is : goal.returns-clause-is
@@ -16,7 +17,8 @@ returns-clause-is c =
     let i = c.self.inside in
     let l = c.len.ensures in
     let o = i.front.ok.0 in
-    let same : i.taken + (c.len.result - i.start) ≡ i.taken + (length i.front.items - i.start) = omega (arith, l, o) in
+    let same : i.taken + (c.len.result - i.start) ≡ i.taken + (length i.front.items - i.start) =
+    omega (arith, l, o) in
     same ∙ sym (wanted_is i.first i.limit i.start i.taken i.front.items i.window c.self.invariant).0
     ∙ ap wanted c.self.view_is
 
@@ -25,5 +27,6 @@ returns-clause-small c =
     let i = c.self.inside in
     let l = c.len.ensures in
     let o = i.front.ok.0 in
-    let small = (wanted_is i.first i.limit i.start i.taken i.front.items i.window c.self.invariant).1 in
+    let small = (wanted_is i.first i.limit i.start i.taken i.front.items i.window
+    c.self.invariant).1 in
     omega (arith, l, o, small)

@@ -20,5 +20,6 @@ returns-clause-out c =
     let l = places_length i.len i.begin i.pages in
     let same = ap length c.self.view_is in
     subst (λ v. OnOk c.append_over.result (c.append_over.new.out.items ≡ c.args.out.now.items ++ v))
-    (over_within i.len i.begin i.pages ys (omega (arith, l, same, c.requires)) ∙ ap (λ v. over v ys) c.self.view_is)
+    (over_within i.len i.begin i.pages ys (omega (arith, l, same, c.requires))
+    ∙ ap (λ v. over v ys) c.self.view_is)
     c.append_over.ensures.out

@@ -31,6 +31,7 @@ append_front-requires-clause-small c =
 pub returns-clause-out : goal.returns-clause-out
 returns-clause-out c =
     let i = c.self.inside in
-    subst (λ v. OnOk c.append_front.result (c.append_front.new.out.items ≡ c.args.out.now.items ++ run v))
+    subst (λ v. OnOk c.append_front.result
+    (c.append_front.new.out.items ≡ c.args.out.now.items ++ run v))
     (sym (places_drop c.args.from i.len i.begin i.pages) ∙ ap (drop c.args.from) c.self.view_is)
     c.append_front.ensures.out

@@ -9,7 +9,8 @@ returns-then-n-self c =
     let l = places_length i.len i.begin i.pages in
     let same = ap length c.self.view_is in
     let all = c.if-n-self.true in
-    c.drop.view_is ∙ c.new.ensures ∙ sym (drop_all c.args.n c.args.self.now (omega (arith, l, same, all)))
+    c.drop.view_is ∙ c.new.ensures
+    ∙ sym (drop_all c.args.n c.args.self.now (omega (arith, l, same, all)))
 
 pub overflow_add-begin : goal.overflow_add-begin
 overflow_add-begin c =
@@ -47,13 +48,15 @@ invariant_of-self-2 c =
     let i = c.self.inside in
     let l = places_length i.len i.begin i.pages in
     let same = ap length c.self.view_is in
-    fewer i.begin i.len i.held c.args.n c.count_known.result i.pages c.remove_pages.new.pages c.self.invariant
+    fewer i.begin i.len i.held c.args.n c.count_known.result i.pages c.remove_pages.new.pages
+    c.self.invariant
     c.remove_pages.ensures.whole c.remove_pages.ensures.places
     (omega (arith, l, same, c.requires)) c.count_known.ensures.is
 
 pub returns : goal.returns
 returns c =
     let i = c.self.inside in
-    places_same (i.len - c.args.n) (i.begin + c.args.n) i.pages c.remove_pages.new.pages c.remove_pages.ensures.places
+    places_same (i.len - c.args.n) (i.begin + c.args.n) i.pages c.remove_pages.new.pages
+    c.remove_pages.ensures.places
     ∙ sym (places_drop c.args.n i.len i.begin i.pages)
     ∙ ap (drop c.args.n) c.self.view_is

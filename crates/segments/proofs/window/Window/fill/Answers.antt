@@ -9,13 +9,15 @@ use Rattle.segments.proofs.window.Window.fill.Goals as goal
 pub invariant_of-self : goal.invariant_of-self
 invariant_of-self c =
     let i = c.self.inside in
-    paged_same i.begin i.len i.held i.pages c.make_pages.new.pages c.self.invariant c.in_err-make_pages.ensures.same
+    paged_same i.begin i.len i.held i.pages c.make_pages.new.pages c.self.invariant
+    c.in_err-make_pages.ensures.same
 
 pub returns-in_err-make_pages-clause-err : goal.returns-in_err-make_pages-clause-err
 returns-in_err-make_pages-clause-err c =
     let i = c.self.inside in
     on_err c.from_residual.result _
-    (places_same i.len i.begin i.pages c.make_pages.new.pages (λ j h. c.in_err-make_pages.ensures.same.stands j)
+    (places_same i.len i.begin i.pages c.make_pages.new.pages
+    (λ j h. c.in_err-make_pages.ensures.same.stands j)
     ∙ c.self.view_is)
 
 pub overflow_add-self : goal.overflow_add-self
@@ -27,9 +29,11 @@ overflow_add-self c =
     c.in_ok-make_pages.ensures.same in
     let more = filled i.begin i.len i.held c.args.at (i.begin + c.args.at) c.write_bytes.result
     (max i.len (c.args.at + length ys)) ys
-    c.make_pages.new.pages c.write_bytes.new.pages paged c.write_bytes.ensures refl refl c.requires.some small in
+    c.make_pages.new.pages c.write_bytes.new.pages paged c.write_bytes.ensures refl refl
+    c.requires.some small in
     let known = more.paged.held_is in
-    let low = known_low (places (max i.len (c.args.at + length ys)) i.begin c.write_bytes.new.pages) in
+    let low = known_low
+    (places (max i.len (c.args.at + length ys)) i.begin c.write_bytes.new.pages) in
     let l = places_length (max i.len (c.args.at + length ys)) i.begin c.write_bytes.new.pages in
     let fits = more.paged.small in
     omega (arith, known, low, l, fits)
@@ -41,8 +45,10 @@ invariant_of-self-2 c =
     let small : i.begin + c.args.at + length ys < 2 ^ 64 = grind (arith, c.in-Some.ensures) in
     let paged = paged_same i.begin i.len i.held i.pages c.make_pages.new.pages c.self.invariant
     c.in_ok-make_pages.ensures.same in
-    (filled i.begin i.len i.held c.args.at (i.begin + c.args.at) c.write_bytes.result c.max-self-inside.result ys
-    c.make_pages.new.pages c.write_bytes.new.pages paged c.write_bytes.ensures refl c.max-self-inside.ensures
+    (filled i.begin i.len i.held c.args.at (i.begin + c.args.at) c.write_bytes.result
+    c.max-self-inside.result ys
+    c.make_pages.new.pages c.write_bytes.new.pages paged c.write_bytes.ensures refl
+    c.max-self-inside.ensures
     c.requires.some small).paged
 
 pub returns-clause-ok : goal.returns-clause-ok
@@ -51,9 +57,13 @@ returns-clause-ok c =
     let ys = c.args.bytes.now in
     let small : i.begin + c.args.at + length ys < 2 ^ 64 = grind (arith, c.in-Some.ensures) in
     let same = c.in_ok-make_pages.ensures.same in
-    let paged = paged_same i.begin i.len i.held i.pages c.make_pages.new.pages c.self.invariant same in
-    (filled i.begin i.len i.held c.args.at (i.begin + c.args.at) c.write_bytes.result c.max-self-inside.result ys
-    c.make_pages.new.pages c.write_bytes.new.pages paged c.write_bytes.ensures refl c.max-self-inside.ensures
+    let paged = paged_same i.begin i.len i.held i.pages c.make_pages.new.pages
+    c.self.invariant same in
+    (filled i.begin i.len i.held c.args.at (i.begin + c.args.at) c.write_bytes.result
+    c.max-self-inside.result ys
+    c.make_pages.new.pages c.write_bytes.new.pages paged c.write_bytes.ensures refl
+    c.max-self-inside.ensures
     c.requires.some small).shows
     ∙ ap (λ w. fill_at c.args.at w ys)
-    (places_same i.len i.begin i.pages c.make_pages.new.pages (λ j h. same.stands j) ∙ c.self.view_is)
+    (places_same i.len i.begin i.pages c.make_pages.new.pages (λ j h. same.stands j)
+    ∙ c.self.view_is)

@@ -16,5 +16,6 @@ returns c =
     let i = c.self.inside in
     let l = places_length i.len i.begin i.pages in
     let same = ap length c.self.view_is in
-    c.byte_at.ensures ∙ sym (cell_within i.len i.begin i.pages c.args.at (omega (arith, l, same, c.requires)))
+    c.byte_at.ensures
+    ∙ sym (cell_within i.len i.begin i.pages c.args.at (omega (arith, l, same, c.requires)))
     ∙ ap (λ w. cell w c.args.at) c.self.view_is

@@ -1,4 +1,4 @@
--- what is still to be said, said behind what is known now, is what all of it comes to
+-- adding the rest of the events to the state so far gives the final state
 use Rattle.std.proofs.Common.{◌≡◌, drop}
 use Rattle.dtls_stream.specs.Messages.{view_events}
 use Rattle.tls_analyzer.specs.Datagrams.{said_all, told_of}

@@ -8,8 +8,11 @@ use Rattle.tls_analyzer.proofs.account.Account.tell.Goals as goal
 pub returns-clause-flow : goal.returns-clause-flow
 returns-clause-flow g c =
     same_step_in_datagram c.args.side (view_event c.args.event.now)
-    (option_map view_heard c.datagram_message-message.result) c.of_datagrams-kind.result c.args.self.now.flow
+    (option_map view_heard c.datagram_message-message.result) c.of_datagrams-kind.result
+    c.args.self.now.flow
     c.follow.new.flow (search rules)
     (c.of_datagrams-kind.ensures
-    ∙ ap kind_of_datagrams (copied_view view_heard c.as_ref.result c.datagram_message-message.result c.as_ref.ensures.value))
+    ∙ ap kind_of_datagrams
+    (copied_view view_heard c.as_ref.result c.datagram_message-message.result
+    c.as_ref.ensures.value))
     (search rules)

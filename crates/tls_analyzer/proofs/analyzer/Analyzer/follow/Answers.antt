@@ -11,9 +11,11 @@ use Rattle.tls_analyzer.proofs.analyzer.Analyzer.follow.Goals.{
 
 pub loop-preserved : goal.loop-preserved
 loop-preserved g c =
-    on_next c.args.self.now c.loop.self c.take_next.new.self c.args.side c.args.piece.now c.loop.counter
+    on_next c.args.self.now c.loop.self c.take_next.new.self c.args.side c.args.piece.now
+    c.loop.counter
     c.loop.invariant (search rules)
-    (subst (λ b. IsTaken (front_of (ear c.loop.self.hearer.conversation c.args.side)) c.loop.self c.args.side b
+    (subst (λ b. IsTaken (front_of (ear c.loop.self.hearer.conversation c.args.side)) c.loop.self
+    c.args.side b
     c.take_next.new.self)
     (search rules) c.in_ok-take_next.ensures.taken)
     c.in_ok-take_next.ensures.ready
@@ -21,22 +23,28 @@ loop-preserved g c =
 pub returns-after-loop : goal.returns-after-loop
 returns-after-loop g c =
     next_clear c.args.self.now c.loop.self c.args.side c.args.piece.now (search rules)
-    (on_end c.args.self.now c.loop.self c.args.side c.args.piece.now c.loop.counter c.loop.invariant (search rules))
+    (on_end c.args.self.now c.loop.self c.args.side c.args.piece.now c.loop.counter c.loop.invariant
+    (search rules))
 
 pub returns-then-is_over-2 : goal.returns-then-is_over-2
 returns-then-is_over-2 g c =
     elim c.then-is_over-2.branch [
-      | then-is_over-2-via-then-is_over-2 w ↦ subst (λ u. IsNext c.args.self.now c.args.side c.args.piece.now u) (sym
+      | then-is_over-2-via-then-is_over-2 w ↦
+          subst (λ u. IsNext c.args.self.now c.args.side c.args.piece.now u) (sym
           w.self-is)
           (next_clear c.args.self.now c.loop.self c.args.side c.args.piece.now (search rules)
-          (on_over c.args.self.now c.loop.self c.args.side c.args.piece.now c.loop.counter c.loop.invariant (search
+          (on_over c.args.self.now c.loop.self c.args.side c.args.piece.now c.loop.counter
+          c.loop.invariant (search
           rules)))
       | then-is_over-2-via-else-is_over-2+in_ok-take_next+then-not-branch w ↦
           subst (λ u. IsNext c.args.self.now c.args.side c.args.piece.now u) (sym w.self-is)
-          (next_clear c.args.self.now w.take_next.new.self c.args.side c.args.piece.now (search rules)
-          (on_none c.args.self.now c.loop.self w.take_next.new.self c.args.side c.args.piece.now c.loop.counter
+          (next_clear c.args.self.now w.take_next.new.self c.args.side c.args.piece.now
+          (search rules)
+          (on_none c.args.self.now c.loop.self w.take_next.new.self c.args.side c.args.piece.now
+          c.loop.counter
           c.loop.invariant (search rules)
-          (subst (λ b. IsTaken (front_of (ear c.loop.self.hearer.conversation c.args.side)) c.loop.self c.args.side b
+          (subst (λ b. IsTaken (front_of (ear c.loop.self.hearer.conversation c.args.side))
+          c.loop.self c.args.side b
           w.take_next.new.self)
           (search rules) w.in_ok-take_next.ensures.taken)))
     ]

@@ -8,4 +8,5 @@ returns-in-ToServer-clause-taken c =
 
 pub returns-in-FromServer-clause-taken : goal.returns-in-FromServer-clause-taken
 returns-in-FromServer-clause-taken c =
-    server_waits c.args.self.now c.args.side c.replace-in-FromServer.new.dest [] c.in-FromServer.is (search rules)
+    server_waits c.args.self.now c.args.side c.replace-in-FromServer.new.dest [] c.in-FromServer.is
+    (search rules)

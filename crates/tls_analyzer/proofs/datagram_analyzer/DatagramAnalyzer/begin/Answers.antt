@@ -4,10 +4,12 @@ use Rattle.tls_analyzer.proofs.datagram_analyzer.DatagramAnalyzer.begin.Goals as
 
 pub returns-in-ToServer : goal.returns-in-ToServer
 returns-in-ToServer c k is =
-    client_begins k c.args.self.now c.args.side (view_fragment c.args.fragment.now) c.begin.new.self c.in-ToServer.is
+    client_begins k c.args.self.now c.args.side (view_fragment c.args.fragment.now) c.begin.new.self
+    c.in-ToServer.is
     c.begin.ensures is
 
 pub returns-in-FromServer : goal.returns-in-FromServer
 returns-in-FromServer c k is =
-    server_begins k c.args.self.now c.args.side (view_fragment c.args.fragment.now) c.begin-in-FromServer.new.self
+    server_begins k c.args.self.now c.args.side (view_fragment c.args.fragment.now)
+    c.begin-in-FromServer.new.self
     c.in-FromServer.is c.begin-in-FromServer.ensures is

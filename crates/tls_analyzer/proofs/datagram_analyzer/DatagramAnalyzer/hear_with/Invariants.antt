@@ -1,4 +1,4 @@
--- what is left of the datagram, heard behind what came, is all of it
+-- reading the rest of the datagram in the state so far gives the final state
 use Rattle.std.proofs.Common.{◌-◌, length}
 use Rattle.tls_analyzer.specs.Datagrams.{IsKnown, Analyzer, heard}
 use Rattle.tls_analyzer.proofs.HeardLemmas.{IsHearing}

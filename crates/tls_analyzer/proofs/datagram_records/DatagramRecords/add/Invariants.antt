@@ -9,4 +9,6 @@ invariant-loop-record l =
     (goal.iterator-loop-record).can_next l.record-iterator ×
     (goal.iterator-loop-record).is_finite l.record-iterator ×
     (with_records l.is_13 (items_in (datagram_record13 l.connection_id_len) l.fn.datagram) l.fn.self
-    ≡ with_records l.is_13 (items_in (datagram_record13 l.record-iterator.connection_id_len) l.record-iterator.left.now) l.self)
+    ≡ with_records l.is_13
+    (items_in (datagram_record13 l.record-iterator.connection_id_len) l.record-iterator.left.now)
+    l.self)

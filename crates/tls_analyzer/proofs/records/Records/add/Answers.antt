@@ -9,6 +9,7 @@ loop-i-preserved c =
     let inv = c.loop-i.invariant in
     let below = c.loop-i-test.true in (
       omega (arith, low, wide, below),
-      passed c.min-passed.result c.loop-i.i c.args.bytes.now c.loop-i.self _ _ (omega (arith, low, wide))
+      passed c.min-passed.result c.loop-i.i c.args.bytes.now c.loop-i.self _ _
+          (omega (arith, low, wide))
           (omega (arith, low, wide, below)) refl inv.1,
     )

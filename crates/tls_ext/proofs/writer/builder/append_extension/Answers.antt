@@ -49,4 +49,12 @@ overflow_cast-len-in-EllipticCurves c =
     let is : length (extension_text (view c.args.extension.now)) ≡ length
     (extension_text (supported_groups (map (λ g. g.0) groups))) =
     ap (λ e. length (extension_text (view e))) c.in-EllipticCurves.is in
-    omega (arith, c.requires.fits.length, length-extension (view c.args.extension.now), is, size, count, c.len.ensures)
+    omega (
+      arith,
+      c.requires.fits.length,
+      length-extension (view c.args.extension.now),
+      is,
+      size,
+      count,
+      c.len.ensures,
+    )

@@ -28,8 +28,9 @@ use Rattle.layouts.proofs.WriterLemmas.{fits_at, fits_behind, texts_taken, room_
 use Rattle.tls_ext.proofs.writer.builder.append_extensions.Goals as goal
 use Rattle.tls_ext.proofs.writer.builder.append_extensions.Goals.{in-Ok, in_default}
 
--- what fits has a length
-never : (r : Result ℕ GenError) (x : TlsExtension) → Judges (FitsExtension (view x)) (RefusedExtension (view x))
+-- an extension that fits has a length
+never : (r : Result ℕ GenError) (x : TlsExtension)
+    → Judges (FitsExtension (view x)) (RefusedExtension (view x))
     (extension_text (view x)) r → FitsExtension (view x) → ((n : ℕ) → r ≡ Ok n → ⊥) → ⊥
 never (Ok n) x j fits other = other n refl
 never (Err e) x j fits other = j.1 fits
@@ -38,7 +39,8 @@ pub append_extension-requires-clause-room : goal.append_extension-requires-claus
 append_extension-requires-clause-room c = omega (
   arith,
   room_for extension_text view c.args.extensions.now
-      c.loop-extension.extension-index c.extension-item.result c.loop-extension-test.true c.extension-item.is,
+      c.loop-extension.extension-index c.extension-item.result c.loop-extension-test.true
+      c.extension-item.is,
   c.in-Ok.ensures.1,
 )
 
@@ -58,7 +60,8 @@ loop-extension-preserved c =
             ∙ append_assoc c.args.out.now.items (flat_map extension_text (map view (take i es)))
             (extension_text (view x))
             ∙ ap (λ t. c.args.out.now.items ++ t) (sym more);
-        range = fits_behind InRangeExtension view es i x h c.extension-item.is c.loop-extension.invariant.range
+        range = fits_behind InRangeExtension view es i x h c.extension-item.is
+            c.loop-extension.invariant.range
             w.append_extension.ensures.range;
         count = omega (
           arith,

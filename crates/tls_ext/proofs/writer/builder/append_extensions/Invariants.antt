@@ -6,7 +6,8 @@ use Rattle.tls_ext.proofs.writer.builder.append_extensions.Given as goal
 
 abbrev pub invariant-loop-extension : goal.invariant-loop-extension
 invariant-loop-extension l = record {
-  items : l.out.items ≡ l.fn.out.items ++ flat_map extension_text (map view (take l.extension-index l.extensions));
+  items : l.out.items ≡ l.fn.out.items ++ flat_map extension_text
+      (map view (take l.extension-index l.extensions));
   range : All InRangeExtension (map view (take l.extension-index l.extensions));
   count : vec_len l.out ≡ vec_len l.fn.out + length (flat_map extension_text
       (map view (take l.extension-index l.extensions)));

@@ -17,10 +17,13 @@ use Rattle.tls_ext.specs.ExtensionText.{
 use Rattle.layouts.proofs.WriterLemmas.{refused_at, none_refused, fits_at, fits_behind, texts_taken}
 use Rattle.tls_ext.proofs.writer.judge.extensions_len.Goals as goal
 
--- the first that is refused decides
-first : (es : List TlsExtension) (i : ℕ) (x : TlsExtension) (e : GenError) → i < length es → x ≡ get_or es i x
-    → All FitsExtension (map view (take i es)) → Judges (FitsExtension (view x)) (RefusedExtension (view x))
-    (extension_text (view x)) (Err e) → Judges (FitsExtensions (map view es)) (RefusedExtensions (map view es))
+-- the first refusal decides
+first : (es : List TlsExtension) (i : ℕ) (x : TlsExtension) (e : GenError) → i < length es
+    → x ≡ get_or es i x
+    → All FitsExtension (map view (take i es))
+    → Judges (FitsExtension (view x)) (RefusedExtension (view x))
+    (extension_text (view x)) (Err e)
+    → Judges (FitsExtensions (map view es)) (RefusedExtensions (map view es))
     (extensions_text (map view es)) (Err e)
 first es i x e h is fits j = (
   j.0,
@@ -31,7 +34,8 @@ first es i x e h is fits j = (
 pub returns-in_err-extension_len : goal.returns-in_err-extension_len
 returns-in_err-extension_len c =
     let p = err_from_is_err_and c.from_residual.result c.from_residual.ensures.1 in
-    rw (p.1, p.2) (first c.args.extensions.now c.loop-extension.extension-index c.extension-item.result
+    rw (p.1, p.2)
+    (first c.args.extensions.now c.loop-extension.extension-index c.extension-item.result
     c.in_err-extension_len.field-0.0 c.loop-extension-test.true c.extension-item.is
     c.loop-extension.invariant.each c.in_err-extension_len.ensures)
 
@@ -40,7 +44,8 @@ loop-extension-preserved c =
     let es = c.args.extensions.now in
     let i = c.loop-extension.extension-index in
     let x = c.extension-item.result in
-    let more = texts_taken extension_text view es i x c.loop-extension-test.true c.extension-item.is in
+    let more = texts_taken extension_text view es i x c.loop-extension-test.true
+    c.extension-item.is in
     record {
       each = fits_behind FitsExtension view es i x c.loop-extension-test.true c.extension-item.is
           c.loop-extension.invariant.each c.in_ok-extension_len.ensures.0;
@@ -62,7 +67,8 @@ returns-then-total-ge-TOO_LONG c =
     let each : All FitsExtension (map view es) = subst
     (λ xs. All FitsExtension (map view xs)) all c.loop-extension.invariant.each in
     let size : length (flat_map extension_text (map view (take i es))) ≡ length
-    (flat_map extension_text (map view es)) = ap (λ xs. length (flat_map extension_text (map view xs))) all in (
+    (flat_map extension_text (map view es)) =
+    ap (λ xs. length (flat_map extension_text (map view xs))) all in (
       tt,
       λ fits. absurd (omega (
         arith,

@@ -7,10 +7,12 @@ use Rattle.tls_fingerprints.proofs.hellos.ClientHelloParts.types_part.Goals as g
 
 pub returns-clause-some : goal.returns-clause-some
 returns-clause-some c =
-    types_are c.in_ok-types.types.all c.in_ok-types.types.others c.feed_algorithms-any.result c.other_types_in.new.room
+    types_are c.in_ok-types.types.all c.in_ok-types.types.others c.feed_algorithms-any.result
+    c.other_types_in.new.room
     _ _ _ (without_grease (items_in (number 2) c.algorithms.result.bytes.now)) _ _
     (search rules)
-    (subst (λ (ns : List ℕ). IsFilled c.other_types_in.new.room c.in_ok-types.types.others ns) (search rules)
+    (subst (λ (ns : List ℕ). IsFilled c.other_types_in.new.room c.in_ok-types.types.others ns)
+    (search rules)
     c.in_ok-types.ensures.some.1)
     (search rules)
     (ap without_grease c.algorithms.ensures)

@@ -7,5 +7,8 @@ use Rattle.tls_fingerprints.proofs.hellos.ServerHelloParts.ja3s_digits.Goals as 
 pub returns : goal.returns
 returns c =
     c.digits_of.ensures _
-    (c.feed_types.ensures _ (c.update-2.ensures _ (c.feed_decimal-2.ensures _ (c.update.ensures _ (c.feed_decimal.ensures [] c.new-text.ensures)))))
+    (c.feed_types.ensures _
+    (c.update-2.ensures _
+    (c.feed_decimal-2.ensures _
+    (c.update.ensures _ (c.feed_decimal.ensures [] c.new-text.ensures)))))
     ∙ ap (λ t. encode_lower (md5 t)) (three_fed _ _ _ _ (search rules))

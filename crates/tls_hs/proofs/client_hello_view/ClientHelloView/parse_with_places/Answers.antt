@@ -12,6 +12,7 @@ returns-clause-places c =
           c.in_ok-rest.hello.session_id s.session_id;
       cipher_suites = s.cipher_suites.is;
       compression_methods = s.compression_methods.is;
-      extensions = stands_there c.args.i.now c.client_hello_places_in.result.0.ext c.in_ok-rest.hello.ext
+      extensions =
+          stands_there c.args.i.now c.client_hello_places_in.result.0.ext c.in_ok-rest.hello.ext
           s.extensions;
     }

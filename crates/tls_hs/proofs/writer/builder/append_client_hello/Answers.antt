@@ -10,14 +10,17 @@ pub returns-clause-items : goal.returns-clause-items
 unfolding client_hello_text
 returns-clause-items c =
     let h = view_client_hello c.args.h.now in
-    six_added c.args.out.now.items c.append2.new.out.items c.append_bytes.new.out.items c.append_counted1.new.out.items
+    six_added c.args.out.now.items c.append2.new.out.items c.append_bytes.new.out.items
+    c.append_counted1.new.out.items
     c.append_suites.new.out.items c.append_methods.new.out.items c.append_counted2.new.out.items
     (bytes_of 2 h.client_version) h.random (counted_text 1 (held h.session_id))
-    (counted_text 2 (numbers_text 2 h.cipher_suites)) (counted_text 1 (numbers_text 1 h.compression_methods))
+    (counted_text 2 (numbers_text 2 h.cipher_suites))
+    (counted_text 1 (numbers_text 1 h.compression_methods))
     (counted_text 2 (held h.extensions))
     c.append2.ensures.items
     c.append_bytes.ensures.items
-    (c.append_counted1.ensures.items ∙ ap (λ x. c.append_bytes.new.out.items ++ counted_text 1 x) c.held.ensures.bytes)
+    (c.append_counted1.ensures.items
+    ∙ ap (λ x. c.append_bytes.new.out.items ++ counted_text 1 x) c.held.ensures.bytes)
     (c.append_suites.ensures.items ∙ ap (λ x. c.append_counted1.new.out.items ++ counted_text 2
     (numbers_text 2 (map (λ x. x.0) x))) c.deref.ensures.value)
     (c.append_methods.ensures.items ∙ ap (λ x. c.append_suites.new.out.items ++ counted_text 1

@@ -9,7 +9,8 @@ loop-method-preserved c = record {
       c.args.out.now.items c.loop-method.out.items c.append1.new.out.items c.loop-method-test.true
       c.loop-method.invariant.items c.append1.ensures.items;
   range =
-      all_behind (λ x. x < 256 ^ 1) (λ x. x.0) c.args.methods.now c.loop-method.method-index (record { 0 = 0 })
+      all_behind (λ x. x < 256 ^ 1) (λ x. x.0) c.args.methods.now c.loop-method.method-index
+      (record { 0 = 0 })
       c.loop-method-test.true c.loop-method.invariant.range c.append1.ensures.range;
   count = omega (arith, c.append1.ensures.len);
   room = omega (arith, c.append1.ensures.capacity);

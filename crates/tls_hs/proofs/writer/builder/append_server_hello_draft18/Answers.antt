@@ -10,10 +10,12 @@ pub returns-clause-items : goal.returns-clause-items
 unfolding server_hello_draft18_text
 returns-clause-items c =
     let h = view_server_hello_draft18 c.args.h.now in
-    four_added c.args.out.now.items c.append2.new.out.items c.append_bytes.new.out.items c.append2-2.new.out.items
+    four_added c.args.out.now.items c.append2.new.out.items c.append_bytes.new.out.items
+    c.append2-2.new.out.items
     c.append_counted2.new.out.items
     (bytes_of 2 h.version) h.random (bytes_of 2 h.cipher_suite) (counted_text 2 (held h.extensions))
     c.append2.ensures.items
     c.append_bytes.ensures.items
     c.append2-2.ensures.items
-    (c.append_counted2.ensures.items ∙ ap (λ x. c.append2-2.new.out.items ++ counted_text 2 x) c.held.ensures.bytes)
+    (c.append_counted2.ensures.items
+    ∙ ap (λ x. c.append2-2.new.out.items ++ counted_text 2 x) c.held.ensures.bytes)

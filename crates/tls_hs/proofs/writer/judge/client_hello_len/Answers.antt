@@ -9,7 +9,8 @@ returns c =
     let ext = c.held-ext.ensures.len in
     let suites = c.len-suites.ensures in
     let methods = c.len-methods.ensures in (
-      client_hello_fits h (search rules) (search (rules, id)) (search (rules, suites)) (search (rules, methods))
+      client_hello_fits h (search rules) (search (rules, id)) (search (rules, suites))
+          (search (rules, methods))
           (search (rules, ext)),
       omega (arith, client_hello_length h, id, ext, suites, methods),
     )

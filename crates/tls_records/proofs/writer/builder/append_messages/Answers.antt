@@ -7,14 +7,21 @@ use Rattle.tls_records.proofs.writer.builder.append_messages.Goals as goal
 
 pub append_message-requires-clause-fits : goal.append_message-requires-clause-fits
 append_message-requires-clause-fits c =
-    fits_at FitsMessage view_message c.args.messages.now c.loop-message.message-index c.message-item.result
+    fits_at FitsMessage view_message c.args.messages.now c.loop-message.message-index
+    c.message-item.result
     c.loop-message-test.true c.message-item.is c.requires.fits
 
 pub append_message-requires-clause-room : goal.append_message-requires-clause-room
 append_message-requires-clause-room c =
     let within = room_for message_text view_message c.args.messages.now c.loop-message.message-index
     c.message-item.result c.loop-message-test.true c.message-item.is in
-    omega (arith, within, c.requires.room, c.loop-message.invariant.count, c.loop-message.invariant.room)
+    omega (
+      arith,
+      within,
+      c.requires.room,
+      c.loop-message.invariant.count,
+      c.loop-message.invariant.room,
+    )
 
 pub loop-message-preserved : goal.loop-message-preserved
 loop-message-preserved c =
@@ -30,7 +37,8 @@ loop-message-preserved c =
           ∙ ap (λ t. t ++ message_text (view_message m)) c.loop-message.invariant.items
           ∙ append_assoc c.args.out.now.items front (message_text (view_message m))
           ∙ ap (λ t. c.args.out.now.items ++ t) (sym more);
-      range = fits_behind InRangeMessage view_message ms i m h c.message-item.is c.loop-message.invariant.range
+      range = fits_behind InRangeMessage view_message ms i m h c.message-item.is
+          c.loop-message.invariant.range
           c.append_message.ensures.range;
       count = omega (
         arith,

@@ -6,7 +6,8 @@ use Rattle.tls_records.proofs.writer.builder.append_messages.Given as goal
 
 abbrev pub invariant-loop-message : goal.invariant-loop-message
 invariant-loop-message l = record {
-  items : l.out.items ≡ l.fn.out.items ++ fragment_text (map view_message (take l.message-index l.messages));
+  items : l.out.items ≡ l.fn.out.items ++ fragment_text
+      (map view_message (take l.message-index l.messages));
   range : All InRangeMessage (map view_message (take l.message-index l.messages));
   count : vec_len l.out ≡ vec_len l.fn.out + length
       (fragment_text (map view_message (take l.message-index l.messages)));

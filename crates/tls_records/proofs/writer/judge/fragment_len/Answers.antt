@@ -10,13 +10,15 @@ use Rattle.tls_hs.specs.declared.message.TlsMessage.{TlsMessage}
 use Rattle.tls_records.specs.RecordText.{FitsMessage, RefusesMessage, refusal_of_message, message_text, fragment_text}
 use Rattle.tls_records.proofs.writer.judge.fragment_len.Goals as goal
 
--- the first that is refused decides
-first : (ms : List TlsMessage) (i : ℕ) (m : TlsMessage) (e : GenError) → i < length ms → m ≡ get_or ms i m
+-- the first refusal decides
+first : (ms : List TlsMessage) (i : ℕ) (m : TlsMessage) (e : GenError) → i < length ms
+    → m ≡ get_or ms i m
     → All FitsMessage (map view_message (take i ms))
     → Judges (FitsMessage (view_message m)) (λ e. e ≡ refusal_of_message (view_message m))
     (message_text (view_message m)) (Err e) → Judges (All FitsMessage (map view_message ms)
     × (length (fragment_text (map view_message ms)) ≤ 65535))
-    (RefusesFirst FitsMessage RefusesMessage (map view_message ms)) (fragment_text (map view_message ms)) (Err e)
+    (RefusesFirst FitsMessage RefusesMessage (map view_message ms))
+    (fragment_text (map view_message ms)) (Err e)
 first ms i m e h is fits j = (
   j.0,
   λ all. j.1 (fits_at FitsMessage view_message ms i m h is all.0),
@@ -28,7 +30,8 @@ pub returns-in_err-message_len : goal.returns-in_err-message_len
 returns-in_err-message_len c =
     let p = err_from_is_err_and c.from_residual.result c.from_residual.ensures.1 in
     rw (p.1, p.2) (first c.args.messages.now c.loop-message.message-index c.message-item.result
-    c.in_err-message_len.field-0.0 c.loop-message-test.true c.message-item.is c.loop-message.invariant.fits
+    c.in_err-message_len.field-0.0 c.loop-message-test.true c.message-item.is
+    c.loop-message.invariant.fits
     c.in_err-message_len.ensures)
 
 pub loop-message-preserved : goal.loop-message-preserved
@@ -36,7 +39,8 @@ loop-message-preserved c =
     let ms = c.args.messages.now in
     let i = c.loop-message.message-index in
     let m = c.message-item.result in
-    let more = texts_taken message_text view_message ms i m c.loop-message-test.true c.message-item.is in
+    let more = texts_taken message_text view_message ms i m c.loop-message-test.true
+    c.message-item.is in
     record {
       fits = fits_behind FitsMessage view_message ms i m c.loop-message-test.true c.message-item.is
           c.loop-message.invariant.fits c.in_ok-message_len.ensures.0;
@@ -56,9 +60,11 @@ returns-then-len-gt-MAX_FRAGMENT_LEN c =
     let ms = c.args.messages.now in
     let i = c.loop-message.message-index in
     let all : take i ms ≡ ms = take_all i ms c.loop-message-test.false in
-    let each : All FitsMessage (map view_message ms) = subst (λ xs. All FitsMessage (map view_message xs)) all
+    let each : All FitsMessage (map view_message ms) =
+    subst (λ xs. All FitsMessage (map view_message xs)) all
     c.loop-message.invariant.fits in
-    let size : length (fragment_text (map view_message (take i ms))) ≡ length (fragment_text (map view_message ms)) =
+    let size : length (fragment_text (map view_message (take i ms))) ≡ length
+    (fragment_text (map view_message ms)) =
     ap (λ xs. length (fragment_text (map view_message xs))) all in (
       tt,
       λ fits. absurd (omega (

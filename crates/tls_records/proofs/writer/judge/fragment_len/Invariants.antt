@@ -8,5 +8,6 @@ use Rattle.tls_records.proofs.writer.judge.fragment_len.Given as goal
 abbrev pub invariant-loop-message : goal.invariant-loop-message
 invariant-loop-message l = record {
   fits : All FitsMessage (map view_message (take l.message-index l.messages));
-  count : l.len ≡ min (length (fragment_text (map view_message (take l.message-index l.messages)))) (2 ^ 64 - 1);
+  count : l.len ≡ min (length (fragment_text (map view_message (take l.message-index l.messages))))
+      (2 ^ 64 - 1);
 }

@@ -3,6 +3,6 @@ use Rattle.tls_states.specs.Symbols.{word}
 use Rattle.tls_states.specs.Steps.{run}
 use Rattle.tls_states.proofs.context.ParseContext.run.Given as goal
 
--- What is left of the run ends where the whole run does.
+-- The rest of the run ends where the whole run does.
 abbrev pub invariant-loop-i : goal.invariant-loop-i
 invariant-loop-i l = run l.self (word (drop l.i l.messages)) ≡ run l.fn.self (word l.fn.messages)

@@ -1,4 +1,4 @@
--- what the side says now, it said behind what was taken
+-- what the side says now, it said after what was taken
 use Rattle.std.proofs.Common.{◌≡◌, [], length, true}
 use Rattle.tls_stream.specs.Conversations.{ear}
 use Rattle.tls_stream.specs.Ears.{says}

@@ -7,11 +7,13 @@ pub returns-clause-taken : goal.returns-clause-taken
 returns-clause-taken c same = elim c.match-side.branch [
   | in-ToServer w ↦
       client_taken c.args.self.now c.match-side.self c.follow.new.self c.args.side c.args.event
-      w.take_front-is_taken.result w.take_front-is_taken.new.self w.in-ToServer.is w.self-is w.take_front-is_taken.ensures.taken
+      w.take_front-is_taken.result w.take_front-is_taken.new.self w.in-ToServer.is w.self-is
+      w.take_front-is_taken.ensures.taken
       (search rules) c.follow.ensures same
   | in-FromServer w ↦
       server_taken c.args.self.now c.match-side.self c.follow.new.self c.args.side c.args.event
-      w.take_front-is_taken-in-FromServer.result w.take_front-is_taken-in-FromServer.new.self w.in-FromServer.is w.self-is
+      w.take_front-is_taken-in-FromServer.result w.take_front-is_taken-in-FromServer.new.self
+      w.in-FromServer.is w.self-is
       w.take_front-is_taken-in-FromServer.ensures.taken (search rules) c.follow.ensures same
 ]
 
@@ -19,10 +21,12 @@ pub returns-then-not-is_taken-clause-taken : goal.returns-then-not-is_taken-clau
 returns-then-not-is_taken-clause-taken c same = elim c.match-side.branch [
   | in-ToServer w ↦
       client_silent c.args.self.now c.match-side.self c.args.side
-      w.take_front-is_taken.result w.take_front-is_taken.new.self w.in-ToServer.is w.self-is w.take_front-is_taken.ensures.taken
+      w.take_front-is_taken.result w.take_front-is_taken.new.self w.in-ToServer.is w.self-is
+      w.take_front-is_taken.ensures.taken
       (search rules)
   | in-FromServer w ↦
       server_silent c.args.self.now c.match-side.self c.args.side
-      w.take_front-is_taken-in-FromServer.result w.take_front-is_taken-in-FromServer.new.self w.in-FromServer.is w.self-is
+      w.take_front-is_taken-in-FromServer.result w.take_front-is_taken-in-FromServer.new.self
+      w.in-FromServer.is w.self-is
       w.take_front-is_taken-in-FromServer.ensures.taken (search rules)
 ]

@@ -23,7 +23,8 @@ returns-then-open-n c =
     let h = c.self.inside in
     let low : h.part ≤ h.part_end = omega (arith, c.self.invariant) in
     let mid : h.part_end ≤ h.unread = omega (arith, c.self.invariant) in
-    let enough = subst (λ (v : Held). 5 + c.args.n ≤ length v.unread) (sym c.self.view_is) c.requires in
+    let enough =
+    subst (λ (v : Held). 5 + c.args.n ≤ length v.unread) (sym c.self.view_is) c.requires in
     let start = h.unread + 5 - (h.part_end - h.part) in
     let items = c.copy_within.ensures.items in
     both
@@ -36,12 +37,15 @@ returns-then-open-n c =
 pub returns : goal.returns
 returns c =
     let h = c.self.inside in
-    let enough = subst (λ (v : Held). 5 + c.args.n ≤ length v.unread) (sym c.self.view_is) c.requires in
+    let enough =
+    subst (λ (v : Held). 5 + c.args.n ≤ length v.unread) (sym c.self.view_is) c.requires in
     let items = c.copy_within-2.ensures.items in
     both
     (ap (λ b. take (h.part_end + c.args.n - h.part) (drop h.part b)) items
-    ∙ joined_part h.bytes.items h.part h.part_end h.unread c.args.n (omega (arith, c.self.invariant))
+    ∙ joined_part h.bytes.items h.part h.part_end h.unread c.args.n
+    (omega (arith, c.self.invariant))
     (omega (arith, c.self.invariant)) enough)
     (ap (drop (h.unread + 5 + c.args.n)) items
-    ∙ joined_unread h.bytes.items h.part_end h.unread c.args.n (omega (arith, c.self.invariant)) enough)
+    ∙ joined_unread h.bytes.items h.part_end h.unread c.args.n
+    (omega (arith, c.self.invariant)) enough)
     ∙ ap (λ (v : Held). joined v c.args.n) c.self.view_is

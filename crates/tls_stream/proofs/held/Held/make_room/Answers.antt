@@ -13,7 +13,8 @@ returns-then-held-len c =
     let high : h.unread ≤ length b = omega (arith, c.self.invariant) in
     let few : h.part_end - h.part ≤ length (drop h.part b) = omega (arith, length-drop h.part b) in
     let size : vec_len c.copy_within.new.self ≡ length c.copy_within.new.self.items = omega arith in
-    let all = room b c.copy_within.new.self.items c.copy_within-then-held-len.new.self.items c.truncate.new.self.items
+    let all = room b c.copy_within.new.self.items c.copy_within-then-held-len.new.self.items
+    c.truncate.new.self.items
     h.part h.part_end h.unread c.len.result
     low mid high (omega arith) c.copy_within.ensures.items
     (c.copy_within-then-held-len.ensures.items

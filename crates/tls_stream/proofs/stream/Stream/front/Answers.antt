@@ -7,5 +7,6 @@ use Rattle.tls_stream.proofs.stream.Stream.front.Goals as goal
 
 pub returns-in-Some : goal.returns-in-Some
 returns-in-Some c =
-    ap (option_map (λ (x : Event × Source). x.0)) (c.in-Some.ensures ∙ ap first_source c.view.ensures)
+    ap (option_map (λ (x : Event × Source). x.0))
+    (c.in-Some.ensures ∙ ap first_source c.view.ensures)
     ∙ source_front c.args.self.now

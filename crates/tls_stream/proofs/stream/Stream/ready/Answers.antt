@@ -16,5 +16,6 @@ fragments-preserved c = λ s.
       kind = c.in-Joins.kind;
       held = h;
     }) s)) c.join.ensures
-    ∙ subst (λ (v : Stream). SaysTheSame (joined_to v c.in-Joins.kind c.in-Joins.len) v) c.view.ensures c.in-Joins.ensures.1 s
+    ∙ subst (λ (v : Stream). SaysTheSame (joined_to v c.in-Joins.kind c.in-Joins.len) v)
+    c.view.ensures c.in-Joins.ensures.1 s
     ∙ c.fragments.invariant s

@@ -1,4 +1,4 @@
--- the events are those of the beginning, those that are still to come too
+-- the events are those of the beginning, including those still to come
 use Rattle.std.proofs.Common.{length}
 use Rattle.tls_stream.specs.Stream.{SaysTheSame}
 use Rattle.tls_stream.proofs.stream.Stream.ready.Given as goal

@@ -8,14 +8,16 @@ pub take_part-requires : goal.take_part-requires
 take_part-requires c =
     source_fits c.args.self.now (view_event c.in-Some-default-Message.field-0-0)
     (OfMessage c.in-Some-default-Message.message.now)
-    (message_source c.args.self.now c.view.result (view_event c.in-Some-default-Message.field-0-0) c.in-Some-default-Message.field-0-1 c.in-Some-default-Message.message
+    (message_source c.args.self.now c.view.result (view_event c.in-Some-default-Message.field-0-0)
+    c.in-Some-default-Message.field-0-1 c.in-Some-default-Message.message
     c.in-Some-default-Message.field-0-1-is c.in-Some-default-Message.ensures c.view.ensures)
 
 pub bounds-record-0 : goal.bounds-record-0
 bounds-record-0 c =
     let enough = (source_fits c.args.self.now (view_event c.in-Some-default-Record.field-0-0)
     (OfRecord c.in-Some-default-Record.record.now)
-    (record_source c.args.self.now c.view.result (view_event c.in-Some-default-Record.field-0-0) c.in-Some-default-Record.field-0-1 c.in-Some-default-Record.record
+    (record_source c.args.self.now c.view.result (view_event c.in-Some-default-Record.field-0-0)
+    c.in-Some-default-Record.field-0-1 c.in-Some-default-Record.record
     c.in-Some-default-Record.field-0-1-is c.in-Some-default-Record.ensures c.view.ensures)).0 in
     omega (arith, enough)
 
@@ -23,7 +25,8 @@ pub take_unread-requires : goal.take_unread-requires
 take_unread-requires c =
     (source_fits c.args.self.now (view_event c.in-Some-default-Record.field-0-0)
     (OfRecord c.in-Some-default-Record.record.now)
-    (record_source c.args.self.now c.view.result (view_event c.in-Some-default-Record.field-0-0) c.in-Some-default-Record.field-0-1 c.in-Some-default-Record.record
+    (record_source c.args.self.now c.view.result (view_event c.in-Some-default-Record.field-0-0)
+    c.in-Some-default-Record.field-0-1 c.in-Some-default-Record.record
     c.in-Some-default-Record.field-0-1-is c.in-Some-default-Record.ensures c.view.ensures)).1
 
 pub returns-in-Some-default-Message : goal.returns-in-Some-default-Message
@@ -37,8 +40,10 @@ returns-in-Some-default-Message c =
       held = h;
     }))
     (sym c.take_part.ensures)
-    (source_taken d (view_event c.in-Some-default-Message.field-0-0) (OfMessage c.in-Some-default-Message.message.now)
-    (message_source c.args.self.now c.view.result (view_event c.in-Some-default-Message.field-0-0) c.in-Some-default-Message.field-0-1 c.in-Some-default-Message.message
+    (source_taken d (view_event c.in-Some-default-Message.field-0-0)
+    (OfMessage c.in-Some-default-Message.message.now)
+    (message_source c.args.self.now c.view.result (view_event c.in-Some-default-Message.field-0-0)
+    c.in-Some-default-Message.field-0-1 c.in-Some-default-Message.message
     c.in-Some-default-Message.field-0-1-is c.in-Some-default-Message.ensures c.view.ensures))
 
 pub returns-in-Some-default-Record : goal.returns-in-Some-default-Record
@@ -53,6 +58,8 @@ returns-in-Some-default-Record c =
       held = h;
     }))
     (sym c.take_unread.ensures)
-    (source_taken d (view_event c.in-Some-default-Record.field-0-0) (OfRecord c.in-Some-default-Record.record.now)
-    (record_source c.args.self.now c.view.result (view_event c.in-Some-default-Record.field-0-0) c.in-Some-default-Record.field-0-1 c.in-Some-default-Record.record
+    (source_taken d (view_event c.in-Some-default-Record.field-0-0)
+    (OfRecord c.in-Some-default-Record.record.now)
+    (record_source c.args.self.now c.view.result (view_event c.in-Some-default-Record.field-0-0)
+    c.in-Some-default-Record.field-0-1 c.in-Some-default-Record.record
     c.in-Some-default-Record.field-0-1-is c.in-Some-default-Record.ensures c.view.ensures))

@@ -9,7 +9,8 @@ read-requires c = record_length c.args.self.now.held.unread c.in-Some.record.now
 
 pub returns-in-Broken : goal.returns-in-Broken
 returns-in-Broken c =
-    fails_broken c.args.self.now c.requires.none c.requires.small c.in-Some.record.now c.in-Broken.kind
+    fails_broken c.args.self.now c.requires.none c.requires.small c.in-Some.record.now
+    c.in-Broken.kind
     c.in-Some.ensures c.in-Broken.ensures
 
 pub returns-in-Alone : goal.returns-in-Alone

@@ -11,11 +11,14 @@ returns c =
     let q = state_in c.args.self.now.flow in
     let s = stop_of c.args.self.now.stop in
     let n = c.args.self.now.events in
-    ap (λ m. flow_at (state_in (record { state = c.number_of_state.result })) m (stop_of c.stop_behind-self.result))
+    ap (λ m. flow_at (state_in (record { state = c.number_of_state.result })) m
+    (stop_of c.stop_behind-self.result))
     c.saturating_add-self.ensures
-    ∙ followed_from q n s c.args.event c.update.new.self c.is_some.result (stop_of c.stop_behind-self.result)
+    ∙ followed_from q n s c.args.event c.update.new.self c.is_some.result
+    (stop_of c.stop_behind-self.result)
     (state_in (record { state = c.number_of_state.result }))
     (c.update.ensures
-    ∙ ap (λ f. follow f c.args.event) (c.at-followed.ensures ∙ ap (λ q. record silence { state = q }) c.state.ensures))
+    ∙ ap (λ f. follow f c.args.event)
+    (c.at-followed.ensures ∙ ap (λ q. record silence { state = q }) c.state.ensures))
     (c.is_some.ensures ∙ ap is_some c.stop.ensures) c.stop_behind-self.ensures
     (ap (λ o. unwrap_or o state.NoHandshake) c.number_of_state.ensures ∙ c.state-2.ensures)

@@ -10,6 +10,7 @@ returns-clause-fed c = λ k.
     let piece = c.args.piece.now in
     let count : length piece ≡ s.end + length piece - s.end = omega arith in
     fed_stream k c.make_room_for.new.buffer _ piece s c.make_room_for.ensures.within
-    (put_mid-paste s.end (s.end + length piece - s.end) c.make_room_for.new.buffer c.copy_from_slice.new.self piece
+    (put_mid-paste s.end (s.end + length piece - s.end) c.make_room_for.new.buffer
+    c.copy_from_slice.new.self piece
     (length piece) c.copy_from_slice.ensures.after count refl)
     ∙ ap (λ d. fed d piece) (c.make_room_for.ensures.same k)

@@ -4,14 +4,17 @@ use Rattle.wispuddera_c.proofs.side.Side.hear.Goals as goal
 
 pub returns-in-Ok-true-clause-some : goal.returns-in-Ok-true-clause-some
 returns-in-Ok-true-clause-some c =
-    some_heard c.args.side c.args.known c.args.buffer.now c.settle.new.buffer c.args.self.now c.settle.new.self
-    c.take_first.new.self c.take_first.result c.requires.speaks c.settle.ensures.over c.settle.ensures.same
+    some_heard c.args.side c.args.known c.args.buffer.now c.settle.new.buffer c.args.self.now
+    c.settle.new.self
+    c.take_first.new.self c.take_first.result c.requires.speaks c.settle.ensures.over
+    c.settle.ensures.same
     c.take_first.ensures.over c.take_first.ensures.some
 
 pub returns-in-Err-clause-some : goal.returns-in-Err-clause-some
 returns-in-Err-clause-some c = (
   Failed c.in-Err.fault,
-  heard_fault c.args.known c.args.buffer.now c.settle.new.buffer c.args.self.now c.settle.new.self c.requires.speaks
+  heard_fault c.args.known c.args.buffer.now c.settle.new.buffer c.args.self.now c.settle.new.self
+      c.requires.speaks
       c.settle.ensures.over c.settle.ensures.same c.in-Err.fault c.in-Err.ensures.next,
   c.heard_fault.ensures c.settle.new.buffer,
 )

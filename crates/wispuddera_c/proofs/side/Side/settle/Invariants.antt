@@ -1,4 +1,4 @@
--- what is said is that of the beginning, whatever comes
+-- what is said is what was said at the beginning, whatever follows
 use Rattle.std.proofs.Common.{◌≡◌, length}
 use Rattle.tls_stream.specs.Stream.{SaysTheSame}
 use Rattle.wispuddera_c.specs.Side.{IsWithin, held_in, stream_of}

@@ -7,7 +7,8 @@ use Rattle.wispuddera_c.proofs.side.Side.take_first.Goals as goal
 
 pub take_off-content-requires-clause-front : goal.take_off-content-requires-clause-front
 take_off-content-requires-clause-front c =
-    (source_is (stream_of c.args.known c.args.buffer.now c.args.self.now) (view_event c.in-Some.event)
+    (source_is (stream_of c.args.known c.args.buffer.now c.args.self.now)
+    (view_event c.in-Some.event)
     (view_source c.in-Some.source) (c.in-Some.ensures ∙ ap first_source c.view.ensures)).stands
 
 pub returns-in-Some-clause-some : goal.returns-in-Some-clause-some
@@ -17,7 +18,9 @@ returns-in-Some-clause-some c =
     c.in-Some.ensures ∙ ap first_source c.view.ensures in (
       view_event c.in-Some.event,
       source_first d (view_event c.in-Some.event) (view_source c.in-Some.source) here
-          ∙ ap (λ e. Some (view_event c.in-Some.event, e)) (sym (c.take_off-content.ensures.taken c.args.known)),
-      c.heard_of.ensures c.args.buffer.now (bytes_of (view_source c.in-Some.source)) c.take_off-content.ensures.stands
+          ∙ ap (λ e. Some (view_event c.in-Some.event, e))
+          (sym (c.take_off-content.ensures.taken c.args.known)),
+      c.heard_of.ensures c.args.buffer.now (bytes_of (view_source c.in-Some.source))
+          c.take_off-content.ensures.stands
           (source_is d (view_event c.in-Some.event) (view_source c.in-Some.source) here).said,
     )

@@ -9,5 +9,10 @@ pub returns-clause-places : goal.returns-clause-places
 returns-clause-places c = λ at.
     let w = take (length c.args.whole.now - c.args.behind) c.args.whole.now in
     let after : EndsWith w c.in_ok-after.after.now =
-    ends_read (tagged 6 object_identifier_content) w c.args.i.now _ c.in_ok-after.after.now at c.in_ok-after.ensures.gives.allowed in
-    record { algorithm = c.in_ok-after.ensures.places at; parameters = c.in_ok-rest.ensures.places after }
+    ends_read (tagged 6 object_identifier_content) w c.args.i.now _ c.in_ok-after.after.now at
+    c.in_ok-after.ensures.gives.allowed in
+    record {
+      algorithm = c.in_ok-after.ensures.places at;
+      parameters =
+          c.in_ok-rest.ensures.places after;
+    }

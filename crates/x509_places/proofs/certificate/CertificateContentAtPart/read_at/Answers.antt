@@ -14,7 +14,8 @@ returns-clause-places c = λ at.
     let same : i ≡ bytes = sym (rest_same i bytes _ c.in_ok-bytes.ensures.allowed) in
     let after = c.in_ok-after.after.now in
     let end : EndsWith i after =
-    ends_read (tagged 0x30 tbs_certificate) i i _ after (ends_here i) c.in_ok-after.ensures.gives.allowed in
+    ends_read (tagged 0x30 tbs_certificate) i i _ after (ends_here i)
+    c.in_ok-after.ensures.gives.allowed in
     let first : EndsWith w after =
     ends_read (tagged 0x30 tbs_certificate) w i _ after at c.in_ok-after.ensures.gives.allowed in
     let second : EndsWith w c.in_ok-after_algorithm.after_algorithm.now =

@@ -9,10 +9,13 @@ pub returns-clause-places : goal.returns-clause-places
 returns-clause-places c = λ at.
     let w = take (length c.args.whole.now - c.args.behind) c.args.whole.now in
     let first : EndsWith w c.in_ok-after_first.after_first.now =
-    ends_read first_fields w c.args.i.now _ c.in_ok-after_first.after_first.now at c.in_ok-after_first.ensures.gives.allowed in
+    ends_read first_fields w c.args.i.now _ c.in_ok-after_first.after_first.now at
+    c.in_ok-after_first.ensures.gives.allowed in
     let second : EndsWith w c.in_ok-after_names.after_names.now =
-    ends_read name_fields w c.in_ok-after_first.after_first.now _ c.in_ok-after_names.after_names.now first c.in_ok-after_names.ensures.gives.allowed in
-    let names : NamesStand c.args.whole.now c.in_ok-after_names.names = c.in_ok-after_names.ensures.places first in
+    ends_read name_fields w c.in_ok-after_first.after_first.now _
+    c.in_ok-after_names.after_names.now first c.in_ok-after_names.ensures.gives.allowed in
+    let names : NamesStand c.args.whole.now c.in_ok-after_names.names =
+    c.in_ok-after_names.ensures.places first in
     record {
       serial_number = c.in_ok-after_first.ensures.places at;
       issuer = names.issuer;

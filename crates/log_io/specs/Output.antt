@@ -1,7 +1,7 @@
 -- Whether a write failed, by what a call answers.
 use Rattle.std.specs.Prelude.{◌≡◌, ⊤, Bool, true, Result, Ok, Err}
-use Rattle.tlslog.specs.declared.output.LineError.{LineError}
-use Rattle.tlslog.specs.declared.output.LineError.TheVariants.{OutOfMemory, Closed, Writing}
+use Rattle.log_io.specs.declared.output.LineError.{LineError}
+use Rattle.log_io.specs.declared.output.LineError.TheVariants.{OutOfMemory, Closed, Writing}
 
 -- A write is at fault, and not memory.
 abbrev pub IsOfWriting : LineError → Type 0

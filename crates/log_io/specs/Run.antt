@@ -6,14 +6,14 @@ use Rattle.packets.specs.Packets.{Whole, packets_of}
 use Rattle.packets.specs.declared.reader.CaptureError.TheVariants as capture
 use Rattle.packets.specs.declared.visit.VisitError.{VisitError}
 use Rattle.packets.specs.declared.visit.VisitError.TheVariants as visit
-use Rattle.tlslog.specs.declared.failure.Exit.{Exit}
-use Rattle.tlslog.specs.declared.failure.Exit.TheVariants as exit
-use Rattle.tlslog.specs.declared.failure.Failure.{Failure}
-use Rattle.tlslog.specs.declared.failure.Failure.TheVariants.{Capture, OutOfMemory, Reading, Endless, Closed, Writing}
-use Rattle.tlslog.specs.declared.output.LineError.{LineError}
-use Rattle.tlslog.specs.declared.output.LineError.TheVariants as line
+use Rattle.log_io.specs.declared.failure.Exit.{Exit}
+use Rattle.log_io.specs.declared.failure.Exit.TheVariants as exit
+use Rattle.log_io.specs.declared.failure.Failure.{Failure}
+use Rattle.log_io.specs.declared.failure.Failure.TheVariants.{Capture, OutOfMemory, Reading, Endless, Closed, Writing}
+use Rattle.log_io.specs.declared.output.LineError.{LineError}
+use Rattle.log_io.specs.declared.output.LineError.TheVariants as line
 
--- The capture is at fault, and neither memory nor reading nor writing.
+-- The capture is at fault: not memory, reading or writing.
 abbrev pub IsOfCapture : Failure → Type 0
 IsOfCapture (Capture text) = ⊤
 IsOfCapture f = ⊥
@@ -28,7 +28,7 @@ failure_of_line line.OutOfMemory = OutOfMemory
 failure_of_line line.Closed = Closed
 failure_of_line (line.Writing e) = Writing e
 
--- A run fails by what ended the visit of its packets.
+-- A run fails by the error that ended the visit of its packets.
 abbrev pub IsFailureOf : VisitError LineError → Failure → Type 0
 IsFailureOf (visit.Capture capture.OutOfMemory) f = f ≡ OutOfMemory
 IsFailureOf (visit.Capture e) f = IsOfCapture f
@@ -41,23 +41,23 @@ IsFailureOf (visit.Visitor e) f = f ≡ failure_of_line e
 abbrev pub IsReadWhole : Option Bytes → Option Bytes → Type 0
 IsReadWhole old new = IfSome old (λ bytes. ((packets_of bytes).1 ≡ Whole) × IsAtEnd new)
 
--- The source has no capture, or one that is broken off.
+-- The source has no capture, or a truncated one.
 abbrev pub HasNoWholeCapture : Option Bytes → Type 0
 HasNoWholeCapture old = IfSome old (λ bytes. (packets_of bytes).1 ≡ Whole → ⊥)
 
--- What a run answers: all was read; the capture is at fault; or anything else is.
+-- A run returns `Ok` if all was read, `Capture` if the capture is at fault, else another error.
 abbrev pub EndsBy : Option Bytes → Option Bytes → Result Unit Failure → Type 0
 EndsBy old new (Ok u) = IsReadWhole old new
 EndsBy old new (Err (Capture text)) = HasNoWholeCapture old
 EndsBy old new (Err f) = ⊤
 
--- The same of how it exits.
+-- It exits as `Clean` if all was read, as `Broken` if the capture is at fault.
 abbrev pub Exits : Option Bytes → Option Bytes → Exit → Type 0
 Exits old new exit.Clean = IsReadWhole old new
 Exits old new exit.Broken = HasNoWholeCapture old
 Exits old new e = ⊤
 
--- It exits by why it failed.
+-- The exit fits the failure.
 abbrev pub ExitsBy : Failure → Exit → Type 0
 ExitsBy f exit.Clean = ⊥
 ExitsBy f exit.Closed = f ≡ Closed
@@ -69,7 +69,7 @@ abbrev pub IsNotOfCapture : Exit → Type 0
 IsNotOfCapture exit.Broken = ⊥
 IsNotOfCapture e = ⊤
 
--- Where there is no value, the run failed.
+-- Without a value, the run failed.
 abbrev pub HasFailed : {A : Type 0} → Result A Exit → Type 0
 HasFailed (Ok a) = ⊤
 HasFailed (Err exit.Failed) = ⊤
@@ -80,13 +80,13 @@ abbrev pub IsAsBefore : Exit → Exit → Type 0
 IsAsBefore e exit.Failed = ⊤
 IsAsBefore e e' = e' ≡ e
 
--- Unless it failed otherwise than by the capture, it is sound if it was.
+-- After a success or a fault of the capture, no write failed if none had before.
 abbrev pub StaysSound : Bool → Bool → Result Unit Failure → Type 0
 StaysSound old new (Ok u) = old ≡ false → new ≡ false
 StaysSound old new (Err (Capture text)) = old ≡ false → new ≡ false
 StaysSound old new (Err f) = ⊤
 
--- Unless it exits as failed, or nobody reads on, no write failed.
+-- Unless it exits as `Failed` or `Closed`, no write failed if none had before.
 abbrev pub HasWritten : Bool → Exit → Bool → Type 0
 HasWritten old exit.Failed new = ⊤
 HasWritten old exit.Closed new = ⊤

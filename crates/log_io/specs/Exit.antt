@@ -1,7 +1,7 @@
 -- The statuses of a run.
 use Rattle.std.specs.Prelude.{ℕ}
-use Rattle.tlslog.specs.declared.failure.Exit.{Exit}
-use Rattle.tlslog.specs.declared.failure.Exit.TheVariants.{Clean, Closed, Broken, Failed}
+use Rattle.log_io.specs.declared.failure.Exit.{Exit}
+use Rattle.log_io.specs.declared.failure.Exit.TheVariants.{Clean, Closed, Broken, Failed}
 
 abbrev pub status_of : Exit → ℕ
 status_of Clean = 0

@@ -1,14 +1,15 @@
-//! The first bytes of a source, and why they are those of no capture.
+//! The first bytes of a source, and why they begin no capture.
 use std::fmt::{self, Display, Formatter};
 
-/// So many of the first bytes are kept.
+/// How many of the first bytes are kept.
 const KEPT: usize = 6;
 
-/// How many of these tell the form.
+/// How many of them identify a file format.
 const FORM: usize = 4;
 
-/// The first bytes of each form that is read: of pcap in either order, with micro- and nanoseconds (draft-ietf-opsawg-pcap, section 4), and of pcapng
-/// (draft-ietf-opsawg-pcapng, section 4.1), each with how many bytes its header has at least.
+/// The first bytes of each format that is read, and the smallest length of its header: pcap in
+/// either byte order, with micro- and nanoseconds (draft-ietf-opsawg-pcap, section 4), and pcapng
+/// (draft-ietf-opsawg-pcapng, section 4.1).
 static FORMS: [([u8; FORM], u64); 5] = [
     (*b"\xa1\xb2\xc3\xd4", 24),
     (*b"\xd4\xc3\xb2\xa1", 24),
@@ -17,7 +18,7 @@ static FORMS: [([u8; FORM], u64); 5] = [
     (*b"\x0a\x0d\x0d\x0a", 28),
 ];
 
-/// Each form of compressed files that is known: the bytes that they begin with (RFC 1952, section 2.3.1; the XZ file format, 2.1.1.1;
+/// The first bytes of compressed files (RFC 1952, section 2.3.1; the XZ file format, 2.1.1.1;
 /// RFC 8878, section 3.1.1), and what to do with such a file.
 static COMPRESSIONS: [(&[u8], &str); 3] = [
     (b"\x1f\x8b", "compressed: use zcat FILE | tlslog"),
@@ -25,22 +26,22 @@ static COMPRESSIONS: [(&[u8], &str); 3] = [
     (b"\x28\xb5\x2f\xfd", "compressed: use zstdcat FILE | tlslog"),
 ];
 
-/// Why a source is no capture, or none that is read whole.
+/// Why a source is no capture, or not a whole one.
 #[derive(Clone, Copy)]
 pub enum Fault {
-    /// Its first bytes are those of no capture.
+    /// It doesn't begin as a capture.
     NoCapture,
     /// It has no bytes.
     Empty,
     /// It ends in its header.
     CutHeader,
-    /// It begins as no form of captures, with these bytes, of which there are so many.
+    /// It begins with these bytes, of which so many are known, as neither pcap nor pcapng does.
     OtherForm([u8; KEPT], usize),
-    /// It is a file of pcap of another version than 2.
+    /// It is a pcap file of another version than 2.
     OtherVersion,
-    /// It is compressed; what to do with it.
+    /// It is compressed; the text is what to do with it.
     Compressed(&'static str),
-    /// A header or a block breaks a rule.
+    /// A header or a block is malformed.
     Broken,
     /// It ends within a packet or a block.
     BrokenOff,
@@ -57,24 +58,22 @@ fn write_digits<W: fmt::Write>(f: &mut Formatter<W>, bytes: &[u8]) -> fmt::Resul
 impl Display for Fault {
     fn fmt<W: fmt::Write>(&self, f: &mut Formatter<W>) -> fmt::Result {
         match self {
-            Fault::NoCapture => f.write_str("this is no capture"),
-            Fault::Empty => f.write_str("this is no capture: it is empty"),
-            Fault::CutHeader => f.write_str("this is no capture: it ends in its header"),
+            Fault::NoCapture => f.write_str("not a capture"),
+            Fault::Empty => f.write_str("not a capture: it is empty"),
+            Fault::CutHeader => f.write_str("not a capture: its header is truncated"),
             Fault::OtherForm(bytes, len) => {
-                f.write_str("this is no capture: it is neither pcap nor pcapng, and begins with ")?;
+                f.write_str("not a capture: neither pcap nor pcapng, begins with ")?;
                 write_digits(f, bytes.get(..*len).unwrap_or(&[]))
             }
-            Fault::OtherVersion => {
-                f.write_str("this is no capture that is read: its version of pcap isn't 2")
-            }
+            Fault::OtherVersion => f.write_str("unsupported pcap version: only 2 is read"),
             Fault::Compressed(hint) => f.write_str(hint),
-            Fault::Broken => f.write_str("a header or a block breaks a rule"),
-            Fault::BrokenOff => f.write_str("the capture is broken off"),
+            Fault::Broken => f.write_str("malformed header or block"),
+            Fault::BrokenOff => f.write_str("the capture is truncated"),
         }
     }
 }
 
-/// The first bytes of a source, and how many were read of it.
+/// The first bytes of a source, and how many were read in all.
 #[derive(Clone, Copy)]
 pub struct Front {
     bytes: [u8; KEPT],
@@ -82,7 +81,7 @@ pub struct Front {
 }
 
 impl Front {
-    /// That of a source of which nothing was read.
+    /// Returns the front of a source from which nothing was read.
     pub fn new() -> Front {
         Front {
             bytes: [0; KEPT],
@@ -90,22 +89,22 @@ impl Front {
         }
     }
 
-    /// How many bytes were read.
+    /// Returns how many bytes were read.
     pub fn read(&self) -> u64 {
         self.read
     }
 
-    /// How many of the first bytes are kept.
+    /// Returns how many of the first bytes are kept.
     fn kept(&self) -> usize {
         self.read.min(KEPT as u64) as usize
     }
 
-    /// The first bytes, as far as they were read.
+    /// Returns the first bytes, as far as they were read.
     fn known(&self) -> &[u8] {
         self.bytes.get(..self.kept()).unwrap_or(&[])
     }
 
-    /// Adds bytes that were read behind those before.
+    /// Adds bytes that were read after the ones before.
     pub fn add(&mut self, bytes: &[u8]) {
         let kept = self.kept();
         if kept < KEPT {
@@ -116,14 +115,14 @@ impl Front {
         self.read = self.read.saturating_add(bytes.len() as u64);
     }
 
-    /// What to do with the source, where its first bytes are those of a compressed file.
+    /// Returns what to do with the source if it begins as a compressed file.
     fn compression(&self) -> Option<&'static str> {
         let known = self.known();
         let found = COMPRESSIONS.iter().find(|form| known.starts_with(form.0));
         found.map(|form| form.1)
     }
 
-    /// How long the header is at least, where the bytes are those of a form that is read, as far as there are any.
+    /// Returns the smallest length of the header if the bytes begin a format that is read.
     fn header(&self) -> Option<u64> {
         let known = self.known();
         let form = known.get(..FORM).unwrap_or(known);
@@ -131,7 +130,7 @@ impl Front {
         found.map(|row| row.1)
     }
 
-    /// Why a source that was read so far is no capture.
+    /// Returns why a source of these first bytes is no capture.
     fn fault(&self) -> Fault {
         if self.read == 0 {
             return Fault::Empty;
@@ -143,7 +142,7 @@ impl Front {
         }
     }
 
-    /// Whether a source that was read so far ends in its header.
+    /// Whether a source that ends here ends in its header.
     fn is_header_cut(&self) -> bool {
         match self.header() {
             Some(header) => self.read < header,
@@ -151,7 +150,7 @@ impl Front {
         }
     }
 
-    /// The fault that a reader found, by what the source begins with.
+    /// Returns the reader's fault, made more precise by the first bytes.
     pub fn explain(&self, fault: Fault) -> Fault {
         if let Some(hint) = self.compression() {
             return Fault::Compressed(hint);

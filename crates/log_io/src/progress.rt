@@ -1,4 +1,4 @@
-//! What a capture is read from: how far it was read is shown to who looks on, and its first bytes are kept.
+//! Sources that show their progress and keep their first bytes.
 use crate::front::Front;
 use std::fs;
 use std::io::{self, Read};
@@ -6,31 +6,31 @@ use std::os::unix::fs::FileTypeExt;
 use std::rt::Runtime;
 use std::time::Instant;
 
-/// The path of what standard input is.
+/// The path of standard input.
 pub const STANDARD_INPUT: &str = "/dev/stdin";
 
-/// The path of what standard error is.
+/// The path of standard error.
 const STANDARD_ERROR: &str = "/dev/stderr";
 
-/// Of a capture with fewer bytes no progress is shown.
+/// The smallest file whose progress is shown, in bytes.
 const LONG: u64 = 100_000_000;
 
-/// How many bytes a megabyte has.
+/// The bytes of a megabyte.
 const MEGABYTE: u64 = 1_000_000;
 
-/// The clock is looked at each time that so many bytes were read.
+/// How many bytes are read between two looks at the clock.
 const STEP: u64 = 16 * MEGABYTE;
 
-/// Between two lines of progress there are at least so many milliseconds.
+/// The shortest time between two lines of progress, in milliseconds.
 const PAUSE: u64 = 2_000;
 
-/// What a capture is read from.
+/// A source of a capture.
 pub trait Source {
-    /// Its first bytes, and how many were read.
+    /// Returns its first bytes, and how many were read.
     fn front(&self) -> Front;
 }
 
-/// Whether someone looks at standard error: it is a device of characters, as a terminal is.
+/// Whether standard error is a terminal, or another character device.
 fn is_looked_at<R: Runtime>(rt: &R) -> bool {
     match fs::metadata(rt, STANDARD_ERROR) {
         Ok(metadata) => metadata.file_type().is_char_device(),
@@ -38,7 +38,7 @@ fn is_looked_at<R: Runtime>(rt: &R) -> bool {
     }
 }
 
-/// How many bytes the file with that path has; none where it is no file, or a short one.
+/// Returns the length of a file in bytes; `None` if it is short, or no regular file.
 fn length_of<R: Runtime>(rt: &R, path: &str) -> Option<u64> {
     let Ok(metadata) = fs::metadata(rt, path) else {
         return None;
@@ -50,19 +50,20 @@ fn length_of<R: Runtime>(rt: &R, path: &str) -> Option<u64> {
     Some(length)
 }
 
-/// How far a file is read, where that is shown.
+/// How far a file was read.
 #[derive(Drop)]
 struct Progress {
-    // How many bytes it has.
+    // The length of the file in bytes.
     length: u64,
     begin: Instant,
-    // How many bytes were read when the clock was looked at, and by it the milliseconds at the last line.
+    // How many bytes were read at the last look at the clock.
     looked: u64,
+    // The milliseconds from the beginning to the last line.
     shown: u64,
 }
 
 impl Progress {
-    /// That of the file with that path, of which nothing was read; none where nobody looks on, or the file is short.
+    /// Begins to follow a file; `None` if it is short, or standard error is no terminal.
     fn begin<R: Runtime>(rt: &R, path: &str) -> Option<Progress> {
         if !is_looked_at(rt) {
             return None;
@@ -79,7 +80,7 @@ impl Progress {
         }
     }
 
-    /// How many milliseconds it took to read so many bytes, where that is to be shown now.
+    /// Returns the milliseconds since the beginning if a line is due after so many bytes.
     fn due<R: Runtime>(&mut self, rt: &R, read: u64) -> Option<u64> {
         if read.saturating_sub(self.looked) < STEP {
             return None;
@@ -97,7 +98,7 @@ impl Progress {
     }
 }
 
-/// How many bytes are read in a second, where it took so many milliseconds to read so many.
+/// Returns the bytes per second.
 fn rate_of(read: u64, milliseconds: u64) -> u64 {
     match read.saturating_mul(1_000).checked_div(milliseconds) {
         Some(rate) => rate,
@@ -105,7 +106,7 @@ fn rate_of(read: u64, milliseconds: u64) -> u64 {
     }
 }
 
-/// A source that shows on standard error how much of it was read, and keeps its first bytes.
+/// A source that shows its progress on standard error and keeps its first bytes.
 #[derive(Drop)]
 pub struct Watched<'a, R, I> {
     rt: &'a R,
@@ -116,7 +117,7 @@ pub struct Watched<'a, R, I> {
 }
 
 impl<'a, R: Runtime, I: Read> Watched<'a, R, I> {
-    /// The source under its name. `path` is where it lies.
+    /// Wraps a source with its name in messages and the path where it lies.
     pub fn new(rt: &'a R, name: &'a str, path: &str, source: I) -> Watched<'a, R, I> {
         Watched {
             rt,
@@ -127,7 +128,7 @@ impl<'a, R: Runtime, I: Read> Watched<'a, R, I> {
         }
     }
 
-    /// Shows the progress where that is due.
+    /// Prints a line of progress if one is due.
     fn show(&mut self) -> io::Result<()> {
         let read = self.front.read();
         let Some(progress) = &mut self.progress else {

@@ -1,32 +1,33 @@
-//! Where lines go.
+//! Writes lines.
 ghost use Rattle.std.specs.Prelude.{◌≡◌, ◌++◌, [], ◌∷◌, false, OnOk};
 ghost use Rattle.std.specs.Io.KnownBytes.{Appends};
-ghost use Rattle.tlslog.specs.Output.{IsOfWriting, Tells};
+ghost use Rattle.log_io.specs.Output.{IsOfWriting, Tells};
 
 use std::alloc::{AllocError, Global};
 use std::io::{self, ErrorKind, Write};
 use std::mem;
 
-/// Of a line no more memory is kept for the next one, in bytes.
+/// The largest line, in bytes, whose memory is kept for the next one.
 const MOST_ROOM: usize = 16_384;
 
-/// Why the system refused a write. Each packet's log answers by it, so it is small, as an `io::Error` isn't.
+/// Why the system refused a write. It is smaller than an `io::Error`, since logging a packet
+/// returns it.
 #[derive(Clone, Copy)]
-pub struct Refusal {
+pub struct WriteError {
     kind: ErrorKind,
     code: Option<i32>,
 }
 
-impl Refusal {
-    /// By this error; a message that isn't the system's is left out.
-    fn of(e: &io::Error) -> Refusal {
-        Refusal {
+impl WriteError {
+    /// Keeps an error, without its message if that isn't the system's.
+    fn of(e: &io::Error) -> WriteError {
+        WriteError {
             kind: e.kind(),
             code: e.raw_os_error(),
         }
     }
 
-    /// The error.
+    /// Returns the error.
     pub fn error(&self) -> io::Error {
         match self.code {
             Some(code) => io::Error::from_raw_os_error(code),
@@ -35,19 +36,19 @@ impl Refusal {
     }
 }
 
-/// Why a line isn't written.
+/// Why a line wasn't written.
 #[derive(Clone, Copy)]
 pub enum LineError {
     /// Memory ran out.
     OutOfMemory,
-    /// Nobody reads what is written any more: the pipe was closed.
+    /// The reader closed the pipe.
     Closed,
-    /// A write failed, or took nothing.
-    Writing(Refusal),
+    /// A write failed, or accepted nothing.
+    Writing(WriteError),
 }
 
 impl From<AllocError> for LineError {
-    ghost use Rattle.tlslog.specs.declared.output.LineError.TheVariants.{OutOfMemory};
+    ghost use Rattle.log_io.specs.declared.output.LineError.TheVariants.{OutOfMemory};
 
     ghost from_gives = { λ _ e. e ≡ OutOfMemory };
 
@@ -56,29 +57,29 @@ impl From<AllocError> for LineError {
     }
 }
 
-/// A write that failed by this error.
+/// Returns why a write failed, by its error.
 fn refused_by(e: &io::Error) -> LineError
     ensures { IsOfWriting result }
 {
     if e.kind() == ErrorKind::BrokenPipe {
         LineError::Closed
     } else {
-        LineError::Writing(Refusal::of(e))
+        LineError::Writing(WriteError::of(e))
     }
 }
 
-/// A writer of lines, and whether a write of it failed.
+/// A writer of lines. It knows whether a write failed.
 #[derive(Drop)]
 pub struct Output<W> {
     alloc: Global,
     writer: W,
     has_failed: bool,
-    // The memory of the line that was written last, for the next one.
+    // The memory of the last line, for the next one.
     room: Vec<u8>,
 }
 
 impl<W: Write> Output<W> {
-    /// One to which nothing was written. It takes no memory.
+    /// Wraps a writer. Allocates nothing.
     pub fn new(alloc: Global, writer: W) -> Output<W>
         ensures writer { result.writer ≡ writer }
         ensures sound { result.has_failed ≡ false }
@@ -98,14 +99,14 @@ impl<W: Write> Output<W> {
         self.has_failed
     }
 
-    /// Memory for a line, of which nothing is in use: that of the last line, unless it was long.
+    /// Takes the memory of the last line, which is empty; none if that line was long.
     pub fn room(&mut self) -> Vec<u8>
         ensures same { self.new ≡ record self.old { room = self.new.room } }
     {
         mem::replace(&mut self.room, Vec::new(self.alloc))
     }
 
-    /// Keeps the memory of a line, unless it is long.
+    /// Keeps the memory of a line unless it is long.
     fn keep_room(&mut self, line: Vec<u8>)
         ensures same { self.new ≡ record self.old { room = self.new.room } }
     {
@@ -116,7 +117,7 @@ impl<W: Write> Output<W> {
         }
     }
 
-    /// Writes a line and the line break behind it, by one write where that takes all.
+    /// Writes a line with a line break, by one write if that accepts all.
     pub fn write_line(&mut self, line: Vec<u8>) -> Result<(), LineError>
         ensures written { OnOk result (Appends (W.contents self.old.writer) (W.contents self.new.writer)
             (line.items ++ 10 ∷ [])) }
@@ -135,6 +136,16 @@ impl<W: Write> Output<W> {
                 self.has_failed = true;
                 Err(refused_by(&e))
             }
+        }
+    }
+
+    /// Writes a line with a line break, unless memory ran out for the line.
+    pub fn write_made(&mut self, line: Result<Vec<u8>, AllocError>) -> Result<(), LineError>
+        ensures told { Tells self.old.has_failed self.new.has_failed result }
+    {
+        match line {
+            Ok(line) => self.write_line(line),
+            Err(_) => Err(LineError::OutOfMemory),
         }
     }
 }

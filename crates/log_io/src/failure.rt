@@ -1,30 +1,34 @@
-//! How a run ends, and why it ends early.
+//! Exit statuses, and why a run ends early.
 ghost use Rattle.std.specs.Prelude.{◌≡◌};
-ghost use Rattle.tlslog.specs.Exit.{worse};
-ghost use Rattle.tlslog.specs.Run.{IsSameCause};
+ghost use Rattle.log_io.specs.Exit.{worse};
+ghost use Rattle.log_io.specs.Run.{ExitsBy, IsSameCause};
 
 use crate::front::{Fault, Front};
-use crate::output::{LineError, Refusal};
+use crate::output::{LineError, WriteError};
 use packets::{CaptureError, VisitError};
 use std::alloc::AllocError;
 use std::fmt::{self, Display, Formatter};
 use std::io::{self, ErrorKind};
+use std::rt::Runtime;
 
-/// How a run ends; each has its own exit status.
+/// The name of standard output in messages.
+pub const STANDARD_OUTPUT: &str = "standard output";
+
+/// How a run ends, by which its exit status is chosen.
 #[derive(Clone, Copy)]
 pub enum Exit {
-    /// All was read and printed.
+    /// Everything was read and printed.
     Clean,
-    /// Nobody reads on what is printed.
+    /// The reader of the output closed it.
     Closed,
-    /// An input is no capture, or is broken off.
+    /// An input is no capture, or is truncated.
     Broken,
-    /// Memory ran out, or a file wasn't opened, or reading or writing failed.
+    /// Memory ran out, or a file couldn't be opened, read or written.
     Failed,
 }
 
 impl From<Exit> for u8 {
-    ghost use Rattle.tlslog.specs.Exit.{status_of};
+    ghost use Rattle.log_io.specs.Exit.{status_of};
 
     ghost from_gives = { λ exit n. n ≡ status_of exit };
 
@@ -38,7 +42,7 @@ impl From<Exit> for u8 {
 }
 
 impl Exit {
-    /// The worse of two: that of a run over both inputs.
+    /// Returns the worse of two, which is how a run over both inputs ends.
     pub fn and(self, other: Exit) -> Exit
         ensures { result ≡ worse self other }
     {
@@ -51,27 +55,27 @@ impl Exit {
     }
 }
 
-/// Why the run over a capture ends before the capture's end.
+/// Why a run ends before the end of its capture.
 #[derive(Clone, Copy)]
 pub enum Failure {
-    /// What is read is no capture, or is broken off.
+    /// The source is no capture, or is truncated.
     Capture(Fault),
     /// Memory ran out.
     OutOfMemory,
-    /// The file wasn't opened.
+    /// The file couldn't be opened.
     Opening(io::Error),
     /// A read failed.
     Reading(io::Error),
-    /// What is read has no end.
+    /// The source never ends.
     Endless,
-    /// Nobody reads on what is printed.
+    /// The reader of the output closed it.
     Closed,
     /// A write failed.
-    Writing(Refusal),
+    Writing(WriteError),
 }
 
 impl Failure {
-    /// The failure of a run over a source that begins so: why it is no capture.
+    /// Returns the failure, explained by the first bytes of its source if that is no capture.
     pub fn of_source(self, front: Front) -> Failure
         ensures { IsSameCause self result }
     {
@@ -82,7 +86,7 @@ impl Failure {
     }
 }
 
-/// Why the system refused something, in its own words, or in those that users know where it has none.
+/// Displays a system error, by words that users know if it has no message.
 #[derive(Drop)]
 pub struct Reason<'a>(pub &'a io::Error);
 
@@ -104,9 +108,9 @@ impl Display for Failure {
             Failure::OutOfMemory => f.write_str("out of memory"),
             Failure::Opening(e) => write!(f, "cannot open: {}", Reason(e)),
             Failure::Reading(e) => write!(f, "cannot read: {}", Reason(e)),
-            Failure::Endless => f.write_str("cannot read: there is no end"),
-            Failure::Closed => f.write_str("cannot write: nobody reads on"),
-            Failure::Writing(refusal) => { write!(f, "cannot write: {}", Reason(&refusal.error())) }
+            Failure::Endless => f.write_str("cannot read: the input never ends"),
+            Failure::Closed => f.write_str("cannot write: the reader closed the output"),
+            Failure::Writing(e) => write!(f, "cannot write: {}", Reason(&e.error())),
         }
     }
 }
@@ -118,7 +122,7 @@ impl From<AllocError> for Failure {
 }
 
 impl From<LineError> for Failure {
-    ghost use Rattle.tlslog.specs.Run.{failure_of_line};
+    ghost use Rattle.log_io.specs.Run.{failure_of_line};
 
     ghost from_gives = { λ e f. f ≡ failure_of_line e };
 
@@ -132,7 +136,7 @@ impl From<LineError> for Failure {
 }
 
 impl From<VisitError<LineError>> for Failure {
-    ghost use Rattle.tlslog.specs.Run.{IsFailureOf};
+    ghost use Rattle.log_io.specs.Run.{IsFailureOf};
 
     ghost from_gives = { IsFailureOf };
 
@@ -146,5 +150,28 @@ impl From<VisitError<LineError>> for Failure {
             VisitError::Endless => Failure::Endless,
             VisitError::Visitor(e) => Failure::from(e),
         }
+    }
+}
+
+/// Prints why a run ended early, after so many packets, and returns how it exits. Prints nothing
+/// if the output was closed.
+pub fn tell<R: Runtime>(rt: &R, name: &str, failure: Failure, packets: u64) -> Exit
+    ensures { ExitsBy failure result }
+{
+    let (exit, name) = match failure {
+        Failure::Closed => return Exit::Closed,
+        Failure::Capture(_) => (Exit::Broken, name),
+        Failure::Writing(_) => (Exit::Failed, STANDARD_OUTPUT),
+        Failure::OutOfMemory | Failure::Opening(_) | Failure::Reading(_) | Failure::Endless => {
+            (Exit::Failed, name)
+        }
+    };
+    let told = match packets {
+        0 => eprintln!(rt; "{name}: {failure}"),
+        _ => eprintln!(rt; "{name}: {failure}, after {packets} packets"),
+    };
+    match told {
+        Ok(()) => exit,
+        Err(_) => Exit::Failed,
     }
 }

@@ -1,0 +1,172 @@
+//! The arguments of the command line.
+use crate::help::AFTER_OPTIONS;
+use clap::{Arg, ArgAction, ArgMatches, Command};
+use std::alloc::{AllocError, Global};
+
+/// The version, as it is in the file VERSION.
+const VERSION: &str = "0.1.0";
+
+/// The values of the options that take one of a few, each list with the default first.
+#[derive(Clone, Copy)]
+pub struct Choices<'a> {
+    /// Those of `--format`.
+    pub formats: &'a [&'a str],
+    /// Those of `--checksums`.
+    pub checksums: &'a [&'a str],
+}
+
+/// What an option takes. A value has a name in the help.
+enum Takes {
+    /// Nothing: it is a flag.
+    Nothing,
+    /// A value.
+    Value(&'static str),
+    /// A value, and its default.
+    ValueOr(&'static str, &'static str),
+    /// One of the formats.
+    Format(&'static str),
+    /// One of the ways to treat checksums.
+    Checksums(&'static str),
+}
+
+/// The options in the order of the help: name, what it takes, and its help.
+static OPTIONS: [(&str, Takes, &str); 12] = [
+    (
+        "messages",
+        Takes::Nothing,
+        "Print a line per message, as it arrives, instead of per connection",
+    ),
+    (
+        "certificates",
+        Takes::Nothing,
+        "Print a line per certificate, as it arrives, instead of per connection",
+    ),
+    ("format", Takes::Format("FORMAT"), "Output format"),
+    (
+        "fields",
+        Takes::Value("A,B,.."),
+        "Print these fields, in this order; all by default",
+    ),
+    (
+        "ciphers",
+        Takes::Value("FILE"),
+        "Name cipher suites by this file, with lines like ff01:OUR_SUITE, before IANA's registry",
+    ),
+    (
+        "numbers",
+        Takes::Nothing,
+        "Print cipher suites as numbers, like 0xc02f, unless --ciphers names them",
+    ),
+    (
+        "csv-raw",
+        Takes::Nothing,
+        "With --format csv: omit the ' before text that a spreadsheet would run as a formula",
+    ),
+    (
+        "checksums",
+        Takes::Checksums("WHICH"),
+        "Which packets with wrong checksums to drop: all (check), none (ignore), or all but those of a sender whose first packets are all wrong (auto)",
+    ),
+    (
+        "join",
+        Takes::Nothing,
+        "Read all captures, in this order, as one that was split into files",
+    ),
+    (
+        "part",
+        Takes::Value("K/N"),
+        "Log only part K of N of the connections, chosen by addresses and ports",
+    ),
+    (
+        "by-network",
+        Takes::Nothing,
+        "Separate connections whose VLAN tags or tunnels differ",
+    ),
+    (
+        "memory",
+        Takes::ValueOr("SIZE", "1G"),
+        "Memory limit, like 512M or 2G, or none; over it, the longest-idle connections are closed",
+    ),
+];
+
+/// The argument that names captures.
+fn captures<'a>(alloc: Global) -> Arg<'a> {
+    Arg::new(alloc, "captures")
+        .help("Captures, pcap or pcapng; standard input if none is named, or for -")
+        .num_args(0..)
+        .action(ArgAction::Append)
+}
+
+/// An option with a value of that name.
+fn option_with_value<'a>(alloc: Global, name: &'a str, value: &'a str, help: &'a str) -> Arg<'a> {
+    Arg::new(alloc, name)
+        .long(name)
+        .value_name(value)
+        .help(help)
+        .action(ArgAction::Set)
+}
+
+/// An option without a value.
+fn flag<'a>(alloc: Global, name: &'a str, help: &'a str) -> Arg<'a> {
+    Arg::new(alloc, name)
+        .long(name)
+        .help(help)
+        .action(ArgAction::SetTrue)
+}
+
+/// The option, which takes one of these values. The first is its default.
+fn with_choices<'a>(option: Arg<'a>, choices: &'a [&'a str]) -> Arg<'a> {
+    let option = option.value_parser(choices);
+    match choices.first() {
+        Some(default) => option.default_value(default),
+        None => option,
+    }
+}
+
+/// The option of a row of [`OPTIONS`].
+fn option<'a>(
+    alloc: Global,
+    name: &'a str,
+    takes: &Takes,
+    help: &'a str,
+    choices: Choices<'a>,
+) -> Arg<'a> {
+    match takes {
+        Takes::Nothing => flag(alloc, name, help),
+        Takes::Value(value) => option_with_value(alloc, name, value, help),
+        Takes::ValueOr(value, default) => {
+            option_with_value(alloc, name, value, help).default_value(default)
+        }
+        Takes::Format(value) => {
+            with_choices(option_with_value(alloc, name, value, help), choices.formats)
+        }
+        Takes::Checksums(value) => {
+            with_choices(
+                option_with_value(alloc, name, value, help),
+                choices.checksums,
+            )
+        }
+    }
+}
+
+/// The command with all its options.
+fn command<'a>(alloc: Global, choices: Choices<'a>) -> Result<Command<'a>, AllocError> {
+    let mut command = Command::new(alloc, "tlslog")
+        .version(VERSION)
+        .about("Logs the TLS and DTLS connections of packet captures, a line for each")
+        .after_help(AFTER_OPTIONS)
+        .arg(captures(alloc))?;
+    for (name, takes, help) in &OPTIONS {
+        command = command.arg(option(alloc, name, takes, help, choices))?;
+    }
+    Ok(command)
+}
+
+/// Parses the command line.
+pub fn matches<'a>(
+    alloc: Global,
+    words: &'a [String],
+    choices: Choices<'a>,
+) -> Result<ArgMatches<'a>, clap::Error> {
+    command(alloc, choices)?.try_get_matches_from(words)
+}

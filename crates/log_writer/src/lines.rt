@@ -1,0 +1,84 @@
+//! Writes the lines of a log: its header, its connections, messages or certificates, its footer.
+ghost use Rattle.std.specs.Prelude.{◌≡◌};
+ghost use Rattle.log_io.specs.Output.{Tells};
+
+use log_fields::summary::Summary;
+use log_io::{LineError, Output};
+use log_lines::Style;
+use log_messages::{Presented, Spoken};
+use std::alloc::Global;
+use std::io::Write;
+
+/// Writes the format's header, if it has one.
+pub fn write_header<W: Write>(
+    alloc: Global,
+    style: &Style,
+    opened: i64,
+    out: &mut Output<W>,
+) -> Result<(), LineError>
+    ensures { Tells out.old.has_failed out.new.has_failed result }
+{
+    match style.header(alloc, opened)? {
+        Some(header) => out.write_line(header),
+        None => Ok(()),
+    }
+}
+
+/// Writes the format's footer, if it has one.
+pub fn write_footer<W: Write>(
+    alloc: Global,
+    style: &Style,
+    closed: i64,
+    out: &mut Output<W>,
+) -> Result<(), LineError>
+    ensures { Tells out.old.has_failed out.new.has_failed result }
+{
+    match style.footer(alloc, closed)? {
+        Some(footer) => out.write_line(footer),
+        None => Ok(()),
+    }
+}
+
+/// Prints the line of a connection.
+pub fn print_row<W: Write>(
+    alloc: Global,
+    style: &Style,
+    places: &[usize],
+    summary: &Summary<'_>,
+    out: &mut Output<W>,
+) -> Result<(), LineError>
+    ensures { Tells out.old.has_failed out.new.has_failed result }
+{
+    let room = out.room();
+    out.write_made(style.connection_line(alloc, places, summary, room))
+}
+
+/// Prints the line of a message that was complete at this time.
+pub fn print_message<W: Write>(
+    alloc: Global,
+    style: &Style,
+    places: &[usize],
+    summary: &Summary<'_>,
+    time: u64,
+    spoken: Spoken,
+    out: &mut Output<W>,
+) -> Result<(), LineError>
+    ensures { Tells out.old.has_failed out.new.has_failed result }
+{
+    out.write_made(style.message_line(alloc, places, summary, time, spoken))
+}
+
+/// Prints the line of a certificate that arrived at this time.
+pub fn print_certificate<W: Write>(
+    alloc: Global,
+    style: &Style,
+    places: &[usize],
+    summary: &Summary<'_>,
+    time: u64,
+    presented: &Presented,
+    out: &mut Output<W>,
+) -> Result<(), LineError>
+    ensures { Tells out.old.has_failed out.new.has_failed result }
+{
+    out.write_made(style.certificate_line(alloc, places, summary, time, presented))
+}

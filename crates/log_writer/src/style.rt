@@ -1,0 +1,37 @@
+//! The style of lines that the options choose.
+use crate::refusal::Refusal;
+use clap::ArgMatches;
+use log_lines::{DEFAULT_FORMAT, Format, LineKind, Style, StyleError};
+use log_options::{formulas_of, suites_of};
+use std::rt::Runtime;
+
+/// Returns the format of lines, by `--format`.
+fn format_of(matches: &ArgMatches<'_>) -> Format {
+    let name = matches.get_str("format").unwrap_or(DEFAULT_FORMAT.name());
+    Format::named(name).unwrap_or(DEFAULT_FORMAT)
+}
+
+/// Returns what is logged, by `--messages` and `--certificates`.
+fn kind_of<'a>(matches: &ArgMatches<'a>) -> Result<LineKind, StyleError<'a>> {
+    match (
+        matches.get_flag("messages"),
+        matches.get_flag("certificates"),
+    ) {
+        (false, false) => Ok(LineKind::Connections),
+        (true, false) => Ok(LineKind::Messages),
+        (false, true) => Ok(LineKind::Certificates),
+        (true, true) => Err(StyleError::TwoKinds),
+    }
+}
+
+/// Returns which lines are written, and how.
+pub fn style_of<'a, R: Runtime + AllocGlobal>(
+    rt: &R,
+    matches: &ArgMatches<'a>,
+) -> Result<Style, Refusal<'a>> {
+    let kind = kind_of(matches)?;
+    let suites = suites_of(rt, matches)?;
+    let (format, fields) = (format_of(matches), matches.get_str("fields"));
+    let formulas = formulas_of(matches);
+    Ok(Style::new(rt.alloc(), format, formulas, kind, fields, suites)?)
+}
