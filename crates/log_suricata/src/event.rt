@@ -455,8 +455,19 @@ fn leave_out_certificates(row: &mut Row<'_>) {
     }
 }
 
-/// Returns the event of a connection, without a line break. If memory is refused for the
-/// certificates in it, they are left out.
+/// Writes an event as JSON. If memory is refused for the certificates in it, they are left out.
+fn event_bytes(alloc: Global, event: &mut Event<'_>) -> Result<Vec<u8>, AllocError> {
+    if let Ok(line) = json_bytes(alloc, &*event, LINE_LEN) {
+        return Ok(line);
+    }
+    leave_out_certificates(&mut event.tls);
+    if let Some(client) = &mut event.client {
+        leave_out_certificates(client);
+    }
+    json_bytes(alloc, &*event, LINE_LEN)
+}
+
+/// Returns the event of a connection, without a line break.
 pub fn line(told: Told<'_>) -> Result<Vec<u8>, AllocError> {
     let (alloc, summary) = (told.alloc, told.summary);
     let mut told = told;
@@ -466,12 +477,5 @@ pub fn line(told: Told<'_>) -> Result<Vec<u8>, AllocError> {
         client: client_row(alloc, &mut told)?,
         protocols: tls_row(alloc, &mut told, PROTOCOLS)?,
     };
-    if let Ok(line) = json_bytes(alloc, &event, LINE_LEN) {
-        return Ok(line);
-    }
-    leave_out_certificates(&mut event.tls);
-    if let Some(client) = &mut event.client {
-        leave_out_certificates(client);
-    }
-    json_bytes(alloc, &event, LINE_LEN)
+    event_bytes(alloc, &mut event)
 }
