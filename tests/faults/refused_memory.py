@@ -14,32 +14,33 @@ COVERED = {"malloc", "realloc"}
 REQUESTS = COVERED | {"calloc", "reallocarray", "aligned_alloc", "memalign", "posix_memalign", "mmap", "mmap64", "brk", "sbrk"}
 
 
-def heap_in(room: str) -> str:
-    """The heap, compiled into that folder."""
+def compile_heap(room: str) -> str:
+    """Compiles the heap into the folder, and returns its path."""
     heap = f"{room}/heap.so"
-    subprocess.run(["cc", "-O2", "-Wall", "-Werror", "-shared", "-fPIC", "-o", heap, HEAP], check=True)
+    words = ["cc", "-O2", "-Wall", "-Werror", "-shared", "-fPIC"]
+    subprocess.run([*words, "-o", heap, HEAP], check=True)
     return heap
 
 
-def ask_by_the_covered(program: Path) -> None:
-    """Ends the script unless the program asks for memory by malloc and realloc alone."""
-    said = subprocess.run(["nm", "-D", "--undefined-only", program], stdout=subprocess.PIPE, text=True, check=True).stdout
-    called = {line.split()[-1].partition("@")[0] for line in said.splitlines()}
+def require_malloc_alone(program: Path) -> None:
+    """Ends the script if the program asks for memory by other calls than malloc and realloc."""
+    words = ["nm", "-D", "--undefined-only", program]
+    symbols = subprocess.run(words, stdout=subprocess.PIPE, text=True, check=True).stdout
+    called = {line.split()[-1].partition("@")[0] for line in symbols.splitlines()}
     if called & REQUESTS != COVERED:
         sys.exit(f"{program} asks for memory by {sorted(called & REQUESTS)}")
 
 
-def environment(heap: str, number: int, told: str) -> dict[str, str]:
-    """The environment of a run of which this request is refused, none where it is 0, and which
-    tells its requests in a file."""
-    return {"LD_PRELOAD": heap, "REFUSED": str(number), "TOLD": told}
+def environment(heap: str, number: int, counter: str) -> dict[str, str]:
+    """The environment of a run whose request of this number is refused (0 refuses none), and which
+    leaves the number of its requests in the file `counter`."""
+    return {"LD_PRELOAD": heap, "REFUSED": str(number), "TOLD": counter}
 
 
-def requests_told(told: str) -> int:
-    """How many requests the last run made. The file is taken away, so that the next run's is its
-    own."""
-    said = Path(told).read_bytes()
-    os.remove(told)
-    if len(said) != 8:
-        sys.exit("the heap doesn't tell its requests")
-    return int.from_bytes(said, sys.byteorder)
+def take_count(counter: str) -> int:
+    """Returns how many requests the last run made, and removes its file."""
+    count = Path(counter).read_bytes()
+    os.remove(counter)
+    if len(count) != 8:
+        sys.exit("the heap left no count of its requests")
+    return int.from_bytes(count, sys.byteorder)

@@ -44,8 +44,8 @@ def tree(room: Path, name: str, keeps: bool = False) -> Path:
 
 
 def run(crate: Path, words: Iterable[str], given: str = "") -> str:
-    """What the program prints, and what is said of its runs. Nothing else is known of a run that
-    has no end."""
+    """Returns what the program prints, and rt's report of its runs. A run without an end has only
+    that report."""
     ran = subprocess.run(
         ["rt", "try", *words],
         cwd=crate,
@@ -58,11 +58,11 @@ def run(crate: Path, words: Iterable[str], given: str = "") -> str:
     return ran.stdout
 
 
-def runs(said: str) -> dict[str, list[str]]:
+def runs(printed: str) -> dict[str, list[str]]:
     """What each run of `rt try --cases` printed, in lines, by its name. A run that failed is
     missing."""
     found, lines = {}, []
-    for line in said.splitlines():
+    for line in printed.splitlines():
         ended = re.fullmatch(r"case=(\w+) run=ended status=0 runners=[12] proved=no", line)
         if ended:
             found[ended[1]], lines = lines, []
