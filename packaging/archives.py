@@ -1,4 +1,5 @@
-"""Reproducible archives of a folder: files in the order of their names, owned by root, all of one time."""
+"""Reproducible archives of a folder: files in the order of their names, owned by root, all of one
+time."""
 
 import gzip
 import hashlib

@@ -148,7 +148,8 @@ def _filled(text, **parts):
 
 
 def completions_of(text, fields, message_fields, certificate_fields):
-    """By shell: its completion file, for the text of --help and the fields of the three kinds of lines."""
+    """By shell: its completion file, for the text of --help and the fields of the three kinds of
+    lines."""
     options = options_of(text)
     names = {"FIELDS": " ".join(fields), "MESSAGE_FIELDS": " ".join(message_fields), "CERTIFICATE_FIELDS": " ".join(certificate_fields)}
     cases = "\n".join(

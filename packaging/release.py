@@ -9,7 +9,8 @@ from pathlib import Path
 
 TOP = Path(__file__).resolve().parent.parent
 VERSION = (TOP / "VERSION").read_text().strip()
-# The version of the Debian packages; the number behind the hyphen counts the packagings of a version.
+# The version of the Debian packages; the number behind the hyphen counts the packagings of a
+# version.
 DEBIAN_VERSION = f"{VERSION}-1"
 SOURCE = "wispuddera"
 MAINTAINER = "Wispuddera maintainers <maintainers@users.noreply.wispuddera.example>"

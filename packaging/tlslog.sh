@@ -2,8 +2,8 @@
 # The command tlslog of the packages. It runs ../libexec/tlslog/tlslog, or the program at
 # TLSLOG_PROGRAM.
 #
-# Ctrl-C reaches every program of a pipeline. If the capture comes through a pipe, tlslog ignores it:
-# the program that writes ends, so the pipe does, and tlslog prints the connections that are open.
+# Ctrl-C reaches every program of a pipeline. If the capture comes through a pipe, tlslog ignores
+# Ctrl-C: the program that writes ends, so the pipe does, and tlslog prints the open connections.
 # If standard input is a terminal, a message says that a capture is expected there.
 
 # Whether standard input is read: no capture is named, or - is. After an unknown option nothing is

@@ -28,11 +28,15 @@ def part_of(program, capture, number, count):
 
 
 def arguments():
-    parser = argparse.ArgumentParser(description="Logs captures on the workers of a Dask cluster, and prints one log, sorted by time.")
-    parser.add_argument("--scheduler", help="the address of the cluster's scheduler (default: start workers on this machine)")
-    parser.add_argument("--workers", type=int, default=os.cpu_count(), help="the number of workers on this machine (default: its cores)")
-    parser.add_argument("--parts", type=int, default=4, help="the parts that each capture is split into (default: %(default)s)")
-    parser.add_argument("--program", default="tlslog", help="the path of tlslog (default: %(default)s)")
+    about = "Logs captures on the workers of a Dask cluster, and prints one log, sorted by time."
+    parser = argparse.ArgumentParser(description=about)
+    scheduler = "the address of the cluster's scheduler (default: start workers on this machine)"
+    workers = "the number of workers on this machine (default: its cores)"
+    parts = "the parts that each capture is split into (default: %(default)s)"
+    parser.add_argument("--scheduler", help=scheduler)
+    parser.add_argument("--workers", type=int, default=os.cpu_count(), help=workers)
+    parser.add_argument("--parts", type=int, default=4, help=parts)
+    parser.add_argument("--program", default="tlslog", help="its path (default: %(default)s)")
     parser.add_argument("captures", nargs="+")
     return parser.parse_args()
 

@@ -1,4 +1,5 @@
-"""The module's build backend (PEP 517, PEP 427), so that pip needs no network and no other package."""
+"""The module's build backend (PEP 517, PEP 427), so that pip needs no network and no other package.
+"""
 
 import base64
 import hashlib
@@ -52,7 +53,8 @@ def build_wheel(wheel_directory, config_settings=None, metadata_directory=None):
 
 
 def write_wheel(folder, library, platform, epoch):
-    """Writes a reproducible wheel with this library, for this platform tag, with files of this time."""
+    """Writes a reproducible wheel with this library, for this platform tag, with files of this
+    time."""
     sources = [file for file in sorted((HERE / NAME).rglob("*")) if file.suffix in {".py", ".typed", ".css", ".js"}]
     files = {file.relative_to(HERE).as_posix(): file.read_bytes() for file in sources}
     files[f"{NAME}/{LIBRARY.name}"] = library.read_bytes()

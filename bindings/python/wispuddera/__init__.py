@@ -1,10 +1,11 @@
-"""TLS and DTLS read in place, by the proved library behind wispuddera.h.
+"""Parses TLS, DTLS and X.509 in place, by the proved library of wispuddera.h.
 
-Bytes go in as `bytes`, or as a writable buffer (`bytearray`, or a `memoryview` of one), which are taken without a copy; any other
-buffer is copied. What comes out are numbers, and `memoryview`s of the bytes that were read. `Incomplete` is raised where bytes are
-missing, `Refused` where they break a rule, and `Outside` where an offset lies behind their end; what isn't there is `None`.
+Calls take `bytes`, or a writable buffer (a `bytearray`, or a `memoryview` of one), without a copy;
+any other buffer is copied. They return numbers, and `memoryview`s of the bytes. `Incomplete` is
+raised if bytes are missing, `Refused` if they break a rule, and `Outside` if an offset is beyond
+their end. What is absent is `None`.
 
-Calls may run in several threads at once. A `bytearray` can't be resized while a view of it is kept.
+Calls may run in several threads at once. A `bytearray` can't be resized while a view of it exists.
 """
 
 from __future__ import annotations
@@ -113,7 +114,7 @@ __all__ = [
 
 
 class Incomplete(ValueError):
-    """`missing` further bytes are needed for the part that is being read; behind these there may be more."""
+    """The part being read needs at least `missing` more bytes."""
 
     def __init__(self, missing: int) -> None:
         super().__init__(f"{missing} more bytes are needed")
@@ -121,7 +122,7 @@ class Incomplete(ValueError):
 
 
 class Refused(ValueError):
-    """The bytes break a rule, whose kind is `kind`: TooLarge, LengthValue, Verify, Switch, Tag or Complete."""
+    """The bytes break a rule. `kind` is TooLarge, LengthValue, Verify, Switch, Tag or Complete."""
 
     def __init__(self, kind: str) -> None:
         super().__init__(_c.TEXTS[kind])
@@ -129,12 +130,12 @@ class Refused(ValueError):
 
 
 class Outside(IndexError):
-    """An offset lies behind the end of the bytes."""
+    """An offset is beyond the end of the bytes."""
 
 
 @dataclass(frozen=True)
 class Record:
-    """A record (RFC 5246, section 6.2.1); what follows it begins at the offset `next`."""
+    """A record (RFC 5246, section 6.2.1). `next` is the offset behind it."""
 
     content_type: int
     version: int
@@ -171,7 +172,10 @@ class KeyShare:
 
 @dataclass(frozen=True)
 class ClientHello:
-    """The body of a ClientHello (RFC 5246, section 7.4.1.2). No bytes are no session id, `None` no block of extensions."""
+    """The body of a ClientHello (RFC 5246, section 7.4.1.2).
+
+    `session_id` is empty if there is none, and `extensions` is `None` if there is no block of them.
+    """
 
     version: int
     random: memoryview
@@ -184,7 +188,10 @@ class ClientHello:
 
 @dataclass(frozen=True)
 class ServerHello:
-    """The body of a ServerHello (RFC 5246, section 7.4.1.3). No bytes are no session id, `None` no block of extensions."""
+    """The body of a ServerHello (RFC 5246, section 7.4.1.3).
+
+    `session_id` is empty if there is none, and `extensions` is `None` if there is no block of them.
+    """
 
     version: int
     random: memoryview
@@ -197,7 +204,7 @@ class ServerHello:
 
 @dataclass(frozen=True)
 class DtlsRecord:
-    """A record of DTLS (RFC 6347, section 4.1)."""
+    """A DTLS record (RFC 6347, section 4.1)."""
 
     content_type: int
     version: int
@@ -209,7 +216,7 @@ class DtlsRecord:
 
 @dataclass(frozen=True)
 class DtlsMessage:
-    """A handshake message of DTLS, or a fragment of one (RFC 6347, section 4.2.2)."""
+    """A DTLS handshake message, or a fragment of one (RFC 6347, section 4.2.2)."""
 
     kind: int
     length: int
@@ -222,7 +229,10 @@ class DtlsMessage:
 
 @dataclass(frozen=True)
 class DtlsClientHello:
-    """The body of a ClientHello of DTLS (RFC 6347, section 4.2.1). No bytes are no session id, `None` no block of extensions."""
+    """The body of a DTLS ClientHello (RFC 6347, section 4.2.1).
+
+    `session_id` is empty if there is none, and `extensions` is `None` if there is no block of them.
+    """
 
     version: int
     random: memoryview
@@ -241,7 +251,7 @@ class _Item:
 
 
 class _Room(threading.local):
-    """The structs that calls write, kept for each thread."""
+    """The structs that calls write to, one set a thread."""
 
     def __init__(self) -> None:
         self.record, self.part, self.found, self.number = _c.Record(), _c.Part(), _c.Found(), _c.Number()
@@ -255,7 +265,7 @@ _room = _Room()
 
 
 class _Given:
-    """Bytes as a call takes them: an address, how many there are, and a view of them."""
+    """The bytes for a call: their address, their count, and a view of them."""
 
     __slots__ = ("address", "count", "view")
 
@@ -266,7 +276,7 @@ class _Given:
             self.address = data
             return
         if not view.c_contiguous or view.format != "B" or view.ndim != 1:
-            raise TypeError("bytes are wanted, each behind the one before")
+            raise TypeError("the buffer must be contiguous bytes")
         if not self.count:
             self.address = b""
         elif view.readonly:
@@ -286,7 +296,7 @@ def _check(status: int, missing: int) -> None:
     if status == _c.INCOMPLETE:
         raise Incomplete(missing)
     if status == _c.OUTSIDE:
-        raise Outside("the offset lies behind the end of the bytes")
+        raise Outside("the offset is beyond the end of the bytes")
     raise Refused(_c.KINDS[status])
 
 
@@ -298,7 +308,7 @@ def _is_found(status: int, missing: int) -> bool:
 
 
 def _walk(read: Callable, given: _Given) -> Iterator:
-    """What is read from the front to the end."""
+    """Iterates over the items from the front to the end."""
     offset = 0
     while offset < given.count:
         item = read(given, offset)
@@ -318,16 +328,21 @@ def record(data: Data, offset: int = 0) -> Record:
 
 
 def looks_like_tls(data: Data) -> Optional[bool]:
-    """Whether these are the first bytes of a stream of TLS: a record's header (RFC 8446, section 5.1) with a type from 20 to 24, the major
-    version 3 and a length of at most 16640. `None` where there are fewer than 5 bytes, which don't tell.
+    """Whether a TLS stream can begin with these bytes.
 
-    Ask it before you wait for what a record lacks: the calls that read records refuse no type and no version."""
+    It must have a record's header (RFC 8446, section 5.1) with a type from 20 to 24, the major
+    version 3 and a length of at most 16640. `None` if there are fewer than 5 bytes.
+
+    Call it before you wait for the rest of a record: the calls that read records refuse no type and
+    no version.
+    """
     given = _Given(data)
     return {_c.READ: True, _c.NONE: False}.get(_c.looks_like_tls(given.address, given.count))
 
 
 def records(data: Data) -> Iterator[Record]:
-    """The records from the front to the end; where the last isn't whole, `Incomplete` ends the walk."""
+    """The records from the front to the end. `Incomplete` is raised at the end if the last is
+    truncated."""
     return _walk(_record, _Given(data))
 
 
@@ -388,7 +403,10 @@ def _protocol(given: _Given, offset: int) -> _Item:
 
 
 def protocols(block: Data) -> Optional[Iterator[bytes]]:
-    """The names of protocols in a block of extensions (RFC 7301, section 3.1); `Incomplete` ends the walk at one that isn't whole."""
+    """The protocol names in a block of extensions (RFC 7301, section 3.1).
+
+    `None` if there is no such extension. `Incomplete` is raised at a truncated name.
+    """
     given, out = _Given(block), _room.found
     if not _is_found(_c.find_protocols(given.address, given.count, out), out.missing):
         return None
@@ -402,8 +420,11 @@ def _certificate(given: _Given, offset: int) -> _Item:
 
 
 def certificates(body: Data) -> Iterator[memoryview]:
-    """The certificates, in DER, in the body of a Certificate up to TLS 1.2 (RFC 5246, section 7.4.2); `Incomplete` ends the walk at one
-    that isn't whole."""
+    """The certificates, in DER, in the body of a Certificate up to TLS 1.2 (RFC 5246, section
+    7.4.2).
+
+    `Incomplete` is raised at a truncated certificate.
+    """
     given, out = _Given(body), _room.found
     _check(_c.find_certificates(given.address, given.count, out), out.missing)
     return (it.content for it in _walk(_certificate, _Given(given.part(out.place))))
@@ -432,21 +453,24 @@ def signature_schemes(content: Data) -> tuple[int, ...]:
 
 
 def best_version(version: int, block: Optional[Data]) -> Optional[int]:
-    """The best version of a hello with that version and that block of extensions (RFC 8446, section 4.2.1)."""
+    """The best version of a hello with this version and block of extensions (RFC 8446, section
+    4.2.1)."""
     given, out = _Given(block or b""), _room.number
     status = _c.best_version(given.address, given.count, version, out)
     return out.value if _is_found(status, out.missing) else None
 
 
 def find_extension(block: Data, kind: int) -> Optional[memoryview]:
-    """The content of the first extension of that ExtensionType in a block of extensions (RFC 8446, section 4.2)."""
+    """The content of the first extension of this type in a block of extensions (RFC 8446, section
+    4.2)."""
     given, out = _Given(block), _room.found
     status = _c.find_extension(given.address, given.count, kind, out)
     return given.part(out.place) if _is_found(status, out.missing) else None
 
 
 def find_body(fragment: Data, kind: int) -> Optional[memoryview]:
-    """The body of the first handshake message of that HandshakeType in a record's fragment (RFC 5246, section 7.4)."""
+    """The body of the first handshake message of this type in a record's fragment (RFC 5246,
+    section 7.4)."""
     given, out = _Given(fragment), _room.found
     status = _c.find_body(given.address, given.count, kind, out)
     return given.part(out.place) if _is_found(status, out.missing) else None
@@ -459,17 +483,19 @@ def _name(find: Callable, data: Data) -> Optional[bytes]:
 
 
 def server_name(block: Data) -> Optional[bytes]:
-    """The name of the host that a client asks for, in its block of extensions (RFC 6066, section 3)."""
+    """The host name in a client's block of extensions (RFC 6066, section 3); `None` if there is
+    none."""
     return _name(_c.find_server_name, block)
 
 
 def server_name_of_hello(body: Data) -> Optional[bytes]:
-    """The same, in the body of its ClientHello."""
+    """The host name in the body of a ClientHello (RFC 6066, section 3); `None` if there is none."""
     return _name(_c.find_server_name_in_hello, body)
 
 
 def server_name_of_record(data: Data) -> Optional[bytes]:
-    """The same, in the first ClientHello of the record in front."""
+    """The host name in the first ClientHello of the first record (RFC 6066, section 3); `None` if
+    there is none."""
     return _name(_c.find_server_name_in_record, data)
 
 
@@ -498,7 +524,7 @@ def server_hello(body: Data) -> ServerHello:
 
 
 def dtls_server_hello(body: Data) -> ServerHello:
-    """The body of a ServerHello of DTLS (RFC 6347, section 4.3.2), whatever its version."""
+    """The body of a DTLS ServerHello (RFC 6347, section 4.3.2), of any version."""
     return _server_hello(_c.read_dtls_server_hello, body)
 
 
@@ -523,12 +549,12 @@ def _dtls_record(given: _Given, offset: int) -> DtlsRecord:
 
 
 def dtls_record(datagram: Data, offset: int = 0) -> DtlsRecord:
-    """The record of DTLS at that offset of a datagram (RFC 6347, section 4.1)."""
+    """The DTLS record at this offset of a datagram (RFC 6347, section 4.1)."""
     return _dtls_record(_Given(datagram), offset)
 
 
 def dtls_records(datagram: Data) -> Iterator[DtlsRecord]:
-    """The records of DTLS in a datagram."""
+    """The DTLS records in a datagram."""
     return _walk(_dtls_record, _Given(datagram))
 
 
@@ -540,17 +566,18 @@ def _dtls_message(given: _Given, offset: int) -> DtlsMessage:
 
 
 def dtls_message(fragment: Data, offset: int = 0) -> DtlsMessage:
-    """The handshake message of DTLS, or the fragment of one, at that offset of a record's fragment (RFC 6347, section 4.2.2)."""
+    """The DTLS handshake message, or fragment of one, at this offset of a record's fragment (RFC
+    6347, section 4.2.2)."""
     return _dtls_message(_Given(fragment), offset)
 
 
 def dtls_messages(fragment: Data) -> Iterator[DtlsMessage]:
-    """The handshake messages of DTLS, and fragments of them, in a record's fragment."""
+    """The DTLS handshake messages, and fragments of them, in a record's fragment."""
     return _walk(_dtls_message, _Given(fragment))
 
 
 def dtls_client_hello(body: Data) -> DtlsClientHello:
-    """The body of a ClientHello of DTLS (RFC 6347, section 4.2.1)."""
+    """The body of a DTLS ClientHello (RFC 6347, section 4.2.1)."""
     given, out = _Given(body), _room.dtls_client_hello
     _check(_c.read_dtls_client_hello(given.address, given.count, out), out.missing)
     return DtlsClientHello(
@@ -572,20 +599,23 @@ def _fingerprint(call: Callable, body: Data, size: int) -> str:
 
 
 def ja3(body: Data, *, dtls: bool = False) -> str:
-    """JA3 of a ClientHello, in its body, or of one of DTLS: 32 hexadecimal digits."""
+    """The JA3 of a ClientHello's body, with `dtls` of one of DTLS: 32 hexadecimal digits."""
     return _fingerprint(_c.dtls_ja3 if dtls else _c.ja3, body, 32)
 
 
 def ja3s(body: Data, *, dtls: bool = False) -> str:
-    """JA3S of a ServerHello, in its body, or of one of DTLS: 32 hexadecimal digits."""
+    """The JA3S of a ServerHello's body, with `dtls` of one of DTLS: 32 hexadecimal digits."""
     return _fingerprint(_c.dtls_ja3s if dtls else _c.ja3s, body, 32)
 
 
 def ja4(body: Data, over: str = "tcp") -> str:
-    """JA4 of a ClientHello, in its body: over "tcp", over "quic", or of one of DTLS over "udp". `ValueError` at any other name."""
+    """The JA4 of a ClientHello's body, sent over "tcp", "quic", or DTLS over "udp".
+
+    `ValueError` is raised for another transport.
+    """
     calls = {"tcp": _c.ja4, "quic": _c.quic_ja4, "udp": _c.dtls_ja4}
     if over not in calls:
-        raise ValueError(f"a hello comes over tcp, quic or udp, not over {over}")
+        raise ValueError(f"over must be tcp, quic or udp, not {over}")
     return _fingerprint(calls[over], body, 36)
 
 
@@ -594,7 +624,8 @@ SUBJECT_ALT_NAME = b"\x55\x1d\x11"
 
 
 class KeyKind(enum.IntEnum):
-    """Which key a certificate has. `REFUSED` is an RSAPublicKey that isn't read, or a curve that has no name."""
+    """The kind of a certificate's key. `REFUSED` is a malformed RSAPublicKey, or a curve without a
+    name."""
 
     REFUSED = 0
     RSA = 1
@@ -605,7 +636,7 @@ class KeyKind(enum.IntEnum):
 
 
 class NameKind(enum.IntEnum):
-    """Kinds of names, by the tag of their element; a name may have another tag."""
+    """The kinds of names, by their tags. A name may have another tag."""
 
     EMAIL = 0x81
     DNS = 0x82
@@ -618,10 +649,13 @@ class NameKind(enum.IntEnum):
 
 @dataclass(frozen=True)
 class X509:
-    """A certificate (RFC 5280, section 4.1). Names and what is signed stand with their tag and their length; object identifiers, numbers and
-    keys without these. Times are seconds since 1970. Nothing is verified."""
+    """A certificate (RFC 5280, section 4.1).
 
-    version: int  # less 1, as it stands there: 2 for v3
+    Names and `signed_bytes` include tag and length; object identifiers, numbers and keys don't.
+    Times are seconds since 1970. Nothing is verified.
+    """
+
+    version: int  # as encoded: 2 for v3
     signed_bytes: memoryview
     serial_number: memoryview
     signature_algorithm: memoryview
@@ -630,16 +664,17 @@ class X509:
     not_before: int
     not_after: int
     key_algorithm: memoryview
-    key_parameters: memoryview  # of `KeyKind.EC` the curve's object identifier
+    key_parameters: memoryview  # for `KeyKind.EC` the curve's object identifier
     key_kind: KeyKind
-    key_bits: int  # of `KeyKind.RSA` those of the modulus; else 0
+    key_bits: int  # for `KeyKind.RSA` the bits of the modulus, else 0
     public_key: memoryview
     extensions: memoryview
     signature: memoryview
     next: int
 
     def names(self) -> Optional[Iterator[X509Name]]:
-        """The names of its first subjectAltName (RFC 5280, section 4.2.1.6)."""
+        """The names in its first subjectAltName (RFC 5280, section 4.2.1.6); `None` if it has none.
+        """
         for extension in x509_extensions(self.extensions):
             if extension.oid == SUBJECT_ALT_NAME:
                 return x509_names(extension.value)
@@ -648,7 +683,8 @@ class X509:
 
 @dataclass(frozen=True)
 class X509Extension:
-    """An extension of a certificate (RFC 5280, section 4.2): its object identifier, without tag and length, and its value, in DER."""
+    """An extension of a certificate (RFC 5280, section 4.2): its object identifier, without tag and
+    length, and its value, in DER."""
 
     oid: memoryview
     critical: bool
@@ -658,7 +694,8 @@ class X509Extension:
 
 @dataclass(frozen=True)
 class X509Name:
-    """A name of a subject or an issuer (RFC 5280, section 4.2.1.6): its kind, a `NameKind` or another tag, and its bytes."""
+    """A name of a subject or an issuer (RFC 5280, section 4.2.1.6): its tag, usually a `NameKind`,
+    and its bytes."""
 
     kind: int
     content: memoryview
@@ -666,7 +703,7 @@ class X509Name:
 
 
 def read_x509(data: Data) -> X509:
-    """The certificate in front, in DER. Names and extensions aren't judged before they are walked."""
+    """The first certificate in the bytes, in DER. Its names and extensions aren't checked here."""
     given, out = _Given(data), _room.x509
     _check(_c.read_x509(given.address, given.count, out), out.missing)
     return X509(
@@ -714,7 +751,7 @@ def x509_names(value: Data) -> Iterator[X509Name]:
 
 
 class _Stream:
-    """What comes in pieces, of which `capacity` bytes are held at most."""
+    """A stream that arrives in pieces; at most `capacity` bytes are buffered."""
 
     def __init__(self, capacity: int) -> None:
         self._buffer = (ctypes.c_ubyte * capacity)()
@@ -724,11 +761,12 @@ class _Stream:
 
     @property
     def held(self) -> int:
-        """How many bytes are held that nothing whole was read of yet."""
+        """The number of buffered bytes, which aren't part of a complete item yet."""
         return self._held.length
 
     def _feed(self, piece: Data, take: Callable, out: ctypes.Structure, shown: Callable) -> list:
-        """What is whole with the piece. What is refused behind it is raised at the next call, and from then on."""
+        """The items that are complete with the piece. A refusal behind them is raised by the next
+        call, and by each later one."""
         rest, taken, whole = _Given(piece), ctypes.c_size_t(), []
         while self._refusal is None and rest.count:
             _c.feed(self._buffer, len(self._buffer), self._held, rest.address, rest.count, taken)
@@ -746,14 +784,17 @@ class _Stream:
 
 
 class RecordStream(_Stream):
-    """One direction's records, however its bytes come."""
+    """The records of one direction, from pieces of any length."""
 
     def __init__(self) -> None:
         super().__init__(16645)
 
     def feed(self, piece: Data) -> list[Record]:
-        """The records that are whole with this piece; their `next` says nothing. `Refused` is raised at a record that is too large, once
-        those before it were answered, and by each call from then on."""
+        """The records that are complete with this piece; their `next` has no meaning.
+
+        `Refused` is raised for a record that is too large, after those before it were returned, and
+        by each later call.
+        """
         return self._feed(piece, _c.next_record, _room.record, self._shown)
 
     def _shown(self, out: _c.Record) -> Record:
@@ -761,13 +802,18 @@ class RecordStream(_Stream):
 
 
 class MessageStream(_Stream):
-    """Handshake messages, joined over the fragments of records; one of more than `capacity` bytes is refused."""
+    """Handshake messages, reassembled from the fragments of records. One of more than `capacity`
+    bytes is refused."""
 
     def __init__(self, capacity: int = 65540) -> None:
         super().__init__(capacity)
 
     def feed(self, fragment: Data) -> list[Message]:
-        """The messages that are whole with this fragment; their `next` says nothing. `Refused` as at `RecordStream`."""
+        """The messages that are complete with this fragment; their `next` has no meaning.
+
+        `Refused` is raised for a malformed or too large message, after those before it were
+        returned, and by each later call.
+        """
         return self._feed(fragment, _c.next_message, _room.part, self._shown)
 
     def _shown(self, out: _c.Part) -> Message:
@@ -775,7 +821,7 @@ class MessageStream(_Stream):
 
 
 class EventKind(enum.IntEnum):
-    """What a side said, as far as the outcome of a conversation looks at it."""
+    """The kinds of messages and records that the outcome of a conversation depends on."""
 
     HELLO_REQUEST = 0
     CLIENT_HELLO = 1
@@ -802,7 +848,7 @@ class EventKind(enum.IntEnum):
 
 
 class Outcome(enum.IntEnum):
-    """How a conversation stands; the header says what each is."""
+    """The state of a conversation. wispuddera.h describes each."""
 
     WAITING = 0
     FULL = 1
@@ -817,39 +863,41 @@ class Outcome(enum.IntEnum):
 
 
 def event_of_message(kind: int, body: Data) -> EventKind:
-    """The kind of event that a whole handshake message of TLS is, in the clear, of that HandshakeType and body."""
+    """The kind of event of an unencrypted TLS handshake message of this type and body."""
     given = _Given(body)
     return EventKind(_c.event_of_message(given.address, given.count, kind))
 
 
 def event_of_dtls_message(kind: int) -> EventKind:
-    """The same, of DTLS up to 1.2, once for all fragments of a message."""
+    """The kind of event of an unencrypted handshake message of DTLS up to 1.2, one for all its
+    fragments."""
     return EventKind(_c.event_of_dtls_message(kind))
 
 
 def event_of_alert(level: int, description: int) -> EventKind:
-    """The kind of event that an alert in the clear is (RFC 5246, section 7.2)."""
+    """The kind of event of an unencrypted alert (RFC 5246, section 7.2)."""
     return EventKind(_c.event_of_alert(level, description))
 
 
 def outcome(events: Iterable[tuple[EventKind, bool]]) -> Outcome:
-    """How a conversation of these events stands: what was said, and whether it goes to the server, in the order in which it came."""
+    """The state of a conversation after these events: their kinds, and whether they go to the
+    server, in order."""
     told = [_c.Event(kind, to_server) for kind, to_server in events]
     return Outcome(_c.outcome((_c.Event * len(told))(*told), len(told)))
 
 
 class Flow:
-    """A conversation that is followed event by event; what it keeps is one number."""
+    """Follows a conversation event by event. Its state is one number."""
 
     def __init__(self) -> None:
         self._flow = _c.Flow()
         _c.flow_start(self._flow)
 
     def step(self, kind: EventKind, to_server: bool) -> None:
-        """Follows one more event: what was said, and whether it goes to the server."""
+        """Follows an event: its kind, and whether it goes to the server."""
         _c.flow_step(self._flow, _c.Event(kind, to_server))
 
     @property
     def outcome(self) -> Outcome:
-        """How the conversation stands: as `outcome` tells it of its events so far."""
+        """The state of the conversation after the events so far."""
         return Outcome(_c.flow_outcome(self._flow))

@@ -1,4 +1,4 @@
-"""A conversation of TLS from the bytes of both sides: `Conversation`."""
+"""Follows a TLS conversation from the bytes of both sides: `Conversation`."""
 
 from __future__ import annotations
 
@@ -13,7 +13,8 @@ from . import _library as _c
 if TYPE_CHECKING:
     from . import Data, EventKind, Outcome
 
-# What stands in front of what is told of an event, by its form: the header of a message, or of a record.
+# The length of the header in front of an event's content, by form: that of a message or of a
+# record.
 _MESSAGE, _FAULT = 0, 6
 _HEADERS = {_MESSAGE: 4, 1: 5, 3: 5, 4: 5}
 _FAULTS = {**_c.KINDS, 11: "TooLarge", 12: "Interrupted"}
@@ -21,9 +22,12 @@ _FAULTS = {**_c.KINDS, 11: "TooLarge", 12: "Interrupted"}
 
 @dataclass(frozen=True)
 class ConversationEvent:
-    """What a side said: the kind that the outcome looks at, and the bytes of it. These are the body of a handshake message, whose
-    HandshakeType is `message`; the 2 bytes of an alert; the fragment of a heartbeat or of application data in the clear; or an encrypted
-    record. `fault` says what ended the side, of which nothing is read from then on."""
+    """A message, alert or record of a side: its kind, and its bytes.
+
+    `content` is the body of a handshake message, whose HandshakeType is `message`; the 2 bytes of
+    an alert; the fragment of a heartbeat or of unencrypted application data; or an encrypted
+    record. `fault` is why this side isn't read any further.
+    """
 
     to_server: bool
     kind: EventKind
@@ -34,14 +38,14 @@ class ConversationEvent:
 
 @dataclass(frozen=True)
 class ConversationStop:
-    """The event that ended a handshake without success, and how many events came before it."""
+    """The event that ended a handshake without success, and the number of events before it."""
 
     event: ConversationEvent
     events_before: int
 
 
 class _Buffer:
-    """What is held of one side, in as many bytes as were needed so far."""
+    """The buffered bytes of one side. It grows as needed."""
 
     def __init__(self) -> None:
         self.bytes = (ctypes.c_ubyte * 4096)()
@@ -56,8 +60,11 @@ class _Buffer:
 
 
 class Conversation:
-    """Both sides of a conversation of TLS, from the pieces of their streams in the order in which they come. A handshake message may have a
-    body of `limit` bytes. Iterating over it takes the events that were said and not taken yet; `outcome` counts those too.
+    """Follows both sides of a TLS conversation, from pieces of their streams in the order of their
+    arrival.
+
+    A handshake message may have a body of `limit` bytes. Iterating removes and returns the events
+    so far; `outcome` includes them either way.
 
     >>> import wispuddera
     >>> conversation = wispuddera.Conversation()
@@ -74,11 +81,15 @@ class Conversation:
         self._stop: Optional[ConversationStop] = None
 
     def feed(self, side: str, piece: Data) -> None:
-        """Puts a piece behind the stream of "client" or of "server", and follows what is whole then. `ValueError` at any other name."""
+        """Adds a piece to the stream of `side`, which is "client" or "server", and follows what is
+        complete.
+
+        `ValueError` is raised for another side.
+        """
         from . import _Given
 
         if side not in self._buffers:
-            raise ValueError(f"a side is client or server, not {side}")
+            raise ValueError(f"side must be client or server, not {side}")
         held, given, to_server = self._buffers[side], _Given(piece), side == "client"
 
         def feed() -> int:
@@ -111,22 +122,24 @@ class Conversation:
 
     @property
     def outcome(self) -> Outcome:
-        """How the conversation stands."""
+        """The state of the conversation."""
         from . import Outcome
 
         return Outcome(_c.conversation_outcome(self._state))
 
     @property
     def stop(self) -> Optional[ConversationStop]:
-        """What ended it, where the outcome is BROKEN_OFF, UNKNOWN or NO_HANDSHAKE."""
+        """What ended it, if the outcome is BROKEN_OFF, UNKNOWN or NO_HANDSHAKE; else `None`."""
         return self._stop
 
     @property
     def established(self) -> bool:
-        """Whether the part of the handshake that can be read came to its end; in TLS 1.3 that is with the ServerHello."""
+        """Whether the readable part of the handshake is complete; in TLS 1.3 it ends with the
+        ServerHello."""
         return _c.conversation_established(self._state)
 
     @property
     def resumed(self) -> bool:
-        """Whether a session was taken up: in TLS 1.3 by the pre_shared_key of the ServerHello (RFC 8446, section 4.2.11)."""
+        """Whether a session was resumed: in TLS 1.3 the ServerHello has pre_shared_key (RFC 8446,
+        section 4.2.11)."""
         return _c.conversation_resumed(self._state)

@@ -4,10 +4,11 @@ import ctypes
 import os
 
 _PATH = os.environ.get("WISPUDDERA_LIBRARY") or os.path.join(os.path.dirname(__file__), "libwispuddera.so")
-# Why there is no library. Only its calls need it: the module is imported without it, and `wispuddera.report` runs.
+# Why the library is missing. The import doesn't fail, since `wispuddera.log` and
+# `wispuddera.report` don't need it.
 _missing = None
 try:
-    # It keeps the interpreter's lock, right for calls as short as these.
+    # PyDLL keeps the interpreter's lock, since the calls are short.
     _library = ctypes.PyDLL(_PATH)
 except OSError as reason:
     _missing = reason
@@ -202,8 +203,8 @@ class Conversation(ctypes.Structure):
 
 def _refuse(*_):
     raise OSError(
-        f"the library of wispuddera isn't there: {_missing}. The wheel of a release has it, and bindings/build of the repository makes it; "
-        "the environment variable WISPUDDERA_LIBRARY names a libwispuddera.so elsewhere"
+        f"the library of wispuddera isn't there: {_missing}. It is in the wheel of a release, and "
+        "bindings/build builds it; the environment variable WISPUDDERA_LIBRARY can have its path"
     )
 
 
@@ -216,7 +217,7 @@ def _function(name, *arguments, answer=_U32):
     return function
 
 
-# `bytes` as they lie, or the address of a writable buffer.
+# `bytes`, or the address of a writable buffer.
 _BYTES, _OUT = ctypes.c_void_p, ctypes.POINTER
 
 looks_like_tls = _function("looks_like_tls", _BYTES, _SIZE)
@@ -282,6 +283,6 @@ conversation_resumed = _function("conversation_resumed", _OUT(Conversation), ans
 struct_size = _function("struct_size", _SIZE, answer=_SIZE)
 field_offset = _function("field_offset", _SIZE, _SIZE, answer=_SIZE)
 
-# The structs, as the header lists them for `wispuddera_struct_size`.
+# The structs in the order of `wispuddera_struct_size` (wispuddera.h).
 STRUCTS = (Place, Record, Part, ClientHello, ServerHello, Found, Number, DtlsRecord, DtlsMessage, DtlsClientHello, Event, Flow)
 STRUCTS += (X509, X509Extension, Said, Stop, Side, Course, Conversation)

@@ -1,4 +1,5 @@
-"""The lines of tlslog as objects: `log` runs the program, and `Connection` has the fields of a line (docs/TLSLOG.md)."""
+"""Runs tlslog and yields its lines as objects: `log`, and `Connection` with the fields of
+docs/TLSLOG.md."""
 
 from __future__ import annotations
 
@@ -19,7 +20,8 @@ Line = dict[str, Any]
 
 
 class LogError(RuntimeError):
-    """The program ended with the exit status `status`, which isn't 0 (below 0 a signal ended it), and wrote `message`."""
+    """The program failed with the exit status `status`, below 0 if a signal ended it, and
+    `message`."""
 
     def __init__(self, program: str, status: int, message: str) -> None:
         how = f"status {status}" if status >= 0 else f"signal {_signal_name(-status)}"
@@ -46,8 +48,11 @@ class Stop:
 
 @dataclass(frozen=True)
 class Connection:
-    """A connection, by the fields of its line: docs/TLSLOG.md says what each is. A dot in a field's name is an underscore here, and what
-    the line doesn't have is `None`. `more` has the fields that this class doesn't know, by their names in the line."""
+    """A connection with the fields of its line, which docs/TLSLOG.md describes.
+
+    A dot in a field's name is an underscore here. Absent fields are `None`. `more` has the fields
+    that this class doesn't know, by their names in the line.
+    """
 
     # made by docs/fields: connections
     ts: float
@@ -155,7 +160,8 @@ class Connection:
 
     @classmethod
     def of_line(cls, line: Union[str, bytes]) -> Connection:
-        """The connection of a line of `tlslog --format json`. `ValueError` where the line isn't one."""
+        """The connection of a line of `tlslog --format json`. `ValueError` is raised for any other
+        line."""
         return cls._of_values(_values_of(line))
 
     @classmethod
@@ -171,13 +177,13 @@ class Connection:
         try:
             return cls(**known, more=more)
         except TypeError as reason:
-            raise ValueError(f"a line without a field that each has: {reason}") from None
+            raise ValueError(f"the line lacks a field that each line has: {reason}") from None
 
 
 def _values_of(line: Union[str, bytes]) -> Line:
     values = json.loads(line)
     if not isinstance(values, dict):
-        raise ValueError("a line of the log is a JSON object")
+        raise ValueError("the line isn't a JSON object")
     return values
 
 
@@ -192,7 +198,8 @@ def _program(given: Optional[StrPath]) -> str:
         return beside
     found = shutil.which("tlslog")
     if found is None:
-        raise FileNotFoundError("there is no program tlslog, neither beside the module nor in PATH: pass it as `program`")
+        where = "beside the module or in PATH"
+        raise FileNotFoundError(f"there is no tlslog {where}: pass its path as `program`")
     return found
 
 
@@ -220,21 +227,24 @@ def log(
     memory: Union[str, int, None] = None,
     join: bool = False,
 ) -> Iterator[Any]:
-    """The connections of captures, each as soon as it ends, from the program `tlslog`.
+    """Yields the connections of captures, each when it ends, by running `tlslog`.
 
-    A capture is a path, `-` for standard input, or an object that is open for reading in binary: a file, a pipe such as the output of
-    tcpdump, or an `io.BytesIO`. An object comes alone.
+    A capture is a path, `-` for standard input, or an object opened for reading in binary: a file,
+    a pipe such as the output of tcpdump, or an `io.BytesIO`. An object can't be combined with other
+    captures.
 
-    With `messages` or `certificates` there is a `dict` for each message, or certificate, by the names of docs/TLSLOG.md. With `fields`, names or one
-    text with commas between them, the lines have these alone, and other attributes are `None`. `ciphers`, `checksums`, `memory` and `join` are the
-    options of the program.
+    With `messages` or `certificates` it yields a `dict` for each message or certificate, with the
+    names of docs/TLSLOG.md. With `fields`, names or one text of names with commas, the connections
+    have only these fields, and other attributes are `None`. `ciphers`, `checksums`, `memory` and
+    `join` are the program's options.
 
-    The program is `program`, else the one beside this module, else the first in PATH: `FileNotFoundError` where there is none. Where it ends with a
-    status that isn't 0, `LogError` is raised behind the connections that it told before. It is ended where the iterator is closed early. At the first
-    Ctrl-C while a stream is read, the stream ends there: the open connections come, and the iterator ends.
+    The program is `program`, or the one beside this module, or the first in PATH.
+    `FileNotFoundError` is raised if there is none, and `LogError`, after the connections so far, if
+    its exit status isn't 0. The program is ended if the iterator is closed early. The first Ctrl-C
+    while a stream is read ends the stream: the open connections are yielded, and the iterator ends.
     """
     if messages and certificates:
-        raise ValueError("messages and certificates don't go together")
+        raise ValueError("messages and certificates can't be combined")
     options = {"--ciphers": ciphers and os.fspath(ciphers), "--checksums": checksums, "--memory": None if memory is None else str(memory)}
     if fields is not None:
         options["--fields"] = fields if isinstance(fields, str) else ",".join(fields)
@@ -243,7 +253,7 @@ def log(
     command += [name for name, is_asked in (("--messages", messages), ("--certificates", certificates), ("--join", join)) if is_asked]
     is_stream = hasattr(path, "read")
     if is_stream and others:
-        raise ValueError("an open capture comes alone")
+        raise ValueError("an open capture can't be combined with others")
     names = ["-"] if is_stream else [os.fspath(path), *map(os.fspath, others)]  # type: ignore[arg-type]
     shown = _values_of if messages or certificates else Connection.of_line if fields is None else _some_of_line
     return _items([*command, "--", *names], path if is_stream else None, "-" in names, shown)  # type: ignore[arg-type]
@@ -253,18 +263,18 @@ _ALWAYS = {f.name: None for f in dataclasses.fields(Connection) if f.default is 
 
 
 def _some_of_line(line: bytes) -> Connection:
-    """A connection of which the line has some fields."""
+    """The connection of a line with some of the fields."""
     values = _values_of(line)
     known = {name.replace(".", "_") for name in values}
     return Connection._of_values({**{name: None for name in _ALWAYS if name not in known}, **values})
 
 
-# The status of tlslog where a capture is cut.
+# The status of tlslog for a truncated capture.
 _CUT = 1
 
 
 class _Feed(threading.Thread):
-    """Copies an open capture into the program, until either ends or `stop` is called."""
+    """Copies an open capture to the program, until either ends or `stop` is called."""
 
     def __init__(self, source: BinaryIO, target: BinaryIO) -> None:
         super().__init__(name="wispuddera.log", daemon=True)
@@ -314,7 +324,7 @@ def _items(command: list[str], source: Optional[BinaryIO], is_stream: bool, show
             raise
         finally:
             process.stdout.close()
-        # A stream that Ctrl-C ended may end within a packet, which the program tells by its status.
+        # A stream that Ctrl-C ends may end within a packet, which the status reports.
         if status != 0 and not (output.was_interrupted and status == _CUT):
             errors.seek(0)
             raise LogError(command[0], status, errors.read().decode("utf-8", "backslashreplace").strip())
@@ -323,7 +333,7 @@ def _items(command: list[str], source: Optional[BinaryIO], is_stream: bool, show
 
 
 class _Output:
-    """The lines of the program. Ctrl-C ends its input once, if that is a stream."""
+    """The lines of the program. The first Ctrl-C ends its input, if that is a stream."""
 
     def __init__(self, descriptor: int, feed: Optional[_Feed], is_stream: bool) -> None:
         self._descriptor, self._feed, self._is_stream = descriptor, feed, is_stream
@@ -339,7 +349,7 @@ class _Output:
 
     def _read(self) -> bytes:
         try:
-            # (a signal loses nothing of what is read so)
+            # No bytes are lost if a signal interrupts this read.
             return os.read(self._descriptor, 65536)
         except KeyboardInterrupt:
             if self.was_interrupted or not self._is_stream:

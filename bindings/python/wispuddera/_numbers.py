@@ -1,4 +1,5 @@
-"""Numbers of TLS that have a name. A record, message or alert may have another number: `ContentType(n)` raises `ValueError` then."""
+"""Named numbers of TLS. A record, message or alert may have another number, for which
+`ContentType(n)` raises `ValueError`."""
 
 from __future__ import annotations
 

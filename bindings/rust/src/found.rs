@@ -6,11 +6,11 @@ fn found(status: u32, out: sys::Found, bytes: &[u8]) -> Result<Option<&[u8]>, Er
     Ok(is_found(status, out.missing)?.then(|| out.place.of(bytes)))
 }
 
-/// The name of the host that the first ClientHello of the record in front asks for (RFC 6066, section 3); `None` where it asks for none,
-/// or the record isn't one of handshakes.
+/// The host name in the first ClientHello of the first record (RFC 6066, section 3); `None` if it
+/// has none, or the record isn't a handshake record.
 ///
 /// # Errors
-/// Where the record, or what stands on the way to the name, isn't read.
+/// If the record, or what precedes the name, is truncated or malformed.
 ///
 /// ```
 /// use wispuddera::{server_name_of_record, Error};
@@ -30,25 +30,27 @@ pub fn server_name_of_record(bytes: &[u8]) -> Result<Option<&[u8]>, Error> {
     found(status, out, bytes)
 }
 
-/// The same, of the body of a ClientHello.
+/// The host name in the body of a ClientHello (RFC 6066, section 3); `None` if it has none.
 ///
 /// # Errors
-/// Where what stands on the way to the name isn't read.
+/// If what precedes the name is truncated or malformed.
 pub fn server_name_of_hello(body: &[u8]) -> Result<Option<&[u8]>, Error> {
     let (status, out) = sys::read_front(sys::wispuddera_find_server_name_in_hello, body);
     found(status, out, body)
 }
 
-/// The same, of a block of extensions: the first name in its first server_name.
+/// The host name in a block of extensions: the first name in its first server_name (RFC 6066,
+/// section 3).
 ///
 /// # Errors
-/// Where what stands on the way to the name isn't read.
+/// If what precedes the name is truncated or malformed.
 pub fn server_name(block: &[u8]) -> Result<Option<&[u8]>, Error> {
     let (status, out) = sys::read_front(sys::wispuddera_find_server_name, block);
     found(status, out, block)
 }
 
-/// The content of the first extension of that ExtensionType in a block of extensions (RFC 8446, section 4.2).
+/// The content of the first extension of that ExtensionType in a block of extensions (RFC 8446,
+/// section 4.2).
 ///
 /// # Errors
 /// Where the block isn't read up to it, or up to its end.
@@ -59,7 +61,8 @@ pub fn find_extension(block: &[u8], kind: u16) -> Result<Option<&[u8]>, Error> {
     found(status, out, block)
 }
 
-/// The body of the first handshake message of that HandshakeType in the fragment of a record (RFC 5246, section 7.4).
+/// The body of the first handshake message of that HandshakeType in the fragment of a record (RFC
+/// 5246, section 7.4).
 ///
 /// # Errors
 /// Where the fragment isn't read up to it, or up to its end.

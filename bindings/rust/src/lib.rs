@@ -1,8 +1,9 @@
-//! TLS and DTLS read in place, by the proved library behind `wispuddera.h`.
+//! Parses TLS, DTLS and X.509 in place, by the proved library of `wispuddera.h`.
 //!
-//! Bytes go in as slices, and what is read are numbers and slices of the same bytes. Nothing is allocated, nothing is kept between
-//! calls, and this crate needs no `std`. A call that reads what stands in front answers it with the bytes behind it; what isn't there
-//! is `None`; and an [`Error`] says that bytes are missing, or which kind of rule they break.
+//! Calls take slices, and return numbers and slices of the same bytes. Nothing is allocated,
+//! nothing is kept between calls, and this crate needs no `std`. A call that reads the first item
+//! returns it with the bytes behind it. What is absent is `None`. An [`Error`] says that bytes are
+//! missing, or which kind of rule they break.
 //!
 //! ```
 //! use wispuddera::{messages, records, server_name_of_hello, ClientHello, Error};
@@ -28,11 +29,14 @@
 //! # assert_eq!(show_names(&[]), Ok(()));
 //! ```
 //!
-//! What comes in pieces is held in a buffer of the caller's, by a [`RecordStream`] and a [`MessageStream`]. A [`Conversation`] takes the pieces of
-//! both sides, and tells their events and the outcome. Of events that the caller has, [`outcome`] tells it, or event by event a [`Flow`].
+//! [`RecordStream`] and [`MessageStream`] reassemble streams that arrive in pieces, in a buffer of
+//! the caller. [`Conversation`] takes the pieces of both sides and returns their events and the
+//! outcome. For events that the caller has, [`outcome`] returns it at once, and [`Flow`] event by
+//! event.
 //!
-//! The library is proved (`crates/wispuddera_c`), and this crate is written by hand over it. A place that the library answers is
-//! looked up in the caller's slice by a check, so no answer of it is trusted for memory.
+//! The library is proved (`crates/wispuddera_c`); this crate is a wrapper written by hand. Each
+//! place that the library returns is bounds-checked against the caller's slice, so memory safety
+//! doesn't depend on it.
 #![no_std]
 #![warn(missing_docs, unsafe_op_in_unsafe_fn)]
 

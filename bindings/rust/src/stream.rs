@@ -1,4 +1,4 @@
-//! Streams that come in pieces, held in a buffer of the caller's.
+//! Streams that arrive in pieces, reassembled in a buffer of the caller.
 use crate::error::{check, Error};
 use crate::part::{Message, Record};
 use crate::sys;
@@ -25,7 +25,8 @@ impl<B: AsRef<[u8]> + AsMut<[u8]>> Held<B> {
         taken
     }
 
-    /// Takes what a call reads in front off: the buffer's bytes, of which that tells places. `None` where it isn't whole yet.
+    /// Takes what a call reads in front off: the buffer's bytes, of which that tells places. `None`
+    /// where it isn't whole yet.
     fn take<T: Default>(&mut self, call: sys::Take<T>, missing: fn(&T) -> usize) -> Result<Option<(&[u8], T)>, Error> {
         let (buffer, mut out) = (self.buffer.as_ref(), T::default());
         // SAFETY: the pointer leads to as many bytes as are said, which nobody writes while they are lent; the place and `out` have
@@ -42,7 +43,8 @@ impl<B: AsRef<[u8]> + AsMut<[u8]>> Held<B> {
 /// The bytes of the longest record: 5 of its header, and 16640 behind it.
 pub const RECORD_ROOM: usize = 16645;
 
-/// One direction's records, however its bytes come. A buffer of [`RECORD_ROOM`] bytes has room for each record that isn't refused.
+/// The records of one direction, from pieces of any length. A buffer of [`RECORD_ROOM`] bytes has
+/// room for each record that isn't refused.
 ///
 /// ```
 /// use wispuddera::{RecordStream, RECORD_ROOM};
@@ -71,8 +73,8 @@ impl<B: AsRef<[u8]> + AsMut<[u8]>> RecordStream<B> {
         RecordStream { held: Held::new(buffer) }
     }
 
-    /// Holds as much of the piece as there is room for, and answers how many bytes that is: 0 where the buffer is full. Take the records
-    /// that are whole, and feed the rest.
+    /// Holds as much of the piece as there is room for, and answers how many bytes that is: 0 where
+    /// the buffer is full. Take the records that are whole, and feed the rest.
     pub fn feed(&mut self, piece: &[u8]) -> usize {
         self.held.feed(piece)
     }
@@ -82,18 +84,19 @@ impl<B: AsRef<[u8]> + AsMut<[u8]>> RecordStream<B> {
         self.held.place.length
     }
 
-    /// Takes the record in front off what is held (RFC 5246, section 6.2.1); `None` where it isn't whole yet.
+    /// Removes and returns the first buffered record (RFC 5246, section 6.2.1); `None` if it isn't
+    /// complete.
     ///
     /// # Errors
-    /// [`Error::Refused`] where its length is above 16640, and again at each further call.
+    /// [`Error::Refused`] if its length is above 16640, and again at each later call.
     pub fn next_record(&mut self) -> Result<Option<Record<'_>>, Error> {
         let taken = self.held.take(sys::wispuddera_next_record, |out| out.missing)?;
         Ok(taken.map(|(buffer, out)| Record { content_type: out.content_type, version: out.version, fragment: out.fragment.of(buffer) }))
     }
 }
 
-/// Handshake messages, joined over the fragments of records. Of a message that is longer than the buffer, `feed` takes no more bytes,
-/// and none is whole.
+/// Handshake messages, reassembled from the fragments of records. If a message is longer than the
+/// buffer, `feed` takes no more bytes, and the message never completes.
 #[derive(Clone, Debug)]
 pub struct MessageStream<B> {
     held: Held<B>,
@@ -105,8 +108,8 @@ impl<B: AsRef<[u8]> + AsMut<[u8]>> MessageStream<B> {
         MessageStream { held: Held::new(buffer) }
     }
 
-    /// Holds as much of the fragment as there is room for, and answers how many bytes that is: 0 where the buffer is full. Take the
-    /// messages that are whole, and feed the rest.
+    /// Holds as much of the fragment as there is room for, and answers how many bytes that is: 0
+    /// where the buffer is full. Take the messages that are whole, and feed the rest.
     pub fn feed(&mut self, fragment: &[u8]) -> usize {
         self.held.feed(fragment)
     }
@@ -116,10 +119,11 @@ impl<B: AsRef<[u8]> + AsMut<[u8]>> MessageStream<B> {
         self.held.place.length
     }
 
-    /// Takes the message in front off what is held (RFC 5246, section 7.4); `None` where it isn't whole yet.
+    /// Removes and returns the first buffered message (RFC 5246, section 7.4); `None` if it isn't
+    /// complete.
     ///
     /// # Errors
-    /// [`Error::Refused`] where it breaks a rule, and again at each further call.
+    /// [`Error::Refused`] if it breaks a rule, and again at each later call.
     pub fn next_message(&mut self) -> Result<Option<Message<'_>>, Error> {
         let taken = self.held.take(sys::wispuddera_next_message, |out| out.missing)?;
         Ok(taken.map(|(buffer, out)| Message { kind: out.kind as u8, body: out.content.of(buffer) }))

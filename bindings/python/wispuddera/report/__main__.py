@@ -87,11 +87,15 @@ def _write(page: str) -> None:
 
 def main() -> None:
     parser = argparse.ArgumentParser(
-        prog=NAME, description="Writes an HTML page of logs of tlslog to standard output.", epilog=EPILOG,
+        prog=NAME,
+        description="Writes an HTML page of logs of tlslog to standard output.",
+        epilog=EPILOG,
         formatter_class=argparse.RawDescriptionHelpFormatter,
     )
-    parser.add_argument("logs", metavar="LOG", nargs="+", help="JSON lines of tlslog; - is standard input")
-    parser.add_argument("--capture", metavar="NAME", default="", help="the capture's name, for the title (default: the name of the log)")
+    logs = "JSON lines of tlslog; - is standard input"
+    capture = "the name in the page's title (default: that of the log)"
+    parser.add_argument("logs", metavar="LOG", nargs="+", help=logs)
+    parser.add_argument("--capture", metavar="NAME", default="", help=capture)
     asked = parser.parse_args()
     if asked.logs.count("-") > 1:
         parser.error("standard input is named twice")

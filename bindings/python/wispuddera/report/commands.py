@@ -74,8 +74,8 @@ def _word(name: str) -> str:
 
 
 class Commands:
-    """Makes commands for logs of these names. They print the `uid` of each connection, or whole lines
-    if the logs have no `uid`."""
+    """Makes commands for logs of these names. They print the `uid` of each connection, or whole
+    lines if the logs have no `uid`."""
 
     def __init__(self, names: Sequence[str], has_uid: bool) -> None:
         self._files = " ".join(map(_word, names))

@@ -265,7 +265,8 @@ class Counts:
                 program.broken_off += 1
             if host not in program.hosts:
                 program.hosts = with_value(program.hosts, host)
-        for tally, key, other in ((self.clients, client, server), (self.servers, it.server, client)):
+        ends = ((self.clients, client, server), (self.servers, it.server, client))
+        for tally, key, other in ends:
             if key is not None:
                 address = tally.add(key, uid)
                 address.others[0].add(other)
@@ -321,7 +322,8 @@ class Counts:
             offer.versions = with_value(offer.versions, version)
         if weak and len(offer.listed) <= OFFERED:
             # A hello may offer thousands of suites.
-            for kept, most, offered in ((offer.suites, WEAK, weak), (offer.listed, OFFERED + 1, it.offered_suites)):
+            listed = (offer.listed, OFFERED + 1, it.offered_suites)
+            for kept, most, offered in ((offer.suites, WEAK, weak), listed):
                 for one in offered:
                     if len(kept) >= most:
                         break

@@ -94,7 +94,8 @@ def _grid(top: int, marks: list[int]) -> Iterator[str]:
 
 
 def _times(start: int, span: int, most: int) -> Iterator[str]:
-    """Marks at multiples of their distance. The first mark, and the first of each day, have the date."""
+    """Marks at multiples of their distance. The first mark, and the first of each day, have the
+    date."""
     distance = next((mark for mark in _MARKS if span // mark < most), _MARKS[-1])
     days: set[str] = set()
     for at in range(-(-start // distance) * distance, min(start + span, text.END_OF_TIME), distance):

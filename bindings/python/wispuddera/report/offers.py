@@ -28,8 +28,8 @@ def old_of(versions: Values) -> Values:
 
 @lru_cache(maxsize=4096)
 def _name_if_weak(offered: str) -> Optional[str]:
-    """The name of a weak suite, `""` for a value that is no suite, and `None` for a suite that isn't
-    weak or can't be judged."""
+    """The name of a weak suite, `""` for a value that is no suite, and `None` for a suite that
+    isn't weak or can't be judged."""
     if offered in _SIGNALS or _GREASE.fullmatch(offered):
         return ""
     name = suites.name_of(offered)

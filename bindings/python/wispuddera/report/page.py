@@ -147,7 +147,8 @@ def _failures(counts: Counts, commands: Commands) -> str:
 
 
 def _kinds(tally: Tally[Any, Any], noun: str) -> str:
-    """How many distinct values there are: `12 different hosts`, `More than 10,000 different hosts`."""
+    """How many distinct values there are: `12 different hosts`, `More than 10,000 different hosts`.
+    """
     return f"{'More than ' if tally.missed else ''}{text.counted(len(tally.entries), 'different ' + noun)}"
 
 

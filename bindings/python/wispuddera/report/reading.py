@@ -10,10 +10,11 @@ from typing import Any, BinaryIO, NamedTuple, NoReturn, Optional
 
 from . import suites, text
 
-# Longer lines are skipped. Those of tlslog are shorter: a hello's lists have lengths of 2 bytes, and
-# a byte takes at most 5 as text.
+# Longer lines are skipped. Those of tlslog are shorter: a hello's lists have lengths of 2 bytes,
+# and a byte takes at most 5 as text.
 LONGEST_LINE = 4 << 20
-# Connections are counted once so many bytes of lines are read. Counting each line takes a tenth longer.
+# Connections are counted once so many bytes of lines are read. Counting each line takes a tenth
+# longer.
 BATCH = 256 << 10
 
 
@@ -102,15 +103,16 @@ TEXTS = ("uid", "version", "cipher", "curve", "server_name", "outcome", "last_al
 FIELDS = {"ts", "resumed", "stop", "not_after", "sni_matches_cert", "client_version", "client_supported_versions", "client_ciphers", *TEXTS}
 # Fields of a message that no connection has.
 OF_MESSAGES = {"content_type", "side", "place"}
-# The magic numbers of captures: pcap in either byte order, with microseconds or nanoseconds, and pcapng.
+# The magic numbers of captures: pcap in either byte order, with microseconds or nanoseconds, and
+# pcapng.
 _CAPTURES = (b"\xd4\xc3\xb2\xa1", b"\xa1\xb2\xc3\xd4", b"\x4d\x3c\xb2\xa1", b"\xa1\xb2\x3c\x4d", b"\x0a\x0d\x0d\x0a")
 _IS_CAPTURE = "this is a capture: run tlslog CAPTURE | tlslog-report -"
 _TO_JSON = "the report reads JSON: run tlslog CAPTURE > LOG"
 
 
 def other_format(line: bytes) -> Optional[str]:
-    """What the log is, judged by its first line, and what to run instead. `None` if the line can be part of a
-    log of connections."""
+    """What the log is, judged by its first line, and what to run instead. `None` if the line can be
+    part of a log of connections."""
     if line.startswith(_CAPTURES):
         return _IS_CAPTURE
     if line.startswith(b"#"):
@@ -150,8 +152,9 @@ def _server_at(address: str, port: Optional[int]) -> Server:
 class Reader:
     """Iterates over the connections of logs.
 
-    It counts the skipped lines by reason (`unread`), the values of a wrong type by field (`misfits`),
-    and the values that were cut (`cut`). `OtherFormat` is raised if a log isn't JSON of connections.
+    It counts the skipped lines by reason (`unread`), the values of a wrong type by field
+    (`misfits`), and the values that were cut (`cut`). `OtherFormat` is raised if a log isn't JSON
+    of connections.
     """
 
     def __init__(self, *logs: BinaryIO) -> None:
@@ -311,9 +314,10 @@ class Reader:
         if is_self_signed is None:
             is_self_signed = subject is not None and subject == issuer
         names = self._value(get("san_dns"), "san_dns", _are_texts) or ()
+        key = fingerprint or f"{not_after}\n{subject}\n{issuer}"
+        first = tuple([self._within(name) for name in names[:NAMES]])
         return Certificate(
-            fingerprint or f"{not_after}\n{subject}\n{issuer}", fingerprint, subject, issuer, not_after, end,
-            is_self_signed, tuple([self._within(name) for name in names[:NAMES]]), len(names),
+            key, fingerprint, subject, issuer, not_after, end, is_self_signed, first, len(names)
         )
 
 

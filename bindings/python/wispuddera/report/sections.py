@@ -1,4 +1,5 @@
-"""The tables of what was negotiated, what failed, and which hosts, programs and addresses there are."""
+"""The tables of what was negotiated, what failed, and which hosts, programs and addresses there
+are."""
 
 from __future__ import annotations
 
@@ -31,8 +32,8 @@ OUTCOMES = {
 
 
 class Ranking(NamedTuple):
-    """A table of the most frequent values: its name, its title, which rows are shown if there are more,
-    the noun for a value, and the number of connections that shares refer to."""
+    """A table of the most frequent values: its name, its title, which rows are shown if there are
+    more, the noun for a value, and the number of connections that shares refer to."""
 
     name: str
     title: str

@@ -13,12 +13,14 @@ _BY_NAME = {name: number for number, name in _BY_NUMBER.items()}
 
 
 def name_of(suite: str) -> str:
-    """The name of a suite given by number, as `--numbers` prints it. Other text is returned unchanged."""
+    """The name of a suite given by number, as `--numbers` prints it. Other text is returned
+    unchanged."""
     return _BY_NUMBER.get(suite, suite)
 
 
 def number_of_suite(suite: str) -> Optional[str]:
-    """The number of a suite by its name, as `0x1301`; `None` if the registry doesn't have the name."""
+    """The number of a suite by its name, as `0x1301`; `None` if the registry doesn't have the name.
+    """
     return _BY_NAME.get(suite)
 
 
@@ -54,7 +56,8 @@ def is_judged(name: str) -> bool:
 
 
 def faults_of(name: str) -> tuple[Fault, ...]:
-    """Why the suite of this name is weak, in the order of the rule; empty for a name in another form."""
+    """Why the suite of this name is weak, in the order of the rule; empty for a name in another
+    form."""
     return tuple(fault for fault in FAULTS if re.search(fault.pattern, name)) if is_judged(name) else ()
 
 

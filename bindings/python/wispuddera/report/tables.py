@@ -72,7 +72,8 @@ def breakable(name: str) -> str:
 
 
 def some(values: Sequence[str], most: int = 3, count: int = 0) -> Cell:
-    """The first of these texts, and how many more there are. `count` is their number, if not all are given."""
+    """The first of these texts, and how many more there are. `count` is their number, if not all
+    are given."""
     if not values:
         return Cell(aside("–"))
     shown = [breakable(value) for value in values[:most]]
@@ -83,8 +84,8 @@ def some(values: Sequence[str], most: int = 3, count: int = 0) -> Cell:
 
 
 def table(name: str, caption: str, columns: Sequence[Column], rows: Iterable[Sequence[Cell]], foot: Sequence[Cell] = ()) -> str:
-    """A table whose first column has the row headers. Sorting leaves the foot at the end. The caption is
-    outside of the part that scrolls, so that it can be read on a narrow screen."""
+    """A table whose first column has the row headers. Sorting leaves the foot at the end. The
+    caption is outside of the part that scrolls, so that it can be read on a narrow screen."""
     head = "".join(_head(column) for column in columns)
     body = "".join(f"<tr>{_row(columns, row)}</tr>" for row in rows)
     end = f"<tfoot><tr>{_row(columns, foot)}</tr></tfoot>" if foot else ""

@@ -39,9 +39,9 @@ Item = TypeVar("Item")
 class Tally(Generic[Key, E]):
     """Counts each value. Beyond twice `most` distinct values, the rarest are dropped.
 
-    This is the algorithm Space-Saving, dropping many at once. A value that makes up more than one in
-    `most` is present. No count is short by more than `missed`, which is at most that many. Values
-    that were never dropped have exact counts.
+    This is the algorithm Space-Saving, dropping many at once. A value that makes up more than one
+    in `most` is present. No count is short by more than `missed`, which is at most that many.
+    Values that were never dropped have exact counts.
     """
 
     def __init__(self, kind: Callable[[int], E], most: int = MOST) -> None:
@@ -85,12 +85,12 @@ def with_value(values: Values, value: Optional[str]) -> Values:
 
 
 class Timeline:
-    """Counts how many connections of each kind began in each interval. Intervals grow with the time that
-    the log spans, so that it has at most `MOST` of them."""
+    """Counts how many connections of each kind began in each interval. Intervals grow with the time
+    that the log spans, so that it has at most `MOST` of them."""
 
     MOST = 180
-    # Lengths in seconds. Each is a multiple of the one before, so that whole intervals are joined. The
-    # last ones are 4, 52, 520 and 5200 weeks.
+    # Lengths in seconds. Each is a multiple of the one before, so that whole intervals are joined.
+    # The last ones are 4, 52, 520 and 5200 weeks.
     STEPS = (1, 5, 15, 60, 300, 900, 3600, 10800, 43200, 86400, 604800, 2419200, 31449600, 314496000, 3144960000)
 
     def __init__(self, kinds: int) -> None:
@@ -127,7 +127,8 @@ class Timeline:
 
 
 class Soonest(Generic[Key, Item]):
-    """Keeps the entries with the earliest ends: at least `most` of them, and at most twice as many."""
+    """Keeps the entries with the earliest ends: at least `most` of them, and at most twice as many.
+    """
 
     def __init__(self, most: int = MOST) -> None:
         self.most = most

@@ -30,8 +30,8 @@ def _shown(character: str) -> str:
 
 
 def plain(value: str) -> str:
-    """The text with escapes for characters that are invisible, that reorder text, or that combine with
-    their neighbours, and for blanks at its ends."""
+    """The text with escapes for characters that are invisible, that reorder text, or that combine
+    with their neighbours, and for blanks at its ends."""
     inner = value.strip(" ")
     shown = inner if inner.isascii() and inner.isprintable() else "".join(map(_shown, inner))
     if len(inner) == len(value):
@@ -60,7 +60,8 @@ def counted(value: int, one: str, more: Optional[str] = None) -> str:
 
 
 def share(part: int, whole: int) -> str:
-    """A part in percent, with one decimal. A small part isn't shown as 0, nor a large one as 100."""
+    """A part in percent, with one decimal. A small part isn't shown as 0, nor a large one as 100.
+    """
     if not whole:
         return "–"
     percent = 100 * part / whole
@@ -98,8 +99,8 @@ _ISO = re.compile(r"(\d{4})-(\d\d)-(\d\d)T(\d\d):(\d\d):(\d\d)Z", re.ASCII)
 
 
 def seconds_of(iso: str) -> Optional[int]:
-    """Seconds since 1970 of a time written as `2026-11-25T12:00:00Z`, below 0 if it is earlier. `None`
-    for any other text."""
+    """Seconds since 1970 of a time written as `2026-11-25T12:00:00Z`, below 0 if it is earlier.
+    `None` for any other text."""
     return _seconds_of(iso) if len(iso) == len("2026-11-25T12:00:00Z") else None
 
 
