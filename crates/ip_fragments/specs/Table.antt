@@ -50,31 +50,31 @@ pub record Reassembly : Type 0 where
 abbrev pub is_late : ℕ → Waiting → Bool
 is_late time w = nat_lt WAIT_LIMIT (time - w.since)
 
--- It has, or all, which count `held` bytes, exceed their memory with `more` bytes.
+-- It is late, or all datagrams, which count `held` bytes, exceed their memory with `more` bytes.
 abbrev pub is_over : ℕ → ℕ → ℕ → Waiting → Bool
 is_over time more held w = is_late time w || nat_lt HELD_LIMIT (held + more)
 
--- What is left of datagrams that count `held` bytes, the oldest first: those that are over are
+-- What is left of these datagrams, the oldest first, which count `held` bytes: each that is over is
 -- dropped, up to the first that isn't.
 unfoldable pub left_of : ℕ → ℕ → ℕ → Table → Table
 left_of time more held [] = []
 left_of time more held (e ∷ t) =
     if is_over time more held e.1 then left_of time more (held - e.1.weight) t else e ∷ t
 
--- Those that are dropped, the oldest first.
+-- The datagrams that are dropped, the oldest first.
 unfoldable pub dropped_of : ℕ → ℕ → ℕ → Table → Table
 dropped_of time more held [] = []
 dropped_of time more held (e ∷ t) =
     if is_over time more held e.1 then e ∷ dropped_of time more (held - e.1.weight) t else []
 
--- The same for a table, whose last datagram is the oldest.
+-- What is left of a table, and what is dropped. Its last datagram is the oldest.
 abbrev pub kept : ℕ → ℕ → Table → Table
 kept time more t = reverse (left_of time more (weight t) (reverse t))
 
 abbrev pub dropped : ℕ → ℕ → Table → Table
 dropped time more t = dropped_of time more (weight t) (reverse t)
 
--- How many of these are late, and how many aren't.
+-- How many datagrams are late, and how many were dropped for room alone.
 abbrev pub late_in : ℕ → Table → ℕ
 late_in time t = length (filter (λ e. is_late time e.1) t)
 

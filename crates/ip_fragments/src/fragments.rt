@@ -79,7 +79,11 @@ impl Model for Fragments {
 
     ghost Value = { Reassembly };
 
-    ghost view = { λ f. record { waiting = f.waiting.entries; late = f.late; crowded = f.crowded } };
+    ghost view = { λ f. record {
+      waiting = f.waiting.entries;
+      late = f.late;
+      crowded = f.crowded;
+    } };
 
     ghost invariant = { λ f. (f.waiting.cap ≡ 2 ^ 64 - 1) × (f.held ≡ weight f.waiting.entries)
         × (f.held ≤ 33554432) };
@@ -94,7 +98,8 @@ fn add_at(
 ) -> Result<Step, AllocError>
     requires short { length fragment.now.payload.now < 2 ^ 16 }
     requires light { weight table.old.entries ≤ 33554432 }
-    ensures adds { IfOk result (λ step. AddsAt step key.now fragment.now table.old.entries table.new.entries) }
+    ensures adds { IfOk result
+        (λ step. AddsAt step key.now fragment.now table.old.entries table.new.entries) }
     ensures err { OnErr result (table.new ≡ table.old) }
     ensures agrees { OnErr result ((v : Waiting) × (at key.now table.old.entries ≡ Some v)
         × (is_other_end fragment.now v ≡ false)) }
