@@ -1,14 +1,15 @@
 -- What the table holds after a step.
-use Rattle.std.proofs.Common.{◌≡◌, ℕ, zero, suc, ◌+◌, ◌-◌, ◌≤◌, Bool, true, false, cond, Some, None, [], ◌∷◌, ◌++◌, length}
+use Rattle.std.proofs.Common.{◌≡◌, ℕ, zero, suc, ◌+◌, ◌-◌, ◌<◌, ◌≤◌, ◌^◌, ◌&&◌, ◌||◌, nat_lt, not, Bool, true, false, cond, Option, Some, None, [], ◌∷◌, ◌++◌, filter, length, reverse}
 use Rattle.std.proofs.Common.{take, slice_get, refl, sym, ap, ◌∙◌, subst, arith, rules}
+use Rattle.std.proofs.Common.{ltb-true}
+use Rattle.std.proofs.lemmas.List.{reverse-append, reverse-reverse}
 use Rattle.std.specs.Prelude.{IfOk, IfSome, OnErr, Result, Ok, Err}
 use Rattle.std.specs.Map.{lookup_entry}
 use Rattle.lru.specs.LruCache.{LruCache, last_entry, put_entries}
 use Rattle.capture.specs.declared.fragment.Fragment.{Fragment}
 use Rattle.ip_fragments.specs.Key.{are_keys, key_of}
-use Rattle.ip_fragments.specs.Waiting.{Waiting, IsWith, is_whole}
-use Rattle.ip_fragments.specs.Table.{AddsAt, Becomes, BeginsAt, HandsOut, Table, at, found_or_begun, others, weight, with_other, IsForgotten, IsOver}
-use Rattle.ip_fragments.specs.Table.IsForgotten.{one}
+use Rattle.ip_fragments.specs.Waiting.{Waiting, IsWith, begun, end_of, is_other_end, is_whole}
+use Rattle.ip_fragments.specs.Table.{AddsAt, Becomes, BeginsAt, HandsOut, Table, at, counted, crowded_in, dropped, dropped_of, found_or_begun, is_late, is_over, its, kept, late_in, left_of, others, put_at, weight, with_other}
 use Rattle.ip_fragments.specs.declared.fragments.Outcome.{Outcome}
 use Rattle.ip_fragments.specs.declared.fragments.Outcome.TheVariants as outcome
 use Rattle.ip_fragments.specs.declared.fragments.Step.{Step}
@@ -132,12 +133,91 @@ weight_front t k w h =
     ∙ weight_append (take (length t - 1) t) ((k, w) ∷ []) in
     omega (arith, n)
 
--- Dropping one more of the oldest.
-pub last_forgotten : (time more : ℕ) (t u : Table) (k : Key) (w : Waiting)
-    → IsForgotten time more t u → Some (k, w) ≡ last_entry u
-    → IsOver time more (weight u) w.since → IsForgotten time more t (take (length u - 1) u)
-last_forgotten time more t u k w f h o =
-    one u (take (length u - 1) u) k w f (front_and_last u (k, w) (sym h)) o
+-- The oldest comes first where the table is read backwards.
+oldest_first : (t : Table) (k : Key) (w : Waiting) → Some (k, w) ≡ last_entry t
+    → reverse t ≡ (k, w) ∷ reverse (take (length t - 1) t)
+oldest_first t k w h =
+    let xs = take (length t - 1) t in
+    ap reverse (front_and_last t (k, w) (sym h)) ∙ reverse-append xs ((k, w) ∷ [])
+
+module _ (time more : ℕ) (t : Table) (k : Key) (w : Waiting) where
+  less : Some (k, w) ≡ last_entry t → weight t - w.weight ≡ weight (take (length t - 1) t)
+  less h = let n = weight_front t k w h in omega (arith, n)
+
+  -- The oldest is dropped where it is over.
+  pub kept_one : Some (k, w) ≡ last_entry t → is_over time more (weight t) w ≡ true
+      → kept time more (take (length t - 1) t) ≡ kept time more t
+  unfolding left_of
+  kept_one h o =
+      let xs = take (length t - 1) t in
+      let front = ap (left_of time more (weight t)) (oldest_first t k w h) in
+      let step : left_of time more (weight t) ((k, w) ∷ reverse xs) ≡ left_of time more (weight xs)
+      (reverse xs) = rw o (rw (less h) refl) in
+      ap reverse (sym (front ∙ step))
+
+  pub dropped_one : Some (k, w) ≡ last_entry t → is_over time more (weight t) w ≡ true
+      → dropped time more t ≡ (k, w) ∷ dropped time more (take (length t - 1) t)
+  unfolding dropped_of
+  dropped_one h o =
+      ap (dropped_of time more (weight t)) (oldest_first t k w h) ∙ rw o (rw (less h) refl)
+
+  -- Otherwise all stay.
+  pub kept_all : Some (k, w) ≡ last_entry t → is_over time more (weight t) w ≡ false
+      → kept time more t ≡ t
+  unfolding left_of
+  kept_all h o =
+      let xs = take (length t - 1) t in
+      let same : left_of time more (weight t) ((k, w) ∷ reverse xs) ≡ (k, w) ∷ reverse xs =
+      rw o refl in
+      let front = oldest_first t k w h in
+      ap reverse (ap (left_of time more (weight t)) front ∙ same ∙ sym front) ∙ reverse-reverse t
+
+  pub dropped_none : Some (k, w) ≡ last_entry t → is_over time more (weight t) w ≡ false
+      → dropped time more t ≡ []
+  unfolding dropped_of
+  dropped_none h o =
+      ap (dropped_of time more (weight t)) (oldest_first t k w h) ∙ rw o refl
+
+-- One more is counted.
+counted_more : (n : ℕ) (b : Bool) (k : Key) (w : Waiting) (p : Key × Waiting → Bool) (t : Table)
+    → p (k, w) ≡ b
+    → counted (counted n (cond b 1 0)) (length (filter p t)) ≡ counted n (length (filter p ((k, w) ∷ t)))
+counted_more n true k w p t e = rw e (omega arith)
+counted_more n false k w p t e = rw e (omega arith)
+
+pub counted_low : (m n k : ℕ) → m ≡ counted n k → m < 2 ^ 64
+counted_low m n k e = omega (arith, e)
+
+none_counted : (n : ℕ) → n < 2 ^ 64 → n ≡ counted n 0
+none_counted n low = omega (arith, low)
+
+module _ (time n : ℕ) (d : Table) where
+  pub none_late : d ≡ [] → n < 2 ^ 64 → n ≡ counted n (late_in time d)
+  none_late e low = subst (λ l. n ≡ counted n (late_in time l)) (sym e) (none_counted n low)
+
+  pub none_crowded : d ≡ [] → n < 2 ^ 64 → n ≡ counted n (crowded_in time d)
+  none_crowded e low = subst (λ l. n ≡ counted n (crowded_in time l)) (sym e) (none_counted n low)
+
+module _ (time more n m : ℕ) (b : Bool) (t : Table) (k : Key) (w : Waiting) where
+  pub late_step : b ≡ is_late time w → Some (k, w) ≡ last_entry t
+      → is_over time more (weight t) w ≡ true → m ≡ counted n (cond b 1 0)
+      → counted m (late_in time (dropped time more (take (length t - 1) t)))
+      ≡ counted n (late_in time (dropped time more t))
+  late_step is h o e =
+      let d = dropped time more (take (length t - 1) t) in
+      ap (λ x. counted x (late_in time d)) e
+      ∙ counted_more n b k w (λ p. is_late time p.1) d (sym is)
+      ∙ sym (ap (λ l. counted n (late_in time l)) (dropped_one time more t k w h o))
+
+  pub crowded_step : b ≡ is_late time w → Some (k, w) ≡ last_entry t
+      → is_over time more (weight t) w ≡ true → m ≡ counted n (cond (not b) 1 0)
+      → counted m (crowded_in time (dropped time more (take (length t - 1) t)))
+      ≡ counted n (crowded_in time (dropped time more t))
+  crowded_step is h o e =
+      let d = dropped time more (take (length t - 1) t) in
+      ap (λ x. counted x (crowded_in time d)) e
+      ∙ counted_more n (not b) k w (λ p. not (is_late time p.1)) d (ap not (sym is))
+      ∙ sym (ap (λ l. counted n (crowded_in time l)) (dropped_one time more t k w h o))
 
 -- A fact that needs no error also holds on one.
 pub on_err : {A E P : Type 0} → (r : Result A E) → P → OnErr r P
@@ -149,30 +229,73 @@ there : (x : Key × Waiting) (t : Table) → slice_get (x ∷ t) (length t) ≡ 
 there x [] h = cc
 there x (y ∷ t) h = there y t h
 
+empty : (t : Table) → last_entry t ≡ None → t ≡ []
+empty [] h = refl
+empty (x ∷ t) h = let e : suc (length t) - 1 ≡ length t = omega arith in
+    absurd (there x t (rw e at h))
+
+pub kept_empty : (time more : ℕ) (t : Table) → last_entry t ≡ None → kept time more t ≡ t
+unfolding left_of
+kept_empty time more t h = subst (λ l. kept time more l ≡ l) (sym (empty t h)) refl
+
+pub dropped_empty : (time more : ℕ) (t : Table) → last_entry t ≡ None → dropped time more t ≡ []
+unfolding dropped_of
+dropped_empty time more t h = subst (λ l. dropped time more l ≡ []) (sym (empty t h)) refl
+
 pub none_left : (t : Table) → last_entry t ≡ None → weight t ≡ 0
 none_left [] h = refl
 none_left (x ∷ t) h = let e : suc (length t) - 1 ≡ length t = omega arith in
     absurd (there x t (rw e at h))
 
+none_before : (n : ℕ) → nat_lt n 0 ≡ false
+none_before n = go (nat_lt n 0) refl
+  where
+    go : (b : Bool) → nat_lt n 0 ≡ b → nat_lt n 0 ≡ false
+    go true e = let low = ltb-true n 0 e in absurd (omega (arith, low))
+    go false e = e
+
+-- No end contradicts an empty datagram.
+begun_agrees : (time : ℕ) (f : Fragment) → is_other_end f (begun time) ≡ false
+begun_agrees time f = go f.has_more
+  where
+    go : (b : Bool) → ((not b && nat_lt (end_of f) 0) || false) ≡ false
+    go true = refl
+    go false = rw (none_before (end_of f)) refl
+
+agrees_at : (time : ℕ) (f : Fragment) (t : Table) (o : Option Waiting) → at (key_of f) t ≡ o
+    → is_other_end f (found_or_begun time o) ≡ false → is_other_end f (its time f t) ≡ false
+agrees_at time f t o is h =
+    subst (λ p. is_other_end f (found_or_begun time p) ≡ false) (sym is) h
+
+pub agrees_missing : (time : ℕ) (k : Key) (f : Fragment) (s : Step) (t u : Table) → k ≡ key_of f
+    → s ≡ step.Missing → AddsAt s k f t u → is_other_end f (its time f t) ≡ false
+agrees_missing time k f s t u is said a =
+    let a' : AddsAt step.Missing k f t u = subst (λ x. AddsAt x k f t u) said a in
+    agrees_at time f t None (subst (λ x. at x t ≡ None) is a'.0) (begun_agrees time f)
+
+pub agrees_found : (time : ℕ) (k : Key) (f : Fragment) (t : Table) (v : Waiting) → k ≡ key_of f
+    → at k t ≡ Some v → is_other_end f v ≡ false → is_other_end f (its time f t) ≡ false
+agrees_found time k f t v is found h =
+    agrees_at time f t (Some v) (subst (λ x. at x t ≡ Some v) is found) h
+
 -- The first fragment of a datagram.
 begins : (time : ℕ) (f : Fragment) (o : Outcome) (t u : Table) → at (key_of f) t ≡ None
     → BeginsAt time (key_of f) f o t u → Becomes time f o t u
 begins time f (outcome.Refused r) t u none b = absurd b
-begins time f outcome.Waits t u none b =
-    let k = key_of f in (
-      b.0,
-      subst (λ p. IsWith f (found_or_begun time p) b.0) (sym none) b.1,
-      b.2,
-      ap (at k) b.3 ∙ at_first k t b.0,
-      ap (others k) b.3 ∙ others_first k t b.0 ∙ sym (missed k t none),
-    )
+begins time f outcome.Waits t u none b = (
+  b.0,
+  agrees_at time f t None none (begun_agrees time f),
+  subst (λ p. IsWith f (found_or_begun time p) b.0) (sym none) b.1,
+  b.2,
+  b.3 ∙ sym (ap (λ p. put_at p (key_of f) b.0 t) none),
+)
 begins time f (outcome.Whole d) t u none b = (
   b.0,
+  agrees_at time f t None none (begun_agrees time f),
   subst (λ p. IsWith f (found_or_begun time p) b.0) (sym none) b.1,
   b.2,
   b.3,
-  b.4
-      ∙ sym (missed (key_of f) t none),
+  b.4 ∙ sym (missed (key_of f) t none),
 )
 
 pub missing_becomes : {E : Type 0} (time : ℕ) (k : Key) (f : Fragment) (s : Step)
@@ -186,14 +309,33 @@ missing_becomes time k f s (Ok o) t v u is said a b =
     begins time f o t u (subst (λ x. at x t ≡ None) is a'.0)
     (subst (λ x. BeginsAt time x f o t u) is b')
 
+-- A fragment of a datagram that waits for more.
+pub waits_becomes : (time : ℕ) (k : Key) (f : Fragment) (s : Step) (t u : Table) → k ≡ key_of f
+    → s ≡ step.Waits → AddsAt s k f t u → Becomes time f outcome.Waits t u
+waits_becomes time k f s t u is said a =
+    let a' : AddsAt step.Waits k f t u = subst (λ x. AddsAt x k f t u) said a in
+    let b : AddsAt step.Waits (key_of f) f t u = subst (λ x. AddsAt step.Waits x f t u) is a' in (
+      b.1,
+      agrees_at time f t (Some b.0) b.2 b.3,
+      subst (λ p. IsWith f (found_or_begun time p) b.1) (sym b.2) b.4,
+      b.5,
+      b.6 ∙ sym (ap (λ p. put_at p (key_of f) b.1 t) b.2),
+    )
+
 -- The fragment that completes a datagram.
 ends : (time : ℕ) (f : Fragment) (o : Outcome) (t u : Table) (v w : Waiting)
-    → at (key_of f) t ≡ Some v → IsWith f v w → is_whole w ≡ true
+    → at (key_of f) t ≡ Some v → is_other_end f v ≡ false → IsWith f v w → is_whole w ≡ true
     → HandsOut f w o → u ≡ others (key_of f) t → Becomes time f o t u
-ends time f (outcome.Refused r) t u v w found is whole h e = absurd h
-ends time f outcome.Waits t u v w found is whole h e = absurd h
-ends time f (outcome.Whole d) t u v w found is whole h e =
-    (w, subst (λ p. IsWith f (found_or_begun time p) w) (sym found) is, whole, h, e)
+ends time f (outcome.Refused r) t u v w found agrees is whole h e = absurd h
+ends time f outcome.Waits t u v w found agrees is whole h e = absurd h
+ends time f (outcome.Whole d) t u v w found agrees is whole h e = (
+  w,
+  agrees_at time f t (Some v) found agrees,
+  subst (λ p. IsWith f (found_or_begun time p) w) (sym found) is,
+  whole,
+  h,
+  e,
+)
 
 pub whole_becomes : (time : ℕ) (k : Key) (f : Fragment) (s : Step) (o : Outcome) (t v u : Table)
     → k ≡ key_of f → s ≡ step.Whole
@@ -205,5 +347,6 @@ whole_becomes time k f s o t v u is said a h e =
     let handed : is_whole a'.1 ≡ true → HandsOut f a'.1 o =
     subst (λ p. IfSome p (λ w. is_whole w ≡ true → HandsOut f w o)) found h in
     let left : u ≡ others k t = e ∙ ap (others k) a'.6 ∙ others_with k t a'.1 in
-    ends time f o t u a'.0 a'.1 (subst (λ x. at x t ≡ Some a'.0) is a'.2) a'.4 a'.5 (handed a'.5)
+    ends time f o t u a'.0 a'.1 (subst (λ x. at x t ≡ Some a'.0) is a'.2) a'.3 a'.4 a'.5
+    (handed a'.5)
     (subst (λ x. u ≡ others x t) is left)

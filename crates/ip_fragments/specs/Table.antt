@@ -1,6 +1,6 @@
 -- The table of datagrams in reassembly, by key. The datagram whose first fragment arrived last
 -- comes first.
-use Rattle.std.specs.Prelude.{◌≡◌, ℕ, ◌+◌, ◌-◌, ◌<◌, ◌⊎◌, true, false, Option, Some, None, List, [], ◌∷◌, ◌++◌}
+use Rattle.std.specs.Prelude.{◌≡◌, ℕ, ◌+◌, ◌-◌, ◌^◌, ◌||◌, not, nat_lt, min, Bool, true, false, if◌then◌else◌, Option, Some, None, List, [], ◌∷◌, filter, length, reverse}
 use Rattle.std.specs.Map.{lookup, remove_entry, set_value}
 use Rattle.capture.specs.declared.fragment.Fragment.{Fragment}
 use Rattle.ip_fragments.specs.Key.{are_keys, key_of}
@@ -26,22 +26,72 @@ others k t = remove_entry (are_keys k) t
 abbrev pub with_other : Key → Waiting → Table → Table
 with_other k w t = set_value (are_keys k) t w
 
+-- A datagram that is in the table keeps its place, a new one comes first.
+abbrev pub put_at : Option Waiting → Key → Waiting → Table → Table
+put_at (Some v) k w t = with_other k w t
+put_at None k w t = (k, w) ∷ t
+
+abbrev pub putting : Key → Waiting → Table → Table
+putting k w t = put_at (at k t) k w t
+
 -- The memory that all count, in bytes.
 abbrev pub weight : Table → ℕ
 weight [] = 0
 weight (e ∷ t) = e.1.weight + weight t
 
--- A datagram whose first fragment arrived at `since` has waited too long, or all exceed their
--- memory with `more` bytes.
-abbrev pub IsOver : ℕ → ℕ → ℕ → ℕ → Type 0
-IsOver time more held since = (WAIT_LIMIT < time - since) ⊎ (HELD_LIMIT < held + more)
+-- The table, and how many datagrams were dropped: late ones, and others for the memory of all.
+pub record Reassembly : Type 0 where
+  pub waiting : Table
+  pub late : ℕ
+  pub crowded : ℕ
 
--- The oldest datagrams were dropped, each because it was over at the time.
-pub data IsForgotten (time more : ℕ) (t : Table) : Table → Type 0 where
-  none : IsForgotten time more t t
-  one : (u v : Table) (k : Key) (w : Waiting) → IsForgotten time more t u → u ≡ v ++ (k, w) ∷ []
-      → IsOver time more (weight u) w.since
-      → IsForgotten time more t v
+-- A datagram has waited too long for fragments after its first (RFC 791, section 3.2; RFC 8200,
+-- section 4.5).
+abbrev pub is_late : ℕ → Waiting → Bool
+is_late time w = nat_lt WAIT_LIMIT (time - w.since)
+
+-- It is late, or all datagrams, which count `held` bytes, exceed their memory with `more` bytes.
+abbrev pub is_over : ℕ → ℕ → ℕ → Waiting → Bool
+is_over time more held w = is_late time w || nat_lt HELD_LIMIT (held + more)
+
+-- What is left of these datagrams, the oldest first, which count `held` bytes: each that is over is
+-- dropped, up to the first that isn't.
+unfoldable pub left_of : ℕ → ℕ → ℕ → Table → Table
+left_of time more held [] = []
+left_of time more held (e ∷ t) =
+    if is_over time more held e.1 then left_of time more (held - e.1.weight) t else e ∷ t
+
+-- The datagrams that are dropped, the oldest first.
+unfoldable pub dropped_of : ℕ → ℕ → ℕ → Table → Table
+dropped_of time more held [] = []
+dropped_of time more held (e ∷ t) =
+    if is_over time more held e.1 then e ∷ dropped_of time more (held - e.1.weight) t else []
+
+-- What is left of a table, and what is dropped. Its last datagram is the oldest.
+abbrev pub kept : ℕ → ℕ → Table → Table
+kept time more t = reverse (left_of time more (weight t) (reverse t))
+
+abbrev pub dropped : ℕ → ℕ → Table → Table
+dropped time more t = dropped_of time more (weight t) (reverse t)
+
+-- How many datagrams are late, and how many were dropped for room alone.
+abbrev pub late_in : ℕ → Table → ℕ
+late_in time t = length (filter (λ e. is_late time e.1) t)
+
+abbrev pub crowded_in : ℕ → Table → ℕ
+crowded_in time t = length (filter (λ e. not (is_late time e.1)) t)
+
+-- A count in 64 bits, which doesn't go past the highest.
+abbrev pub counted : ℕ → ℕ → ℕ
+counted n more = min (n + more) (2 ^ 64 - 1)
+
+-- Datagrams that are over at this time, or leave no room for `more` bytes, are dropped and counted.
+abbrev pub forgetting : ℕ → ℕ → Reassembly → Reassembly
+forgetting time more r = record {
+  waiting = kept time more r.waiting;
+  late = counted r.late (late_in time (dropped time more r.waiting));
+  crowded = counted r.crowded (crowded_in time (dropped time more r.waiting));
+}
 
 -- What a fragment does to a datagram in the table, or without one.
 abbrev pub AddsAt : Step → Key → Fragment → Table → Table → Type 0
@@ -74,6 +124,10 @@ BeginsAt time k f outcome.Waits t u =
 BeginsAt time k f (outcome.Whole d) t u =
     (w : Waiting) × IsWith f (begun time) w × (is_whole w ≡ true) × IsHandedOut f w d × (u ≡ t)
 
+-- The datagram of a fragment: the one in the table, or an empty one.
+abbrev pub its : ℕ → Fragment → Table → Waiting
+its time f t = found_or_begun time (at (key_of f) t)
+
 -- What a fragment does that isn't refused for its length: its end contradicts its datagram's, or
 -- its bytes are added to its datagram, which waits for more or is complete and returned. Other keys
 -- keep their datagrams.
@@ -83,27 +137,34 @@ Becomes time f (outcome.Refused refusal.Uneven) t u = ⊥
 Becomes time f (outcome.Refused refusal.OtherEnd) t u =
     (v : Waiting) × (at (key_of f) t ≡ Some v) × (is_other_end f v ≡ true) × (u ≡ t)
 Becomes time f outcome.Waits t u =
-    (w : Waiting) × IsWith f (found_or_begun time (at (key_of f) t)) w × (is_whole w ≡ false)
-    × (at (key_of f) u ≡ Some w)
-    × (others (key_of f) u ≡ others (key_of f) t)
+    (w : Waiting) × (is_other_end f (its time f t) ≡ false) × IsWith f (its time f t) w
+    × (is_whole w ≡ false) × (u ≡ putting (key_of f) w t)
 Becomes time f (outcome.Whole d) t u =
-    (w : Waiting) × IsWith f (found_or_begun time (at (key_of f) t)) w × (is_whole w ≡ true)
-    × IsHandedOut f w d × (u ≡ others (key_of f) t)
+    (w : Waiting) × (is_other_end f (its time f t) ≡ false) × IsWith f (its time f t) w
+    × (is_whole w ≡ true) × IsHandedOut f w d × (u ≡ others (key_of f) t)
 
 -- A fragment that isn't refused for its length. Datagrams that are over are dropped first.
-pub record Takes (time : ℕ) (f : Fragment) (o : Outcome) (t u : Table) : Type 0 where
+pub record Takes (time : ℕ) (f : Fragment) (o : Outcome) (r s : Reassembly) : Type 0 where
   pub fits : is_too_long f ≡ false
   pub even : is_uneven f ≡ false
-  pub kept : Table
-  pub forgotten : IsForgotten time (weight_of f) t kept
-  pub becomes : Becomes time f o kept u
+  pub becomes : Becomes time f o (forgetting time (weight_of f) r).waiting s.waiting
+  pub late : s.late ≡ (forgetting time (weight_of f) r).late
+  pub crowded : s.crowded ≡ (forgetting time (weight_of f) r).crowded
 
--- What a fragment does to the table.
-abbrev pub Adds : ℕ → Fragment → Outcome → Table → Table → Type 0
-Adds time f (outcome.Refused refusal.TooLong) t u = (is_too_long f ≡ true) × (u ≡ t)
-Adds time f (outcome.Refused refusal.Uneven) t u =
-    (is_too_long f ≡ false) × (is_uneven f ≡ true) × (u ≡ t)
-Adds time f (outcome.Refused refusal.OtherEnd) t u =
-    Takes time f (outcome.Refused refusal.OtherEnd) t u
-Adds time f outcome.Waits t u = Takes time f outcome.Waits t u
-Adds time f (outcome.Whole d) t u = Takes time f (outcome.Whole d) t u
+-- What a fragment does to the table and the counts.
+abbrev pub Adds : ℕ → Fragment → Outcome → Reassembly → Reassembly → Type 0
+Adds time f (outcome.Refused refusal.TooLong) r s = (is_too_long f ≡ true) × (s ≡ r)
+Adds time f (outcome.Refused refusal.Uneven) r s =
+    (is_too_long f ≡ false) × (is_uneven f ≡ true) × (s ≡ r)
+Adds time f (outcome.Refused refusal.OtherEnd) r s =
+    Takes time f (outcome.Refused refusal.OtherEnd) r s
+Adds time f outcome.Waits r s = Takes time f outcome.Waits r s
+Adds time f (outcome.Whole d) r s = Takes time f (outcome.Whole d) r s
+
+-- There was no memory for the bytes of a fragment that would be added. Datagrams that are over were
+-- dropped before.
+pub record LeavesOut (time : ℕ) (f : Fragment) (r s : Reassembly) : Type 0 where
+  pub fits : is_too_long f ≡ false
+  pub even : is_uneven f ≡ false
+  pub agrees : is_other_end f (its time f (forgetting time (weight_of f) r).waiting) ≡ false
+  pub forgets : s ≡ forgetting time (weight_of f) r

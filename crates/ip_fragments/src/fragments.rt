@@ -1,8 +1,8 @@
 //! Datagrams in reassembly.
-ghost use Rattle.std.specs.Prelude.{◌≡◌, ◌≤◌, ◌<◌, ◌+◌, ◌^◌, ◌-◌, ◌==◌, [], ◌∷◌, length, nat_lt, IfOk, OnErr, OnOk, IfSome, true, false, None};
-ghost use Rattle.ip_fragments.specs.Waiting.{IsHandedOut, is_whole as is_whole_datagram, weight_of as weight_of_fragment};
+ghost use Rattle.std.specs.Prelude.{◌≡◌, ◌≤◌, ◌<◌, ◌+◌, ◌-◌, ◌^◌, ◌==◌, if◌then◌else◌, [], ◌∷◌, length, IfOk, OnErr, OnOk, IfSome, true, false, Some, None};
+ghost use Rattle.ip_fragments.specs.Waiting.{is_other_end, is_whole as is_whole_datagram, weight_of as weight_of_fragment, Waiting};
 ghost use Rattle.ip_fragments.specs.Key.{key_of};
-ghost use Rattle.ip_fragments.specs.Table.{Adds, AddsAt, Becomes, BeginsAt, HandsOut, IsForgotten, IsOver, at, others, weight};
+ghost use Rattle.ip_fragments.specs.Table.{at, counted, crowded_in, dropped, forgetting, is_late as is_late_datagram, is_over as is_over_datagram, its, kept, late_in, others, weight, Adds, AddsAt, Becomes, BeginsAt, HandsOut, LeavesOut};
 
 use crate::key::Key;
 use crate::waiting::{Waiting, Whole, weight_of};
@@ -75,11 +75,15 @@ pub struct Fragments {
 
 impl Model for Fragments {
     ghost use Rattle.std.specs.Prelude.{◌≡◌, ◌≤◌, ◌-◌, ◌^◌};
-    ghost use Rattle.ip_fragments.specs.Table.{Table, weight};
+    ghost use Rattle.ip_fragments.specs.Table.{weight, Reassembly};
 
-    ghost Value = { Table };
+    ghost Value = { Reassembly };
 
-    ghost view = { λ f. f.waiting.entries };
+    ghost view = { λ f. record {
+      waiting = f.waiting.entries;
+      late = f.late;
+      crowded = f.crowded;
+    } };
 
     ghost invariant = { λ f. (f.waiting.cap ≡ 2 ^ 64 - 1) × (f.held ≡ weight f.waiting.entries)
         × (f.held ≤ 33554432) };
@@ -94,8 +98,11 @@ fn add_at(
 ) -> Result<Step, AllocError>
     requires short { length fragment.now.payload.now < 2 ^ 16 }
     requires light { weight table.old.entries ≤ 33554432 }
-    ensures adds { IfOk result (λ step. AddsAt step key.now fragment.now table.old.entries table.new.entries) }
+    ensures adds { IfOk result
+        (λ step. AddsAt step key.now fragment.now table.old.entries table.new.entries) }
     ensures err { OnErr result (table.new ≡ table.old) }
+    ensures agrees { OnErr result ((v : Waiting) × (at key.now table.old.entries ≡ Some v)
+        × (is_other_end fragment.now v ≡ false)) }
     ensures cap { table.new.cap ≡ table.old.cap }
 {
     let Some(waiting) = table.peek_mut(key) else {
@@ -112,7 +119,7 @@ fn add_at(
     }
 }
 
-/// The memory of the datagrams that are left, and how many were dropped for which reason.
+/// The memory of the datagrams in the table, and how many were dropped for which reason.
 #[derive(Clone, Copy)]
 struct Left {
     held: usize,
@@ -120,49 +127,62 @@ struct Left {
     crowded: u64,
 }
 
-/// Returns whether a datagram whose first fragment arrived at `since` has waited too long.
-fn is_late(time: u64, since: u64) -> bool
-    ensures { result ≡ nat_lt WAIT_LIMIT (time - since) }
+/// Returns whether a datagram has waited too long.
+fn is_late(time: u64, waiting: &Waiting) -> bool
+    ensures { result ≡ is_late_datagram time waiting.now }
 {
-    time.saturating_sub(since) > WAIT_LIMIT
+    time.saturating_sub(waiting.since()) > WAIT_LIMIT
 }
 
 /// Returns whether a datagram has waited too long, or all exceed their memory with `more` bytes.
-fn is_over(time: u64, more: usize, held: usize, since: u64) -> bool
+fn is_over(time: u64, more: usize, held: usize, waiting: &Waiting) -> bool
     requires { more + held < 2 ^ 63 }
-    ensures over { result ≡ true → IsOver time more held since }
+    ensures is { result ≡ is_over_datagram time more held waiting.now }
     ensures room { result ≡ false → held + more ≤ 33554432 }
 {
-    is_late(time, since) || held + more > HELD_LIMIT
+    is_late(time, waiting) || held + more > HELD_LIMIT
+}
+
+/// Returns the count, or one more if the datagram is counted.
+fn count_if(is_counted: bool, count: u64) -> u64
+    ensures { result ≡ counted count (if is_counted then 1 else 0) }
+{
+    if is_counted {
+        count.saturating_add(1)
+    } else {
+        count
+    }
 }
 
 /// Drops the oldest datagrams that have waited too long, and further ones until there is room for
 /// `more` bytes.
-#[tactic(auto, using(crate::proofs::TableLemmas::last_forgotten, crate::proofs::TableLemmas::weight_front))]
+#[tactic(auto, using(crate::proofs::TableLemmas::weight_front))]
 fn forget_over(
     waiting: &mut LruCache<Key, Waiting, RandomState>,
-    held: usize,
+    before: Left,
     time: u64,
     more: usize,
 ) -> Left
     requires few { more ≤ 200000 }
-    requires held { held ≡ weight waiting.old.entries }
-    requires within { held ≤ 33554432 }
-    ensures forgotten { IsForgotten time more waiting.old.entries waiting.new.entries }
+    requires held { before.held ≡ weight waiting.old.entries }
+    requires within { before.held ≤ 33554432 }
+    ensures kept { waiting.new.entries ≡ kept time more waiting.old.entries }
+    ensures late { result.late
+        ≡ counted before.late (late_in time (dropped time more waiting.old.entries)) }
+    ensures crowded { result.crowded
+        ≡ counted before.crowded (crowded_in time (dropped time more waiting.old.entries)) }
     ensures held { result.held ≡ weight waiting.new.entries }
     ensures room { result.held + more ≤ 33554432 }
     ensures cap { waiting.new.cap ≡ waiting.old.cap }
 {
-    let (mut sum, mut late, mut crowded) = (held, 0_u64, 0_u64);
+    let (mut sum, mut late, mut crowded) = (before.held, before.late, before.crowded);
     while let Some((_, oldest)) = waiting.peek_lru() {
-        if !is_over(time, more, sum, oldest.since()) {
+        if !is_over(time, more, sum, oldest) {
             break;
         }
-        if is_late(time, oldest.since()) {
-            late = late.saturating_add(1);
-        } else {
-            crowded = crowded.saturating_add(1);
-        }
+        let too_late = is_late(time, oldest);
+        late = count_if(too_late, late);
+        crowded = count_if(!too_late, crowded);
         sum -= oldest.weight();
         waiting.pop_lru();
     }
@@ -204,7 +224,7 @@ impl Fragments {
     /// Returns an empty table. `keys` keys its hashes, so that nobody without the keys can choose
     /// datagrams whose hashes collide.
     pub fn new(alloc: Global, keys: RandomState) -> Result<Fragments, AllocError>
-        ensures { IfOk result (λ f. f ≡ []) }
+        ensures { IfOk result (λ f. f ≡ record { waiting = []; late = 0; crowded = 0 }) }
     {
         Ok(Fragments {
             alloc,
@@ -218,7 +238,7 @@ impl Fragments {
     /// Returns the memory of the datagrams in reassembly, in bytes: for each fragment twice its
     /// bytes and [`FRAGMENT_COST`]. At most [`HELD_LIMIT`].
     pub fn held(&self) -> usize
-        ensures is { result ≡ weight self.now }
+        ensures is { result ≡ weight self.now.waiting }
         ensures within { result ≤ 33554432 }
     {
         self.held
@@ -226,26 +246,30 @@ impl Fragments {
 
     /// Returns the number of datagrams in reassembly.
     pub fn len(&self) -> usize
-        ensures { result ≡ length self.now }
+        ensures { result ≡ length self.now.waiting }
     {
         self.waiting.len()
     }
 
     /// Returns whether no datagram is in reassembly.
     pub fn is_empty(&self) -> bool
-        ensures { result ≡ (length self.now == 0) }
+        ensures { result ≡ (length self.now.waiting == 0) }
     {
         self.waiting.is_empty()
     }
 
     /// Returns how many datagrams were dropped because a fragment was missing for longer than
     /// [`WAIT_LIMIT`].
-    pub fn late(&self) -> u64 {
+    pub fn late(&self) -> u64
+        ensures { result ≡ self.now.late }
+    {
         self.late
     }
 
     /// Returns how many datagrams were dropped because all exceeded [`HELD_LIMIT`].
-    pub fn crowded(&self) -> u64 {
+    pub fn crowded(&self) -> u64
+        ensures { result ≡ self.now.crowded }
+    {
         self.crowded
     }
 
@@ -253,21 +277,29 @@ impl Fragments {
     /// for `more` bytes.
     fn forget(&mut self, time: u64, more: usize)
         requires { more ≤ 200000 }
-        ensures forgotten { IsForgotten time more self.old self.new }
-        ensures room { weight self.new + more ≤ 33554432 }
+        ensures forgets { self.new ≡ forgetting time more self.old }
+        ensures room { weight self.new.waiting + more ≤ 33554432 }
     {
-        let left = forget_over(&mut self.waiting, self.held, time, more);
+        let before = Left {
+            held: self.held,
+            late: self.late,
+            crowded: self.crowded,
+        };
+        let left = forget_over(&mut self.waiting, before, time, more);
         self.held = left.held;
-        self.late = self.late.saturating_add(left.late);
-        self.crowded = self.crowded.saturating_add(left.crowded);
+        self.late = left.late;
+        self.crowded = left.crowded;
     }
 
     /// Adds the first fragment of a datagram.
     fn begin(&mut self, time: u64, key: Key, fragment: &Fragment<'_>) -> Result<Outcome, AllocError>
         requires short { length fragment.now.payload.now < 2 ^ 16 }
-        requires missing { at key self.old ≡ None }
-        requires room { weight self.old + weight_of_fragment fragment.now ≤ 33554432 }
-        ensures begins { IfOk result (λ o. BeginsAt time key fragment.now o self.old self.new) }
+        requires missing { at key self.old.waiting ≡ None }
+        requires room { weight self.old.waiting + weight_of_fragment fragment.now ≤ 33554432 }
+        ensures begins { IfOk result
+            (λ o. BeginsAt time key fragment.now o self.old.waiting self.new.waiting) }
+        ensures late { self.new.late ≡ self.old.late }
+        ensures crowded { self.new.crowded ≡ self.old.crowded }
         ensures err { OnErr result (self.new ≡ self.old) }
     {
         let mut waiting = Waiting::new(self.alloc, time);
@@ -284,9 +316,9 @@ impl Fragments {
     /// Removes a complete datagram and returns it.
     #[tactic(auto, using(crate::proofs::TableLemmas::missed, crate::proofs::TableLemmas::weight_others, crate::proofs::TableLemmas::weight_at))]
     fn take(&mut self, key: &Key, fragment: &Fragment<'_>) -> Outcome
-        ensures handed_out { IfSome (at key.now self.old)
+        ensures handed_out { IfSome (at key.now self.old.waiting)
             (λ w. is_whole_datagram w ≡ true → HandsOut fragment.now w result) }
-        ensures left { self.new ≡ others key.now self.old }
+        ensures left { self.new ≡ record self.old { waiting = others key.now self.old.waiting } }
     {
         match self.waiting.pop(key) {
             Some(waiting) => {
@@ -301,9 +333,14 @@ impl Fragments {
     #[tactic(auto, using(crate::proofs::TableLemmas::at_with, crate::proofs::TableLemmas::others_with, crate::proofs::TableLemmas::weight_with))]
     fn put(&mut self, time: u64, fragment: &Fragment<'_>) -> Result<Outcome, AllocError>
         requires short { length fragment.now.payload.now < 2 ^ 16 }
-        requires room { weight self.old + weight_of_fragment fragment.now ≤ 33554432 }
-        ensures becomes { IfOk result (λ o. Becomes time fragment.now o self.old self.new) }
+        requires room { weight self.old.waiting + weight_of_fragment fragment.now ≤ 33554432 }
+        ensures becomes { IfOk result
+            (λ o. Becomes time fragment.now o self.old.waiting self.new.waiting) }
+        ensures late { self.new.late ≡ self.old.late }
+        ensures crowded { self.new.crowded ≡ self.old.crowded }
         ensures err { OnErr result (self.new ≡ self.old) }
+        ensures agrees { OnErr result
+            (is_other_end fragment.now (its time fragment.now self.old.waiting) ≡ false) }
     {
         let key = Key::of(fragment);
         match add_at(&mut self.waiting, &key, fragment)? {
@@ -328,8 +365,7 @@ impl Fragments {
     /// dropped before stay dropped.
     pub fn add(&mut self, time: u64, fragment: &Fragment<'_>) -> Result<Outcome, AllocError>
         ensures adds { IfOk result (λ o. Adds time fragment.now o self.old self.new) }
-        ensures err { OnErr result
-            (IsForgotten time (weight_of_fragment fragment.now) self.old self.new) }
+        ensures err { OnErr result (LeavesOut time fragment.now self.old self.new) }
     {
         let end = fragment.offset as usize + fragment.payload.len();
         if fragment.in_front > MAX_DATAGRAM || end > MAX_DATAGRAM - fragment.in_front {

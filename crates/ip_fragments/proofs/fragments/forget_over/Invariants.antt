@@ -1,12 +1,19 @@
-use Rattle.std.proofs.Common.{◌≡◌, ◌≤◌, length}
-use Rattle.ip_fragments.specs.Table.{IsForgotten, weight}
+use Rattle.std.proofs.Common.{◌≡◌, ◌<◌, ◌≤◌, ◌^◌, length}
+use Rattle.ip_fragments.specs.Table.{counted, crowded_in, dropped, kept, late_in, weight}
 use Rattle.ip_fragments.proofs.fragments.forget_over.Given as goal
 
 abbrev pub invariant-loop-oldest : goal.invariant-loop-oldest
 invariant-loop-oldest l =
-    IsForgotten l.fn.time l.fn.more l.initial.waiting.entries l.waiting.entries
+    (kept l.fn.time l.fn.more l.waiting.entries
+    ≡ kept l.fn.time l.fn.more l.initial.waiting.entries)
+    × (counted l.late (late_in l.fn.time (dropped l.fn.time l.fn.more l.waiting.entries))
+    ≡ counted l.fn.before.late
+    (late_in l.fn.time (dropped l.fn.time l.fn.more l.initial.waiting.entries)))
+    × (counted l.crowded (crowded_in l.fn.time (dropped l.fn.time l.fn.more l.waiting.entries))
+    ≡ counted l.fn.before.crowded
+    (crowded_in l.fn.time (dropped l.fn.time l.fn.more l.initial.waiting.entries)))
     × (l.sum ≡ weight l.waiting.entries) × (l.sum ≤ 33554432)
-    × (l.waiting.cap ≡ l.initial.waiting.cap)
+    × (l.waiting.cap ≡ l.initial.waiting.cap) × (l.late < 2 ^ 64) × (l.crowded < 2 ^ 64)
 
 abbrev pub decreases-loop-oldest : goal.decreases-loop-oldest
 decreases-loop-oldest l = length l.waiting.entries
