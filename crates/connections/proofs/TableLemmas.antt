@@ -8,8 +8,8 @@ use Rattle.connections.specs.FiveTuple.{is_five_tuple}
 use Rattle.connections.specs.Lends.{with_first}
 use Rattle.connections.specs.Datagram.{five_tuple_of_datagram}
 use Rattle.connections.specs.Segment.{five_tuple_of}
-use Rattle.connections.specs.Connection.{Begins, ChangesCountsAlone, IsAfter, IsAnew, LeavesOut, Shows}
-use Rattle.connections.specs.Table.{at, others, with_other, BeginsAfter, ChangesCountsAt, IsAnewAt, LeavesOutAt, Replaces, Table, WasLast, IsOver, IsForgotten, IsPut}
+use Rattle.connections.specs.Connection.{another_of, opening_of, Begins, ChangesCountsAlone, IsAfter, IsAnew, IsBare, LeavesOut, Shows}
+use Rattle.connections.specs.Table.{another_in, at, others, with_other, BeginsAfter, ChangesCountsAt, IsAnewAt, LeavesOutAt, Replaced, Replaces, Table, WasLast, IsOver, IsForgotten, IsPut}
 use Rattle.connections.specs.Table.IsForgotten.{one}
 use Rattle.connections.specs.declared.datagram.Datagram.{Datagram}
 use Rattle.connections.specs.declared.five_tuple.FiveTuple.{FiveTuple}
@@ -229,9 +229,17 @@ module _ {T : Type 0} where
       → BeginsAfter d (at (five_tuple_of_datagram d) old.live) old new
   none_after d old new h same = subst (λ o. BeginsAfter d o old new) h same
 
+  -- None is replaced, since none is there or its pending SYNs aren't shown.
+  pub not_replaced : (s : Segment) (old new : Table T) (o : Option (Connection T))
+      → o ≡ at (five_tuple_of s) old.live → another_in s o ≡ None → new ≡ old
+      → Replaced s old new None
+  not_replaced s old new o found h same =
+      (same, subst (λ x. another_in s x ≡ None) found h)
+
   -- Another comes first, in place of the existing one.
-  pub replaced_by : (s : Segment) (old : Table T) (b : Beginning) (its was over : Connection T)
-      (n : ℕ) → Shows s b → Begins b its
+  pub replaced_by : (s : Segment) (old : Table T) (b : Beginning) (its seen was over : Connection T)
+      (n : ℕ) → Shows s b → Some (opening_of b) ≡ another_of s seen → IsBare b → Begins b its
+      → Some seen ≡ at (five_tuple_of s) old.live
       → Some was ≡ at (five_tuple_of s) old.live → over ≡ record was { waiting = over.waiting }
       → n ≡ old.held - over.weight
       → Replaces s old
@@ -240,10 +248,12 @@ module _ {T : Type 0} where
             (promoted (is_five_tuple (five_tuple_of s)) old.live) its;
         held = n;
       }) over
-  replaced_by s old b its was over n shows begins h same less = record {
+  replaced_by s old b its seen was over n shows waited bare begins found h same less = record {
     beginning = b;
     its = its;
     shows = shows;
+    waited = subst (λ o. another_in s o ≡ Some (opening_of b)) found (sym waited);
+    bare = bare;
     begins = begins;
     was = subst (λ o. IfSome o (λ c. over ≡ record c { waiting = over.waiting })) h same;
     stands = ap (λ l. record old { live = l; held = n })

@@ -1,17 +1,23 @@
 -- The state of a connection.
-use Rattle.std.specs.Prelude.{◌≡◌, ◌⊎◌, ℕ, ◌+◌, ◌==◌, Bool, true, false, ◌&&◌, ◌||◌, not, is_some, Option, Some, None, if◌then◌else◌, [], length, ⊤}
+use Rattle.std.specs.Prelude.{◌≡◌, ◌⊎◌, ℕ, ◌+◌, ◌==◌, Bool, true, false, ◌&&◌, ◌||◌, not, nat_lt, is_some, IfSome, Option, Some, None, if◌then◌else◌, [], length, ⊤}
+use Rattle.std.specs.Option.{option_map}
 use Rattle.connections.specs.FiveTuple.{is_end}
-use Rattle.connections.specs.Segment.{acknowledges, answers, begins, begins_stream, bytes_alone, first_of, has_data, IsWithoutData}
-use Rattle.connections.specs.Hosts.{damaged_before, has_fin_of, host_after, later, silent_host, with_checksum, with_taken}
-use Rattle.connections.specs.Receiver.{is_damaged, judge}
+use Rattle.connections.specs.Segment.{acknowledges, answers, begins, begins_stream, bytes_alone, first_in, first_of, has_data, header_of, IsWithoutData}
+use Rattle.connections.specs.Numbers.{ahead_of}
+use Rattle.connections.specs.Waiting.{are_some, syn_in, with_pending}
+use Rattle.connections.specs.Hosts.{damaged_before, has_fin_of, host_after, is_wrong, later, may_be_damaged, silent_host, with_checksum, with_taken}
+use Rattle.connections.specs.Receiver.{is_damaged, is_known, judge}
 use Rattle.connections.specs.Dropped.{none_dropped, with_damaged, with_dropped}
 use Rattle.connections.specs.Stream.{begun_at, forgetting, front_of, held_in, silent_stream, noted, HasTaken, is_over}
-use Rattle.connections.specs.Traffic.{nothing_sent, with_packet}
+use Rattle.connections.specs.Traffic.{nothing_sent, plus, with_packet}
 use Rattle.connections.specs.declared.datagram.Datagram.{Datagram}
 use Rattle.connections.specs.declared.five_tuple.Protocol.{Protocol}
 use Rattle.connections.specs.declared.five_tuple.Protocol.TheVariants.{Tcp, Udp}
 use Rattle.connections.specs.declared.five_tuple.End.{End}
 use Rattle.connections.specs.declared.segment.Segment.{Segment}
+use Rattle.connections.specs.declared.segment.Checksum.{Checksum}
+use Rattle.connections.specs.declared.segment.Header.{Header}
+use Rattle.connections.specs.declared.dropped.Dropped.{Dropped}
 use Rattle.connections.specs.declared.host.Host.{Host}
 use Rattle.connections.specs.declared.receiver.Judgement.{Judgement}
 use Rattle.connections.specs.declared.receiver.Judgement.TheVariants as judgement
@@ -22,6 +28,8 @@ use Rattle.connections.specs.declared.waiting.Waiting.{Waiting}
 use Rattle.connections.specs.declared.traffic.Traffic.{Traffic}
 use Rattle.connections.specs.declared.connection.Beginning.{Beginning}
 use Rattle.connections.specs.declared.connection.Connection.{Connection}
+use Rattle.connections.specs.declared.connection.Verdict.{Verdict}
+use Rattle.connections.specs.declared.connection.TheConstants.{FAR}
 use Rattle.connections.specs.declared.connection.Side.{Side}
 use Rattle.connections.specs.declared.connection.Side.TheVariants.{Originator, Responder}
 
@@ -82,15 +90,15 @@ IsKept (judgement.Dropped r) = ⊥
 abbrev pub goes_on : Segment → Bool
 goes_on s = acknowledges s && not (begins s)
 
-abbrev pub goes_on_behind : Segment → Segment → Bool
+abbrev pub goes_on_behind : Segment → Header → Bool
 goes_on_behind s asking =
-    is_end s.source asking.source && (goes_on s && s.sequence == first_of asking)
+    is_end s.source asking.source && (goes_on s && s.sequence == first_in asking)
 
-abbrev pub confirms : Segment → Segment → Bool
+abbrev pub confirms : Segment → Header → Bool
 confirms s answering =
     is_end s.source answering.destination
     && (goes_on s
-    && (s.sequence == answering.acknowledgment && s.acknowledgment == first_of answering))
+    && (s.sequence == answering.acknowledgment && s.acknowledgment == first_in answering))
 
 abbrev pub last_of : Segment → Option Segment → Segment
 last_of first None = first
@@ -98,7 +106,63 @@ last_of first (Some answer) = answer
 
 -- It shows that a connection began with these segments.
 abbrev pub Shows : Segment → Beginning → Type 0
-Shows s b = (confirms s (last_of b.first b.answer) ≡ true) ⊎ (goes_on_behind s b.first ≡ true)
+Shows s b =
+    (confirms s (header_of (last_of b.first b.answer)) ≡ true)
+    ⊎ (goes_on_behind s (header_of b.first) ≡ true)
+
+-- The headers of the segments with which a connection began, which have no data.
+abbrev pub opening_of : Beginning → Header × Option Header
+opening_of b = (header_of b.first, option_map header_of b.answer)
+
+abbrev pub IsBare : Beginning → Type 0
+IsBare b = (b.first.payload.now ≡ []) × IfSome b.answer (λ s. s.payload.now ≡ [])
+
+-- A SYN-ACK and the SYN that it answers (RFC 9293, section 3.5), or the SYN-ACK alone.
+abbrev pub answers_this : Header → Header → Bool
+answers_this answering asking =
+    is_end answering.source asking.destination && answering.acknowledgment == first_in asking
+
+abbrev pub opening_by : Header → Option Header → Header × Option Header
+opening_by answering None = (answering, None)
+opening_by answering (Some asking) =
+    if answers_this answering asking then (asking, Some answering) else (answering, None)
+
+-- The opening that a segment shows: its sender accepts the pending SYN-ACK, or, if it is alone,
+-- continues behind the pending SYN.
+abbrev pub asked : Bool → Segment → Option Header → Option (Header × Option Header)
+asked alone s None = None
+asked alone s (Some asking) =
+    if alone && goes_on_behind s asking then Some (asking, None) else None
+
+abbrev pub shown : Bool → Segment → Option Header → Option Header
+    → Option (Header × Option Header)
+shown alone s None asking = asked alone s asking
+shown alone s (Some answering) asking =
+    if confirms s answering then Some (opening_by answering asking) else asked alone s asking
+
+-- A number is far from a known one.
+abbrev pub is_far : Option ℕ → ℕ → Bool
+is_far None n = false
+is_far (Some m) n = nat_lt FAR (ahead_of n m) && nat_lt FAR (ahead_of m n)
+
+-- An acknowledgement counts for pending segments if its receiver takes the segment, or if it isn't
+-- old and acknowledges what the receiver isn't known to have sent.
+abbrev pub is_news : Judgement → Host → Host → Segment → Bool
+is_news judgement.Taken x y s = true
+is_news judgement.Again x y s = not (begins s) && not (is_known x y s)
+is_news (judgement.Waiting r) x y s = false
+is_news (judgement.Dropped r) x y s = false
+
+-- The receiver takes the segment or already has it, and nothing has to be done first.
+abbrev pub is_kept : Judgement → Bool
+is_kept judgement.Taken = true
+is_kept judgement.Again = true
+is_kept (judgement.Waiting r) = false
+is_kept (judgement.Dropped r) = false
+
+abbrev pub lets_in : Verdict → Bool
+lets_in v =
+    is_kept v.judgement && (not v.begins_another && (not v.tells && not v.shows_damage))
 
 module _ {T : Type 0} where
   -- A new connection.
@@ -162,6 +226,49 @@ module _ {T : Type 0} where
 
   abbrev pub judgement_of : Segment → Connection T → Judgement
   judgement_of s c = judgement_from (side_of c s.source) s c
+
+  -- Its numbers are far from this connection's, so that it may be another's.
+  abbrev pub is_apart : Segment → Connection T → Bool
+  is_apart s c =
+      is_far (hosts_of s c).0.next s.sequence || is_far (hosts_of s c).1.next s.acknowledgment
+
+  -- Nothing of its receiver was captured.
+  abbrev pub is_alone : Segment → Connection T → Bool
+  is_alone s c = not (is_some (hosts_of s c).1.next) && is_some (hosts_of s c).0.next
+
+  -- The opening of another connection between the same ends that a segment shows.
+  abbrev pub another_of : Segment → Connection T → Option (Header × Option Header)
+  another_of s c = if is_apart s c then
+      shown (is_alone s c) s (syn_in true c.waiting.kept.items) (syn_in false c.waiting.kept.items)
+      else None
+
+  abbrev pub is_heeded : Judgement → Segment → Connection T → Bool
+  is_heeded j s c = acknowledges s && is_news j (hosts_of s c).0 (hosts_of s c).1 s
+
+  -- A side's packet shows that everything before it was damaged: all of it came from this side, and
+  -- none had a correct checksum.
+  abbrev pub shows_damage : Side → Checksum → Connection T → Bool
+  shows_damage Originator k c =
+      may_be_damaged c.originator_host && (not (is_wrong k) && c.responder_sent.packets == 0)
+  shows_damage Responder k c =
+      may_be_damaged c.responder_host && (not (is_wrong k) && c.originator_sent.packets == 0)
+
+  -- What a segment means for the connection.
+  abbrev pub verdict_from : Side → Segment → Connection T → Verdict
+  verdict_from side s c = record {
+    judgement = judgement_from side s c;
+    begins_another = are_some c.waiting.kept.items && is_some (another_of s c);
+    tells = are_some c.waiting.kept.items && is_heeded (judgement_from side s c) s c;
+    shows_damage = shows_damage side s.checksum c;
+  }
+
+  abbrev pub verdict_of : Segment → Connection T → Verdict
+  verdict_of s c = verdict_from (side_of c s.source) s c
+
+  -- What a side sent over TCP and the other side dropped, pending segments included.
+  abbrev pub dropped_by : Side → Connection T → Dropped
+  dropped_by Originator c = with_pending c.originator c.waiting.kept.items c.originator_dropped
+  dropped_by Responder c = with_pending c.responder c.waiting.kept.items c.responder_dropped
 
   -- A dropped or pending packet changes only the counts and the pending segments.
   abbrev pub ChangesCountsAlone : Connection T → Connection T → Type 0
@@ -310,15 +417,18 @@ module _ {T : Type 0} where
   abbrev pub held_by : Connection T → ℕ
   held_by c = held_in c.from_originator.reading + held_in c.from_responder.reading
 
+  -- How many packets of a side nobody took, if all of them were damaged.
+  abbrev pub damaged_of : Side → Connection T → ℕ
+  damaged_of Originator c = plus c.originator_host.unchecked (dropped_by Originator c).packets
+  damaged_of Responder c = plus c.responder_host.unchecked (dropped_by Responder c).packets
+
   -- The connection restarts. Damaged packets from before are counted, and the accounted memory
   -- stays.
   pub record IsAnew (time : ℕ) (old new : Connection T) : Type 0 where
-    pub originator_damaged : ℕ
-    pub responder_damaged : ℕ
     pub is_silent : new
         ≡ record (silent old.protocol old.originator old.responder time new.waiting new.listener) {
-          originator_dropped = with_damaged originator_damaged none_dropped;
-          responder_dropped = with_damaged responder_damaged none_dropped;
+          originator_dropped = with_damaged (damaged_of Originator old) none_dropped;
+          responder_dropped = with_damaged (damaged_of Responder old) none_dropped;
           weight = old.weight;
         }
     pub waits : NoneWaits new
@@ -334,10 +444,14 @@ module _ {T : Type 0} where
 
   -- A datagram is counted. If it shows that everything before it was damaged, the exchange restarts
   -- first.
+  abbrev pub TakesBehind : Bool → Datagram → Connection T → Connection T → Type 0
+  TakesBehind true d old new =
+      (anew : Connection T) × IsAnew d.time old anew × (new ≡ with_datagram d anew)
+  TakesBehind false d old new = new ≡ with_datagram d old
+
   abbrev pub TakesDatagramIn : Datagram → Connection T → Connection T → Type 0
   TakesDatagramIn d old new =
-      (new ≡ with_datagram d old)
-      ⊎ ((anew : Connection T) × IsAnew d.time old anew × (new ≡ with_datagram d anew))
+      TakesBehind (shows_damage (side_of old d.source) d.checksum old) d old new
 
   -- One side sent RST; or both sent all their data and FIN, and each acknowledged the other's FIN.
   abbrev pub is_closed : Connection T → Bool

@@ -1,6 +1,6 @@
 -- The TCP state of one end of a connection, by what it sent and the other end took (RFC 9293,
 -- section 3.3.1; RFC 7323).
-use Rattle.std.specs.Prelude.{ℕ, ◌+◌, ◌*◌, ◌%◌, ◌^◌, Bool, false, ◌&&◌, ◌||◌, not, nat_lt, is_some, if◌then◌else◌, Option, Some, None, max, min}
+use Rattle.std.specs.Prelude.{ℕ, ◌+◌, ◌*◌, ◌%◌, ◌^◌, Bool, true, false, ◌&&◌, ◌||◌, not, nat_lt, is_some, if◌then◌else◌, Option, Some, None, max, min}
 use Rattle.connections.specs.Segment.{acknowledges, begins, behind_of, end_with_fin, ends, first_of}
 use Rattle.connections.specs.Numbers.{advance, is_behind}
 use Rattle.connections.specs.Traffic.{plus_up_to}
@@ -108,6 +108,20 @@ damaged_by Refused n = n
 
 abbrev pub damaged_before : Checksum → Host → ℕ
 damaged_before c x = damaged_by (checksums_behind x c) x.unchecked
+
+-- A first correct checksum shows that all the packets of an end were damaged, while they are few.
+abbrev pub is_wrong : Checksum → Bool
+is_wrong Wrong = true
+is_wrong Right = false
+is_wrong Partial = false
+is_wrong Refused = false
+
+abbrev pub is_known_wrong : Option Checksum → Bool
+is_known_wrong None = false
+is_known_wrong (Some c) = is_wrong c
+
+abbrev pub may_be_damaged : Host → Bool
+may_be_damaged x = is_known_wrong x.checksums && nat_lt x.unchecked FIRST_PACKETS
 
 -- Its window before a segment. Its SYN is the first that gives the window's scale (RFC 7323,
 -- section 2.2).

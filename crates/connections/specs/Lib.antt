@@ -6,6 +6,7 @@ pub mod Hosts
 pub mod Receiver
 pub mod Datagram
 pub mod Stream
+pub mod Waiting
 pub mod Connection
 pub mod Table
 pub mod Memory

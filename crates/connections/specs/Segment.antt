@@ -66,6 +66,19 @@ header_of s = record {
   checksum = s.checksum;
 }
 
+-- A SYN, a SYN-ACK, and the number of the first data byte, by the header alone.
+abbrev pub has_flag_in : ℕ → Header → Bool
+has_flag_in weight h = (h.flags / weight) % 2 == 1
+
+abbrev pub begins_in : Header → Bool
+begins_in = has_flag_in 2
+
+abbrev pub answers_in : Header → Bool
+answers_in h = begins_in h && has_flag_in 16 h
+
+abbrev pub first_in : Header → ℕ
+first_in h = if begins_in h then (h.sequence + 1) % 2 ^ 32 else h.sequence
+
 -- A segment with the same header and no data.
 abbrev pub IsWithoutData : Segment → Segment → Type 0
 IsWithoutData s bare = (header_of bare ≡ header_of s) × (bare.payload.now ≡ [])

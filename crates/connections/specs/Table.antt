@@ -6,9 +6,10 @@ use Rattle.lru.specs.LruCache.{last_entry, promoted}
 use Rattle.connections.specs.FiveTuple.{is_five_tuple}
 use Rattle.connections.specs.Datagram.{five_tuple_of_datagram}
 use Rattle.connections.specs.Segment.{begins, begins_one, five_tuple_of}
-use Rattle.connections.specs.Connection.{begun_by_datagram, dropped_from, is_closed, side_of, Accepts, Begins, ChangesCountsAlone, IsAfter, IsAnew, IsBegunBy, LeavesOut, NoneWaits, Shows, TakesDatagramIn}
+use Rattle.connections.specs.Connection.{another_of, begun_by_datagram, dropped_from, is_closed, opening_of, side_of, Accepts, Begins, ChangesCountsAlone, IsAfter, IsAnew, IsBare, IsBegunBy, LeavesOut, NoneWaits, Shows, TakesDatagramIn}
 use Rattle.connections.specs.declared.datagram.Datagram.{Datagram}
 use Rattle.connections.specs.declared.five_tuple.FiveTuple.{FiveTuple}
+use Rattle.connections.specs.declared.segment.Header.{Header}
 use Rattle.connections.specs.declared.segment.Segment.{Segment}
 use Rattle.connections.specs.declared.connection.Connection.{Connection}
 use Rattle.connections.specs.declared.receiver.Reason.TheVariants as reason
@@ -145,12 +146,18 @@ module _ {T : Type 0} where
   abbrev pub ended : FiveTuple → Table T → Option (Connection T)
   ended e t = option_and_then (λ c. if is_closed c then Some c else None) (at e t.live)
 
-  -- Another connection comes first, which begins with the segments that this one shows. The one
-  -- before is removed, without the SYNs that were kept.
+  -- The opening of another connection between a segment's ends that the segment shows.
+  abbrev pub another_in : Segment → Option (Connection T) → Option (Header × Option Header)
+  another_in s o = option_and_then (another_of s) o
+
+  -- Another connection comes first, which begins with the pending SYNs that this segment shows. The
+  -- one before is removed, without the SYNs that were kept.
   pub record Replaces (s : Segment) (old new : Table T) (c : Connection T) : Type 0 where
     pub beginning : Beginning
     pub its : Connection T
     pub shows : Shows s beginning
+    pub waited : another_in s (at (five_tuple_of s) old.live) ≡ Some (opening_of beginning)
+    pub bare : IsBare beginning
     pub begins : Begins beginning its
     pub was : IfSome (at (five_tuple_of s) old.live) (λ c'. c ≡ record c' { waiting = c.waiting })
     pub stands : new ≡ record old {
@@ -160,7 +167,8 @@ module _ {T : Type 0} where
     }
 
   abbrev pub Replaced : Segment → Table T → Table T → Option (Connection T) → Type 0
-  Replaced s old new None = new ≡ old
+  Replaced s old new None =
+      (new ≡ old) × (another_in s (at (five_tuple_of s) old.live) ≡ None)
   Replaced s old new (Some c) = Replaces s old new c
 
   -- The connection of this five-tuple restarts.

@@ -1,6 +1,9 @@
 //! A TCP connection or a UDP exchange.
-ghost use Rattle.std.specs.Prelude.{◌≡◌, ◌<◌, ◌≤◌, ◌^◌, IfOk, IfSome, IfNone, OnOk, OnErr, Some, true};
-ghost use Rattle.connections.specs.Connection.{adds_nothing as adds_none, confirms as confirms_answer, counted_from, dropped_from, goes_on_behind, has_opening, held_by, hosts_from as hosts_at, hosts_of, is_closed, judgement_from, judgement_of, last_of, noting_from, part_by, sent_by, side_of, silent, start_of, stream_of, without_bytes, Accepts, ChangesCountsAlone, IsAnew, IsBegunBy, IsKept, LeavesOut, LeavesOutSyn, NoneWaits, Puts, PutsData, PutsSyn, Shows};
+ghost use Rattle.std.specs.Prelude.{◌≡◌, ◌<◌, ◌≤◌, ◌^◌, IfOk, IfSome, IfNone, OnOk, OnErr, Some, true, false, [], ◌&&◌, is_none, is_some};
+ghost use Rattle.std.specs.Option.{option_map};
+ghost use Rattle.connections.specs.Segment.{header_of};
+ghost use Rattle.connections.specs.Waiting.{syn_in};
+ghost use Rattle.connections.specs.Connection.{adds_nothing as adds_none, another_of, answers_this as answers_it, confirms as confirms_answer, counted_from, dropped_by, dropped_from, goes_on_behind, has_opening, held_by, hosts_from as hosts_at, hosts_of, is_alone, is_apart as is_apart_from, is_closed, is_far as is_far_from, is_heeded as is_heeded_by, judgement_from, judgement_of, last_of, lets_in as lets_it_in, noting_from, opening_by, opening_of, part_by, sent_by, shows_damage as is_shown_damaged, side_of, silent, start_of, stream_of, verdict_from, verdict_of, without_bytes, Accepts, ChangesCountsAlone, IsAnew, IsBare, IsBegunBy, IsKept, LeavesOut, LeavesOutSyn, NoneWaits, Puts, PutsData, PutsSyn, Shows};
 
 use crate::dropped::Dropped;
 use crate::five_tuple::{End, Protocol};
@@ -88,7 +91,9 @@ pub const CONNECTION_COST: usize = 1024;
 const FAR: u32 = 0x1_0000;
 
 /// Returns whether a number is far from a known one.
-fn is_far(known: Option<u32>, number: u32) -> bool {
+fn is_far(known: Option<u32>, number: u32) -> bool
+    ensures { result ≡ is_far_from known number }
+{
     match known {
         Some(other) => number.wrapping_sub(other) > FAR && other.wrapping_sub(number) > FAR,
         None => false,
@@ -112,7 +117,8 @@ impl Verdict {
     /// Returns whether the receiver takes the segment or already has it, and nothing has to be done
     /// first.
     fn lets_in(&self) -> bool
-        ensures { result ≡ true → IsKept self.now.judgement }
+        ensures is { result ≡ lets_it_in self.now }
+        ensures kept { result ≡ true → IsKept self.now.judgement }
     {
         matches!(self.judgement, Judgement::Taken | Judgement::Again)
             && !self.begins_another
@@ -122,13 +128,15 @@ impl Verdict {
 }
 
 /// Returns whether a SYN-ACK answers this SYN.
-fn answers_this(answering: &Segment<'_>, asking: &Segment<'_>) -> bool {
+fn answers_this(answering: &Segment<'_>, asking: &Segment<'_>) -> bool
+    ensures { result ≡ answers_it (header_of answering.now) (header_of asking.now) }
+{
     answering.source == asking.destination && answering.acknowledgment == asking.first()
 }
 
 /// Returns whether a segment follows its sender's SYN directly.
 fn is_first_behind(segment: &Segment<'_>, asking: &Segment<'_>) -> bool
-    ensures { result ≡ goes_on_behind segment.now asking.now }
+    ensures { result ≡ goes_on_behind segment.now (header_of asking.now) }
 {
     segment.source == asking.source
         && segment.acknowledges()
@@ -138,7 +146,7 @@ fn is_first_behind(segment: &Segment<'_>, asking: &Segment<'_>) -> bool
 
 /// Returns whether a segment shows that its sender accepted the SYN-ACK `answering`.
 fn confirms(segment: &Segment<'_>, answering: &Segment<'_>) -> bool
-    ensures { result ≡ confirms_answer segment.now answering.now }
+    ensures { result ≡ confirms_answer segment.now (header_of answering.now) }
 {
     segment.source == answering.destination
         && segment.acknowledges()
@@ -266,7 +274,9 @@ impl<T: Listener> Connection<T> {
     /// Returns whether a segment's acknowledgement counts for pending segments. It does if the
     /// receiver takes the segment, or if the segment isn't old, and without data acknowledges what
     /// the receiver isn't known to have sent.
-    fn is_heeded(&self, segment: &Segment<'_>, judgement: Judgement) -> bool {
+    fn is_heeded(&self, segment: &Segment<'_>, judgement: Judgement) -> bool
+        ensures { result ≡ is_heeded_by judgement segment.now self.now }
+    {
         let (sender, receiver) = self.hosts(segment);
         let is_new = judgement == Judgement::Taken
             || (judgement == Judgement::Again
@@ -277,7 +287,7 @@ impl<T: Listener> Connection<T> {
 
     /// Returns what this side's segment means for the connection.
     fn verdict_from(&self, side: Side, segment: &Segment<'_>) -> Verdict
-        ensures judgement { result.judgement ≡ judgement_from side segment.now self.now }
+        ensures { result ≡ verdict_from side segment.now self.now }
     {
         let has_waiting = !self.waiting.is_empty();
         let judgement = self.judge_from(side, segment);
@@ -291,14 +301,19 @@ impl<T: Listener> Connection<T> {
 
     /// Returns whether a segment's numbers are far from this connection's, so that it may be
     /// another's.
-    fn is_apart(&self, segment: &Segment<'_>) -> bool {
+    fn is_apart(&self, segment: &Segment<'_>) -> bool
+        ensures { result ≡ is_apart_from segment.now self.now }
+    {
         let (sender, receiver) = self.hosts(segment);
         is_far(sender.next, segment.sequence) || is_far(receiver.next, segment.acknowledgment)
     }
 
     /// Returns the segments with which another connection began, by its SYN-ACK.
     fn beginning(&self, answering: &Segment<'static>) -> Beginning
-        ensures { last_of result.first result.answer ≡ answering.now }
+        ensures last { last_of result.first result.answer ≡ answering.now }
+        ensures is { opening_of result ≡ opening_by (header_of answering.now)
+            (syn_in false self.now.waiting.kept.items) }
+        ensures bare { answering.now.payload.now ≡ [] → IsBare result }
     {
         match self.waiting.syn(false) {
             Some(asking) if answers_this(answering, &asking) => Beginning {
@@ -316,7 +331,9 @@ impl<T: Listener> Connection<T> {
     /// segment shows one. It does if its sender accepts a SYN-ACK, or continues behind a SYN whose
     /// receiver wasn't captured.
     pub(crate) fn another(&self, segment: &Segment<'_>) -> Option<Beginning>
-        ensures { IfSome result (λ beginning. Shows segment.now beginning) }
+        ensures shows { IfSome result (λ beginning. Shows segment.now beginning) }
+        ensures is { option_map opening_of result ≡ another_of segment.now self.now }
+        ensures bare { IfSome result (λ beginning. IsBare beginning) }
     {
         if !self.is_apart(segment) {
             return None;
@@ -336,14 +353,18 @@ impl<T: Listener> Connection<T> {
     /// Returns whether a segment shows that another connection began. (Not inlined: the segments
     /// need much stack, and few packets get here.)
     #[inline(never)]
-    fn shows_another(&self, segment: &Segment<'_>) -> bool {
+    fn shows_another(&self, segment: &Segment<'_>) -> bool
+        ensures { result ≡ is_some (another_of segment.now self.now) }
+    {
         self.another(segment).is_some()
     }
 
     /// Returns whether a segment continues behind its sender's SYN, and nothing of the receiver was
     /// captured.
     fn goes_on_alone(&self, segment: &Segment<'_>, asking: &Segment<'_>) -> bool
-        ensures { result ≡ true → goes_on_behind segment.now asking.now ≡ true }
+        ensures is { result ≡ (is_alone segment.now self.now
+            && goes_on_behind segment.now (header_of asking.now)) }
+        ensures behind { result ≡ true → goes_on_behind segment.now (header_of asking.now) ≡ true }
     {
         let (sender, receiver) = self.hosts(segment);
         receiver.next.is_none() && sender.next.is_some() && is_first_behind(segment, asking)
@@ -352,7 +373,9 @@ impl<T: Listener> Connection<T> {
     /// Returns whether this side's packet shows by its checksum that everything before it was
     /// damaged: all of it came from this side, and none had a correct checksum.
     #[inline(always)]
-    pub(crate) fn shows_damage(&self, side: Side, checksum: Checksum) -> bool {
+    pub(crate) fn shows_damage(&self, side: Side, checksum: Checksum) -> bool
+        ensures { result ≡ is_shown_damaged side checksum self.now }
+    {
         let (host, other) = match side {
             Side::Originator => (&self.originator_host, self.responder_sent),
             Side::Responder => (&self.responder_host, self.originator_sent),
@@ -529,7 +552,9 @@ impl<T: Listener> Connection<T> {
     }
 
     /// Returns what a side sent over TCP and the other side dropped, pending segments included.
-    pub fn dropped(&self, side: Side) -> Dropped {
+    pub fn dropped(&self, side: Side) -> Dropped
+        ensures { result ≡ dropped_by side self.now }
+    {
         let (mut dropped, end) = match side {
             Side::Originator => (self.originator_dropped, self.originator),
             Side::Responder => (self.responder_dropped, self.responder),
@@ -641,7 +666,10 @@ impl<T: Listener> Connection<T> {
             (λ told. IfNone told
             (IsKept (judgement_of segment.now self.old) × Accepts segment.now self.old self.new)) }
         ensures judged { IfOk result
-            (λ told. IfSome told (λ verdict. verdict.judgement ≡ judgement_of segment.now self.old)) }
+            (λ told. IfSome told (λ verdict. verdict ≡ verdict_of segment.now self.old)) }
+        ensures let_in { IfOk result
+            (λ told. is_none told ≡ lets_it_in (verdict_of segment.now self.old)) }
+        ensures is_let_in { OnErr result (lets_it_in (verdict_of segment.now self.old) ≡ true) }
         ensures stays { IfOk result (λ told. IfSome told (λ verdict. self.new ≡ self.old)) }
         ensures left_out { OnErr result (LeavesOut segment.now self.old self.new) }
         ensures weight { self.new.weight ≡ self.old.weight }

@@ -1,7 +1,7 @@
 //! The TCP state of one end of a connection.
 ghost use Rattle.std.specs.Prelude.{◌≡◌, Some, None};
 ghost use Rattle.connections.specs.Segment.{first_of};
-ghost use Rattle.connections.specs.Hosts.{checksums_behind as checksums_behind_of, clock_behind as clock_behind_of, damaged_before, has_fin_of, host_after, later as later_of, shift_of, silent_host, with_checksum, with_taken as taken_by, window_of};
+ghost use Rattle.connections.specs.Hosts.{checksums_behind as checksums_behind_of, clock_behind as clock_behind_of, damaged_before, has_fin_of, host_after, later as later_of, may_be_damaged, shift_of, silent_host, with_checksum, with_taken as taken_by, window_of};
 
 use crate::numbers::is_behind;
 use crate::segment::{Checksum, Options, Segment};
@@ -148,7 +148,9 @@ impl Host {
 
     /// Returns whether all its packets had a wrong checksum, and were so few that the first correct
     /// one may show that they were damaged.
-    pub(crate) fn is_damaged(&self) -> bool {
+    pub(crate) fn is_damaged(&self) -> bool
+        ensures { result ≡ may_be_damaged self.now }
+    {
         self.checksums == Some(Checksum::Wrong) && self.unchecked < FIRST_PACKETS
     }
 

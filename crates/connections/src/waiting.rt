@@ -5,7 +5,10 @@
 //! section 3.10.7.4). So the segment is pending until the receiver acknowledges its bytes: if no
 //! others came at their numbers before, it took these. The data of a SYN is pending too (RFC 7413,
 //! section 3).
-ghost use Rattle.std.specs.Prelude.{◌≡◌, ◌<◌, length, IfSome, []};
+ghost use Rattle.std.specs.Prelude.{◌≡◌, ◌<◌, length, not, IfSome, []};
+ghost use Rattle.std.specs.Option.{option_map};
+ghost use Rattle.connections.specs.Segment.{header_of};
+ghost use Rattle.connections.specs.Waiting.{are_some, is_syn as is_syn_of, syn_in, with_pending};
 
 use crate::dropped::Dropped;
 use crate::five_tuple::End;
@@ -45,7 +48,10 @@ pub struct Kept {
 
 impl Kept {
     /// Returns the segment.
-    pub fn segment(&self) -> Segment<'_> {
+    pub fn segment(&self) -> Segment<'_>
+        ensures header { header_of result ≡ self.now.header }
+        ensures data { result.payload.now ≡ self.now.payload.items }
+    {
         self.header.with_data(self.payload.as_slice())
     }
 
@@ -65,7 +71,9 @@ impl Kept {
     }
 
     /// Returns whether it is a SYN-ACK (`answers`), or a SYN without ACK.
-    fn is_syn(&self, answers: bool) -> bool {
+    fn is_syn(&self, answers: bool) -> bool
+        ensures { result ≡ is_syn_of answers self.now.header }
+    {
         let segment = self.segment();
         segment.begins() && segment.answers() == answers
     }
@@ -195,7 +203,9 @@ impl Waiting {
     }
 
     /// Returns whether there are none.
-    pub(crate) fn is_empty(&self) -> bool {
+    pub(crate) fn is_empty(&self) -> bool
+        ensures { are_some self.now.kept.items ≡ not result }
+    {
         self.kept.is_empty()
     }
 
@@ -356,7 +366,9 @@ impl Waiting {
     }
 
     /// Counts the pending segments of this end as dropped.
-    pub(crate) fn count(&self, sender: End, dropped: &mut Dropped) {
+    pub(crate) fn count(&self, sender: End, dropped: &mut Dropped)
+        ensures { dropped.new ≡ with_pending sender self.now.kept.items dropped.old }
+    {
         for kept in &self.kept {
             if let (true, Some(reason)) = (kept.header.source == sender, kept.reason) {
                 dropped.add(reason);
@@ -365,7 +377,10 @@ impl Waiting {
     }
 
     /// Returns the SYN-ACK (`answers`), or the SYN without ACK.
-    pub(crate) fn syn(&self, answers: bool) -> Option<Segment<'static>> {
+    pub(crate) fn syn(&self, answers: bool) -> Option<Segment<'static>>
+        ensures is { option_map header_of result ≡ syn_in answers self.now.kept.items }
+        ensures bare { IfSome result (λ syn. syn.payload.now ≡ []) }
+    {
         for kept in &self.kept {
             if kept.is_syn(answers) {
                 return Some(kept.segment().without_data());

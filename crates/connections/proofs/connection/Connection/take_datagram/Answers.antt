@@ -1,10 +1,22 @@
-use Rattle.std.proofs.Common.{inl, inr}
+use Rattle.std.proofs.Common.{◌∙◌, ap, subst, sym}
+use Rattle.connections.specs.Connection.{shows_damage, TakesBehind}
 use Rattle.connections.proofs.connection.Connection.take_datagram.Goals as goal
 use Rattle.connections.proofs.connection.Connection.take_datagram.Goals.{then-shows_damage, else-shows_damage}
 
 pub returns-clause-taken : goal.returns-clause-taken
-returns-clause-taken g c = elim c.if-shows_damage.branch [
-  | then-shows_damage w ↦
-      inr (w.restart.new.self, w.restart.ensures, rw w.self-is at c.accept_datagram.ensures.counted)
-  | else-shows_damage w ↦ inl (rw w.self-is at c.accept_datagram.ensures.counted)
-]
+returns-clause-taken g c =
+    let d = c.args.datagram.now in let old = c.args.self.now in
+    let shown = c.shows_damage.ensures ∙ ap (λ x. shows_damage x d.checksum old) c.side_of.ensures in
+    elim c.if-shows_damage.branch [
+      | then-shows_damage w ↦
+          subst (λ b. TakesBehind b d old c.accept_datagram.new.self)
+          (sym w.if-shows_damage.true ∙ shown) (
+            w.restart.new.self,
+            w.restart.ensures,
+            rw w.self-is at c.accept_datagram.ensures.counted,
+          )
+      | else-shows_damage w ↦
+          subst (λ b. TakesBehind b d old c.accept_datagram.new.self)
+          (sym w.if-shows_damage.false ∙ shown)
+          (rw w.self-is at c.accept_datagram.ensures.counted)
+    ]

@@ -16,9 +16,12 @@ returns-clause-replaced g c =
       held =
           c.self.inside.held;
     })
-    c.in-Some-another.beginning c.in_ok-another.another c.in-Some-get_mut.place.now
+    c.in-Some-another.beginning c.in_ok-another.another c.in-Some.connection.now
+    c.in-Some-get_mut.place.now
     c.forget_syns.new.self c.saturating_sub-self-inside.result
-    c.in-Some-another.ensures c.in_ok-another.ensures.begun
+    c.in-Some-another.ensures.shows (rw c.get.ensures at c.in-Some-another.ensures.is)
+    c.in-Some-another.ensures.bare c.in_ok-another.ensures.begun
+    (rw c.between-five_tuple.ensures at c.in-Some.ensures)
     (rw c.between-five_tuple.ensures at c.in-Some-get_mut.ensures.value)
     (c.forget_syns.ensures
     ∙ ap {A = Connection _} (λ x. record x { waiting = c.forget_syns.new.self.waiting }) was)
