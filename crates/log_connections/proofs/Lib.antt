@@ -1,2 +1,3 @@
+mod ArrivalLemmas
 mod FrontLemmas
 mod LogLemmas

@@ -1,3 +1,4 @@
+pub mod Arrival
 pub mod Fronts
 pub mod Heard
 pub mod Log

@@ -1,4 +1,10 @@
 //! What a packet brings to a connection: a TCP segment or a UDP datagram.
+ghost use Rattle.std.specs.Prelude.{◌≡◌, false, IfSome, Some};
+ghost use Rattle.capture.specs.Checksum.{checksum_of as checksum_in};
+ghost use Rattle.capture.specs.Ip.{view_datagram};
+ghost use Rattle.capture.specs.Options.{timestamp as timestamp_in};
+ghost use Rattle.log_connections.specs.Arrival.{IsAddress, counted_as, datagram_in, five_tuple_in, is_signed, options_in, segment_in, source_of, time_of};
+
 use capture::{
     Address, TcpSegment, UdpDatagram, maximum_segment_size, option_of, timestamp, window_scale,
 };
@@ -44,7 +50,9 @@ pub enum Arrival<'a> {
 
 impl<'a> Arrival<'a> {
     /// Returns the capture time, in nanoseconds since 1970-01-01 00:00 UTC.
-    pub fn time(&self) -> u64 {
+    pub fn time(&self) -> u64
+        ensures { result ≡ time_of self.now }
+    {
         match self {
             Arrival::Segment(segment) => segment.time,
             Arrival::Datagram(datagram) => datagram.time,
@@ -52,7 +60,9 @@ impl<'a> Arrival<'a> {
     }
 
     /// Returns the sender.
-    pub(crate) fn source(&self) -> End {
+    pub(crate) fn source(&self) -> End
+        ensures { result ≡ source_of self.now }
+    {
         match self {
             Arrival::Segment(segment) => segment.source,
             Arrival::Datagram(datagram) => datagram.source,
@@ -60,7 +70,9 @@ impl<'a> Arrival<'a> {
     }
 
     /// Returns the five-tuple.
-    pub(crate) fn between(&self) -> FiveTuple {
+    pub(crate) fn between(&self) -> FiveTuple
+        ensures { result ≡ five_tuple_in self.now }
+    {
         match self {
             Arrival::Segment(segment) => segment.between(),
             Arrival::Datagram(datagram) => datagram.between(),
@@ -69,7 +81,9 @@ impl<'a> Arrival<'a> {
 }
 
 /// Converts an address.
-fn address(address: Address) -> IpAddr {
+fn address(address: Address) -> IpAddr
+    ensures { IsAddress address result }
+{
     match address {
         Address::V4(n) => IpAddr::V4(Ipv4Addr::from_bits(n)),
         Address::V6(upper, lower) => {
@@ -79,7 +93,10 @@ fn address(address: Address) -> IpAddr {
 }
 
 /// Returns an end with this address and port.
-pub(crate) fn end(address_there: Address, port: u16) -> End {
+pub(crate) fn end(address_there: Address, port: u16) -> End
+    ensures address { IsAddress address_there result.address }
+    ensures port { result.port ≡ port }
+{
     End {
         address: address(address_there),
         port,
@@ -88,7 +105,10 @@ pub(crate) fn end(address_there: Address, port: u16) -> End {
 
 /// Returns the timestamp of a segment without other options, in the form that hosts send (RFC 7323,
 /// appendix A). Most segments have it.
-fn clock_alone(options: &[u8]) -> Option<u32> {
+fn clock_alone(options: &[u8]) -> Option<u32>
+    ensures clock { IfSome result (λ clock. timestamp_in options.now ≡ Some clock) }
+    ensures alone { IfSome result (λ clock. is_signed options.now ≡ false) }
+{
     match options {
         [PADDING, PADDING, TIMESTAMPS, 10, a, b, c, d, _, _, _, _] => {
             Some(u32::from_be_bytes([*a, *b, *c, *d]))
@@ -99,7 +119,9 @@ fn clock_alone(options: &[u8]) -> Option<u32> {
 
 /// Returns the options of a segment, each by a search. Those that only a SYN may have are looked up
 /// only in a SYN (RFC 9293, section 3.7.1; RFC 7323, section 2.2; RFC 2018, section 2).
-fn options_one_by_one(options: &[u8], is_syn: bool) -> Options {
+fn options_one_by_one(options: &[u8], is_syn: bool) -> Options
+    ensures { result ≡ options_in is_syn options.now }
+{
     let clock = timestamp(options);
     let is_signed = option_of(options, MD5_SIGNATURE).is_some()
         || option_of(options, AUTHENTICATION).is_some();
@@ -123,7 +145,9 @@ fn options_one_by_one(options: &[u8], is_syn: bool) -> Options {
 
 /// Returns the options of a segment.
 #[inline(always)]
-fn options_of(options: &[u8], is_syn: bool) -> Options {
+fn options_of(options: &[u8], is_syn: bool) -> Options
+    ensures { result ≡ options_in is_syn options.now }
+{
     if let (false, Some(clock)) = (is_syn, clock_alone(options)) {
         return Options {
             scale: None,
@@ -151,7 +175,9 @@ fn options_of(options: &[u8], is_syn: bool) -> Options {
 }
 
 /// Returns the result for a packet's checksums, as far as they count.
-pub(crate) fn checksum_of(datagram: &capture::Datagram<'_>, checksums: Checksums) -> Checksum {
+pub(crate) fn checksum_of(datagram: &capture::Datagram<'_>, checksums: Checksums) -> Checksum
+    ensures { result ≡ counted_as checksums (checksum_in (view_datagram datagram.now)) }
+{
     if checksums == Checksums::Ignore {
         return Checksum::Right;
     }
@@ -172,7 +198,9 @@ pub(crate) fn segment_of<'a>(
     destination: End,
     tcp: &TcpSegment<'a>,
     checksum: Checksum,
-) -> Segment<'a> {
+) -> Segment<'a>
+    ensures { result ≡ segment_in time network source destination tcp.now checksum }
+{
     Segment {
         time,
         network,
@@ -197,7 +225,9 @@ pub(crate) fn datagram_of<'a>(
     destination: End,
     udp: &UdpDatagram<'a>,
     checksum: Checksum,
-) -> Datagram<'a> {
+) -> Datagram<'a>
+    ensures { result ≡ datagram_in time network source destination udp.now checksum }
+{
     Datagram {
         time,
         network,
