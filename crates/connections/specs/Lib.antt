@@ -9,6 +9,7 @@ pub mod Stream
 pub mod Waiting
 pub mod Connection
 pub mod Table
+pub mod Drops
 pub mod Memory
 pub mod Traffic
 pub mod Dropped

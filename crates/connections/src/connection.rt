@@ -3,6 +3,7 @@ ghost use Rattle.std.specs.Prelude.{◌≡◌, ◌<◌, ◌≤◌, ◌^◌, IfOk
 ghost use Rattle.std.specs.Option.{option_map};
 ghost use Rattle.connections.specs.Segment.{header_of};
 ghost use Rattle.connections.specs.Waiting.{syn_in};
+ghost use Rattle.connections.specs.Drops.{DropsIn};
 ghost use Rattle.connections.specs.Connection.{adds_nothing as adds_none, another_of, answers_this as answers_it, confirms as confirms_answer, counted_from, dropped_by, dropped_from, goes_on_behind, has_opening, held_by, hosts_from as hosts_at, hosts_of, is_alone, is_apart as is_apart_from, is_closed, is_far as is_far_from, is_heeded as is_heeded_by, judgement_from, judgement_of, last_of, lets_in as lets_it_in, noting_from, opening_by, opening_of, part_by, sent_by, shows_damage as is_shown_damaged, side_of, silent, start_of, stream_of, verdict_from, verdict_of, without_bytes, Accepts, ChangesCountsAlone, IsAnew, IsBare, IsBegunBy, IsKept, LeavesOut, LeavesOutSyn, NoneWaits, Puts, PutsData, PutsSyn, Shows};
 
 use crate::dropped::Dropped;
@@ -432,7 +433,8 @@ impl<T: Listener> Connection<T> {
         segment: &Segment<'_>,
         reason: Reason,
     ) -> Result<(), AllocError>
-        ensures { ChangesCountsAlone self.old self.new }
+        ensures changes { ChangesCountsAlone self.old self.new }
+        ensures counted { DropsIn segment.now reason self.old self.new }
     {
         let may_begin = segment.begins() && reason != Reason::Checksum;
         if may_begin && self.is_apart(segment) {

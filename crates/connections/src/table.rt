@@ -4,6 +4,7 @@ ghost use Rattle.std.specs.Borrow.{sem};
 ghost use Rattle.std.specs.Option.{option_copied_mut, option_map};
 ghost use Rattle.connections.specs.Segment.{five_tuple_of};
 ghost use Rattle.connections.specs.Table.{at, belongs, closed_behind, ended, others, promoting, without_ended, BeginsAfter, BeginsFirst, Drops, IsForgotten, IsOver, IsOverAmong, IsPut, LeavesOutAt, NoneIsOver, NoneToForget, Puts, Replaced, Restarts, TakesDatagram, WasLast};
+ghost use Rattle.connections.specs.Drops.{Counts};
 ghost use Rattle.connections.specs.Memory.{IsAccounted};
 ghost use Rattle.connections.specs.Datagram.{five_tuple_of_datagram};
 ghost use Rattle.connections.specs.Lends.{lends_connection, lends_first};
@@ -119,6 +120,7 @@ impl<T: Listener> Connections<T> {
     /// `AllocError` if there is no memory for it.
     pub fn drop_segment(&mut self, segment: &Segment<'_>, reason: Reason) -> Result<(), AllocError>
         ensures drops { Drops segment.now self.old self.new }
+        ensures counted { Counts segment.now reason self.old self.new }
         ensures accounted { IsAccounted self.old → IsAccounted self.new }
     {
         let (alloc, five_tuple) = (self.alloc, segment.between());

@@ -1,7 +1,9 @@
 use Rattle.std.proofs.Common.{ap, subst, ◌∙◌}
 use Rattle.connections.specs.Connection.{ChangesCountsAlone}
+use Rattle.connections.specs.Drops.{DropsIn}
 use Rattle.connections.specs.Segment.{five_tuple_of}
 use Rattle.connections.proofs.MemoryLemmas.{accounted_with}
+use Rattle.connections.proofs.DropLemmas.{counted_at}
 use Rattle.connections.proofs.TableLemmas.{counts_at}
 use Rattle.connections.proofs.table.Connections.drop_segment.Goals as goal
 
@@ -18,7 +20,22 @@ returns-in-Some-clause-drops g c =
     c.in-Some.connection.now c.drop_segment.new.self
     (rw c.between-five_tuple.ensures at c.in-Some.ensures.value)
     (subst (λ x. ChangesCountsAlone x c.drop_segment.new.self) c.get_mut.ensures.value
-    c.drop_segment.ensures))
+    c.drop_segment.ensures.changes))
+
+pub returns-in-Some-clause-counted : goal.returns-in-Some-clause-counted
+returns-in-Some-clause-counted g c =
+    rw (c.between-five_tuple.ensures, ← c.self.view_is)
+    (counted_at c.args.segment.now c.args.reason
+    (record {
+      live = c.self.inside.live.entries;
+      closed = c.self.inside.closed.entries;
+      held =
+          c.self.inside.held;
+    })
+    c.in-Some.connection.now c.drop_segment.new.self
+    (rw c.between-five_tuple.ensures at c.in-Some.ensures.value)
+    (subst (λ x. DropsIn c.args.segment.now c.args.reason x c.drop_segment.new.self)
+    c.get_mut.ensures.value c.drop_segment.ensures.counted))
 
 pub returns-in-Some-clause-accounted : goal.returns-in-Some-clause-accounted
 returns-in-Some-clause-accounted g c =
@@ -32,4 +49,4 @@ returns-in-Some-clause-accounted g c =
     })
     c.in-Some.connection.now c.drop_segment.new.self
     (rw c.between-five_tuple.ensures at c.in-Some.ensures.value)
-    (ap (λ x. x.weight) c.drop_segment.ensures ∙ ap (λ x. x.weight) c.get_mut.ensures.value))
+    (ap (λ x. x.weight) c.drop_segment.ensures.changes ∙ ap (λ x. x.weight) c.get_mut.ensures.value))
