@@ -1,4 +1,5 @@
 pub mod Arrival
+pub mod Counts
 pub mod Fronts
 pub mod Heard
 pub mod Log

@@ -1,4 +1,7 @@
 //! Counts of what was read and found, and of what was left out.
+ghost use Rattle.std.specs.Prelude.{◌≡◌, ◌∷◌, [], map, true};
+ghost use Rattle.log_connections.specs.Counts.{is_supported, nothing_counted, one_more, unexplained as unexplained_in};
+
 use crate::links::{LinkName, OtherLinks};
 use std::fmt::{self, Display, Formatter};
 use std::io;
@@ -108,13 +111,17 @@ impl Display for Found<'_> {
 }
 
 /// Adds one to a count, which saturates at 2^64 - 1.
-pub fn add_one(count: &mut u64) {
+pub fn add_one(count: &mut u64)
+    ensures { count.new ≡ one_more count.old }
+{
     *count = count.saturating_add(1);
 }
 
 impl Counts {
     /// Returns the counts before anything is read.
-    pub fn new() -> Counts {
+    pub fn new() -> Counts
+        ensures { result ≡ nothing_counted }
+    {
         Counts {
             packets: 0,
             tls: 0,
@@ -159,14 +166,22 @@ impl Counts {
     }
 
     /// Counts a packet that can't be parsed, by its link type if that is unsupported.
-    pub(crate) fn add_unread(&mut self, link_type: u16) {
+    pub(crate) fn add_unread(&mut self, link_type: u16)
+        ensures same { self.new ≡ record self.old
+            { other_links = self.new.other_links; unread = self.new.unread } }
+        ensures unread { is_supported link_type ≡ true
+            → self.new.unread ≡ one_more self.old.unread }
+    {
         if !self.other_links.add(link_type) {
             add_one(&mut self.unread);
         }
     }
 
     /// Returns the counts of handshakes without success, by outcome.
-    fn without_success(&self) -> [(u64, &'static str); 4] {
+    fn without_success(&self) -> [(u64, &'static str); 4]
+        ensures { map (λ row. row.0) result ≡ self.now.broken_off ∷ self.now.waiting
+            ∷ self.now.unknown ∷ self.now.no_handshake ∷ [] }
+    {
         [
             (self.broken_off, "broken off"),
             (self.waiting, "waiting"),
@@ -177,7 +192,9 @@ impl Counts {
 
     /// Returns how many connections to report as neither TLS nor DTLS: none if something else
     /// explains why there are no lines.
-    fn unexplained(&self) -> u64 {
+    fn unexplained(&self) -> u64
+        ensures { result ≡ unexplained_in self.now }
+    {
         if self.tls > 0 || self.dtls > 0 || self.damaged > 0 {
             0
         } else {
@@ -186,7 +203,13 @@ impl Counts {
     }
 
     /// Returns what was left out: the count, the noun and the reason.
-    fn left_out(&self) -> [LeftOut; 15] {
+    fn left_out(&self) -> [LeftOut; 15]
+        ensures { map (λ row. row.0) result ≡ self.now.unread ∷ self.now.other_protocols
+            ∷ self.now.damaged ∷ self.now.other_parts ∷ self.now.too_long ∷ self.now.uneven
+            ∷ self.now.other_end ∷ self.now.late ∷ self.now.crowded ∷ self.now.cut_short
+            ∷ self.now.in_too_many_tunnels ∷ self.now.stray_segments ∷ self.now.gaps
+            ∷ self.now.ended_early ∷ unexplained_in self.now ∷ [] }
+    {
         [
             (
                 self.unread,

@@ -1,4 +1,7 @@
 //! Unsupported link types in a capture.
+ghost use Rattle.std.specs.Prelude.{◌≡◌, true, false};
+ghost use Rattle.log_connections.specs.Counts.{is_supported, no_links};
+
 use crate::counts::add_one;
 use capture::parse_link;
 use layouts::{Err, ErrorKind};
@@ -59,7 +62,9 @@ impl Display for LinkName {
 }
 
 /// Returns whether packets of this link type are supported.
-fn is_read(link_type: u16) -> bool {
+fn is_read(link_type: u16) -> bool
+    ensures { result ≡ is_supported link_type }
+{
     match parse_link(&[], link_type) {
         Err(Err::Error(e)) => e.code != ErrorKind::Switch,
         _ => true,
@@ -74,7 +79,9 @@ pub(crate) struct OtherLinks {
 
 impl OtherLinks {
     /// Returns a table without packets.
-    pub(crate) fn new() -> OtherLinks {
+    pub(crate) fn new() -> OtherLinks
+        ensures { result ≡ no_links }
+    {
         OtherLinks {
             rows: [(0, 0); MOST],
         }
@@ -82,7 +89,9 @@ impl OtherLinks {
 
     /// Counts a packet of this link type. Returns false if the type is supported, or there is no
     /// room for another one.
-    pub(crate) fn add(&mut self, link_type: u16) -> bool {
+    pub(crate) fn add(&mut self, link_type: u16) -> bool
+        ensures { is_supported link_type ≡ true → (result ≡ false) × (self.new ≡ self.old) }
+    {
         if is_read(link_type) {
             return false;
         }
@@ -97,7 +106,9 @@ impl OtherLinks {
     }
 
     /// Returns each link type with its packet count. A row without packets is unused.
-    pub(crate) fn rows(&self) -> [(u16, u64); MOST] {
+    pub(crate) fn rows(&self) -> [(u16, u64); MOST]
+        ensures { result ≡ self.now.rows }
+    {
         self.rows
     }
 }
