@@ -72,7 +72,7 @@ fn all() -> [Growing; 14] {
         one("`parse_ct_signed_certificate_timestamp_list`", ours::ours_timestamps, timestamps, 65535),
         one("`parse_tls_plaintext`, HelloRequests", ours::ours_plaintext, |n| inputs::record(22, &vec![0; n - 5]), 16645),
         one("`feed` and `take_front`, a byte a call", stream_of_bytes, |n| repeat(&[23, 3, 3, 0, 0], n), MOST),
-        one("`Direction`, a message over records of a byte", of_messages, |n| inputs::messages(n / 6, n / 6, 1), 6 * 131_072),
+        one("`EventReader`, a message over records of a byte", of_messages, |n| inputs::messages(n / 6, n / 6, 1), 6 * 131_072),
         one("`read_datagram`, a message in fragments of 1,200 in order", of_datagrams, |n| inputs::datagrams(n, false), 100_000),
         one("the same, reversed", of_datagrams, |n| inputs::datagrams(n, true), 100_000),
         one("`read_datagram`, a longer message in order", of_datagrams, |n| inputs::datagrams(n, false), 1_000_000),

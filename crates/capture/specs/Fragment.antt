@@ -6,7 +6,7 @@ use Rattle.layouts.specs.declared.result.ErrorKind.TheVariants.{LengthValue, Swi
 use Rattle.capture.specs.Words.{words, is_right}
 use Rattle.capture.specs.Transport.{Content, view_content}
 use Rattle.capture.specs.Ip.{Address, V4, V6, Datagram, view_address, address_v6, fields_v4, front_v6, headers, is_extension, is_fragment_v4, lengths_v4, protected, skipped}
-use Rattle.capture.specs.declared.fragment.Fragment.{Fragment as LentFragment}
+use Rattle.capture.specs.declared.fragment.IpFragment.{IpFragment as LentFragment}
 use Rattle.capture.specs.declared.fragment.Piece.{Piece as LentPiece}
 use Rattle.capture.specs.declared.fragment.PieceStep.{PieceStep as LentPieceStep}
 use Rattle.capture.specs.declared.fragment.PieceStep.TheVariants as piece_step

@@ -7,7 +7,7 @@ use Rattle.capture.specs.Words.{words, words4, is_right}
 use Rattle.capture.specs.Transport.{Content, Fragment, view_content, transport}
 use Rattle.capture.specs.declared.ip.Address.{Address as StoredAddress}
 use Rattle.capture.specs.declared.ip.Address.TheVariants as address
-use Rattle.capture.specs.declared.ip.Datagram.{Datagram as LentDatagram}
+use Rattle.capture.specs.declared.ip.IpDatagram.{IpDatagram as LentDatagram}
 use Rattle.capture.specs.declared.ip.FieldsV4.{FieldsV4 as LentFieldsV4}
 use Rattle.capture.specs.declared.ip.LengthsV4.{LengthsV4 as StoredLengthsV4}
 use Rattle.capture.specs.declared.ip.Step.{Step}

@@ -4,7 +4,7 @@ use Rattle.std.specs.Option.{option_map}
 use Rattle.layouts.specs.Layout.{Layout, done, refuse, number, block, list, look, test, choose, mapped, ◌>>=◌, ◌>>◌}
 use Rattle.layouts.specs.declared.result.ErrorKind.TheVariants.{Tag, Verify, Switch}
 use Rattle.capture.specs.Ip.{Datagram, ipv4, ipv6, view_datagram}
-use Rattle.capture.specs.declared.ip.Datagram.{Datagram as LentDatagram}
+use Rattle.capture.specs.declared.ip.IpDatagram.{IpDatagram as LentDatagram}
 
 -- The datagram, or `None` for another protocol.
 abbrev pub view_packet : Option LentDatagram → Option Datagram

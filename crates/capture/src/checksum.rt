@@ -8,7 +8,7 @@ ghost use Rattle.capture.specs.Checksum.{checksum_without as checksum_without_of
 ghost use Rattle.capture.specs.Ip.{view_address, view_datagram as view};
 ghost use Rattle.capture.specs.Transport.{Tcp, Udp, view_segment, view_datagram};
 
-use crate::ip::{Address, Datagram};
+use crate::ip::{Address, IpDatagram};
 use crate::transport::{Content, TCP, TcpSegment, UDP, UdpDatagram};
 
 /// Returns whether words with this sum contain a correct checksum.
@@ -189,7 +189,7 @@ fn user_words(datagram: &UdpDatagram<'_>) -> u64
     header + sum_of(datagram.payload)
 }
 
-impl Datagram<'_> {
+impl IpDatagram<'_> {
     /// Returns the sum of the pseudo-header's words: both addresses, the protocol, and the length
     /// of header and data.
     fn pseudo_words(&self, protocol: u8, length: u64) -> u64

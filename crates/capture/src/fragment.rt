@@ -11,7 +11,7 @@ ghost use Rattle.capture.specs.Fragment.{fragment_v4, fragment_v6, joined, joine
 
 use crate::checksum::{is_right, sum_of};
 use crate::ip::{
-    AUTHENTICATION, Address, Datagram, address_v6, fields_v4, front_v6, is_extension, lengths_v4,
+    AUTHENTICATION, Address, IpDatagram, address_v6, fields_v4, front_v6, is_extension, lengths_v4,
     skipped, whole_protected, whole_v6,
 };
 use crate::transport::Content;
@@ -22,7 +22,7 @@ const FRAGMENT: u8 = 44;
 
 /// A fragment of a datagram.
 #[derive(Clone, Copy, Debug, PartialEq)]
-pub struct Fragment<'a> {
+pub struct IpFragment<'a> {
     /// The datagram's source.
     pub source: Address,
     /// The datagram's destination.
@@ -74,7 +74,7 @@ enum PieceStep<'a> {
 /// - `Error` of kind `Switch` if it is a whole datagram: its offset is 0 and no more fragments
 ///   follow.
 #[tactic(auto, using(layouts::proofs::OneAnswerLemmas::read_allowed), unfolding(crate::specs::Fragment::fragment_v4, crate::specs::Ip::is_fragment_v4))]
-pub fn parse_fragment_v4(i: &[u8]) -> IResult<&[u8], Fragment>
+pub fn parse_fragment_v4(i: &[u8]) -> IResult<&[u8], IpFragment>
     ensures { Gives view_fragment fragment_v4 i.now result }
 {
     let (i, lengths) = lengths_v4(i)?;
@@ -85,7 +85,7 @@ pub fn parse_fragment_v4(i: &[u8]) -> IResult<&[u8], Fragment>
     }
     let (i, options) = block(i, lengths.header - 20)?;
     let (i, payload) = block(i, lengths.total.saturating_sub(lengths.header))?;
-    let fragment = Fragment {
+    let fragment = IpFragment {
         source: Address::V4(fields.source),
         destination: Address::V4(fields.destination),
         identification: u32::from(identification),
@@ -176,7 +176,7 @@ fn whole_piece(i: &[u8], next: u8) -> IResult<&[u8], Piece>
 /// - `Error` of kind `Switch` if there is no Fragment header, or only such as mark the whole
 ///   datagram as one fragment.
 #[tactic(auto, using(layouts::proofs::OneAnswerLemmas::read_allowed), unfolding(crate::specs::Fragment::fragment_v6))]
-pub fn parse_fragment_v6(i: &[u8]) -> IResult<&[u8], Fragment>
+pub fn parse_fragment_v6(i: &[u8]) -> IResult<&[u8], IpFragment>
     ensures { Gives view_fragment fragment_v6 i.now result }
 {
     let (i, (len, next)) = front_v6(i)?;
@@ -187,7 +187,7 @@ pub fn parse_fragment_v6(i: &[u8]) -> IResult<&[u8], Fragment>
     let in_front = (len as usize)
         .saturating_sub(piece.payload.len())
         .saturating_sub(8);
-    let fragment = Fragment {
+    let fragment = IpFragment {
         source,
         destination,
         identification: piece.identification,
@@ -227,13 +227,13 @@ pub fn parse_joined(
     destination: Address,
     protocol: u8,
     is_header_right: bool,
-) -> IResult<&[u8], Datagram>
+) -> IResult<&[u8], IpDatagram>
     ensures { Gives view_datagram
         (joined (view_address source) (view_address destination) protocol is_header_right)
         i.now result }
 {
     let (i, content) = joined_content(i, source, protocol)?;
-    let datagram = Datagram {
+    let datagram = IpDatagram {
         source,
         destination,
         is_header_right,

@@ -26,7 +26,7 @@ pub enum Address {
 
 /// An IPv4 or IPv6 datagram.
 #[derive(Clone, Copy, Debug, PartialEq)]
-pub struct Datagram<'a> {
+pub struct IpDatagram<'a> {
     /// The source address.
     pub source: Address,
     /// The destination address.
@@ -212,14 +212,14 @@ fn held_v4<'a>(i: &'a [u8], lengths: LengthsV4, fields: FieldsV4) -> IResult<&'a
 /// - `Error` of kind `Complete` if a segment or UDP datagram doesn't fit in the total length.
 #[tactic(auto, using(layouts::proofs::OneAnswerLemmas::read_allowed), unfolding(crate::specs::Ip::ipv4))]
 #[inline(always)]
-pub fn parse_ipv4(i: &[u8]) -> IResult<&[u8], Datagram>
+pub fn parse_ipv4(i: &[u8]) -> IResult<&[u8], IpDatagram>
     ensures { Gives view_datagram ipv4 i.now result }
 {
     let (i, lengths) = lengths_v4(i)?;
     let (i, fields) = fields_v4(i)?;
     let (i, options) = block(i, lengths.header - 20)?;
     let (i, content) = held_v4(i, lengths, fields)?;
-    let datagram = Datagram {
+    let datagram = IpDatagram {
         source: Address::V4(fields.source),
         destination: Address::V4(fields.destination),
         is_header_right: is_right(lengths.words + fields.words + sum_of(options)),
@@ -363,14 +363,14 @@ fn held_v6(i: &[u8], len: u16, next: u8) -> IResult<&[u8], Content>
 /// - `Error` of kind `Complete` if an extension header, a segment or a UDP datagram doesn't fit in
 ///   the payload length, or if the options that should give the length have no jumbo payload.
 #[tactic(auto, using(layouts::proofs::OneAnswerLemmas::read_allowed), unfolding(crate::specs::Ip::ipv6))]
-pub fn parse_ipv6(i: &[u8]) -> IResult<&[u8], Datagram>
+pub fn parse_ipv6(i: &[u8]) -> IResult<&[u8], IpDatagram>
     ensures { Gives view_datagram ipv6 i.now result }
 {
     let (i, (len, next)) = front_v6(i)?;
     let (i, source) = address_v6(i)?;
     let (i, destination) = address_v6(i)?;
     let (i, content) = held_v6(i, len, next)?;
-    let datagram = Datagram {
+    let datagram = IpDatagram {
         source,
         destination,
         is_header_right: true,

@@ -4,7 +4,7 @@
 //! Each call parses one structure at the front of `i` and allocates nothing. Promise: it returns
 //! what a layout in `specs/` allows there, and nothing else. That is the value and the exact rest,
 //! the kind of the broken rule, or the exact count of missing bytes. The layouts are in `Pcap`,
-//! `Pcapng`, `Link`, `Vlan`, `Ip`, `Jumbo`, `Fragment`, `Transport`, `Options` and `Checksum`.
+//! `Pcapng`, `Link`, `Vlan`, `Ip`, `Jumbo`, `IpFragment`, `Transport`, `Options` and `Checksum`.
 #![tactic(auto, using(layouts::proofs::OneAnswerLemmas::read_allowed))]
 
 mod block_packet;
@@ -26,9 +26,9 @@ pub use block_packet::{
     BlockPacket, parse_enhanced_packet, parse_obsolete_packet, parse_simple_packet,
 };
 pub use checksum::Checksum;
-pub use fragment::{Fragment, parse_fragment_v4, parse_fragment_v6, parse_joined};
+pub use fragment::{IpFragment, parse_fragment_v4, parse_fragment_v6, parse_joined};
 pub use interface::{Interface, parse_interface};
-pub use ip::{Address, Datagram, parse_ipv4, parse_ipv6};
+pub use ip::{Address, IpDatagram, parse_ipv4, parse_ipv6};
 pub use link::{parse_link, parse_packet};
 pub use options::{maximum_segment_size, option_of, timestamp, window_scale};
 pub use order::{Order, number2_by, number4_by, number8_by};

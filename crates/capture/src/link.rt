@@ -13,7 +13,7 @@ ghost use Rattle.capture.specs.Link.{pppoe as pppoe_layout, network as network_l
 ghost use Rattle.capture.specs.Link.{family as type_of_family, type_of_ppp, is_vlan as is_vlan_type};
 ghost use Rattle.std.specs.Prelude.{◌≡◌};
 
-use crate::ip::{Datagram, parse_ipv4, parse_ipv6};
+use crate::ip::{IpDatagram, parse_ipv4, parse_ipv6};
 use crate::links::links;
 use layouts::{ErrorKind, IResult, InPlace, Items, block, number1, number2, number4, refused};
 
@@ -260,7 +260,7 @@ pub fn parse_link(i: &[u8], link_type: u16) -> IResult<&[u8], u16>
 
 /// Parses a datagram of this EtherType; `None` if it is neither IPv4 nor IPv6.
 #[tactic(auto, using(layouts::proofs::OneAnswerLemmas::read_allowed), unfolding(crate::specs::Link::datagram))]
-fn datagram(i: &[u8], kind: u16) -> IResult<&[u8], Option<Datagram>>
+fn datagram(i: &[u8], kind: u16) -> IResult<&[u8], Option<IpDatagram>>
     ensures { Gives view_packet (datagram_layout kind) i.now result }
 {
     match kind {
@@ -296,7 +296,7 @@ fn datagram(i: &[u8], kind: u16) -> IResult<&[u8], Option<Datagram>>
 ///   isn't 4 or 6.
 /// - What [`parse_ipv4`] and [`parse_ipv6`] refuse.
 #[tactic(auto, using(layouts::proofs::OneAnswerLemmas::read_allowed, layouts::proofs::OneAnswerLemmas::one_answer), unfolding(crate::specs::Link::packet))]
-pub fn parse_packet(i: &[u8], link_type: u16) -> IResult<&[u8], Option<Datagram>>
+pub fn parse_packet(i: &[u8], link_type: u16) -> IResult<&[u8], Option<IpDatagram>>
     ensures gives { Gives view_packet (packet link_type) i.now result }
     ensures only_one { AllowsOne (packet link_type) i.now }
 {

@@ -134,7 +134,8 @@ module _ (keys : HashKeys) (e : FiveTuple) (k : HashedEnds) (is : k ≡ hashed_e
         → IsHashed keys f.0
     IsHashed-lookup_entry [] h f found = cc
     IsHashed-lookup_entry (x ∷ xs) h f found =
-        (elim (test x.0) as (λ y. cond y (Some x) (lookup_entry test xs) ≡ Some f → IsHashed keys f.0) [
+        (elim (test x.0) as (λ y. cond y (Some x) (lookup_entry test xs) ≡ Some f
+        → IsHashed keys f.0) [
           | true ↦ λ at. let same : x ≡ f = cc in subst (λ g. IsHashed keys g.0) same h.0
           | false ↦ λ at. IsHashed-lookup_entry xs h.1 f at
         ]) found

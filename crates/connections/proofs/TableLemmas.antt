@@ -148,7 +148,12 @@ module _ {T : Type 0} (e : FiveTuple) (Takes : Option (Connection T) → Connect
   pub put_in : (x : Connection T) → Some x ≡ at e xs → Takes (Some x) its
       → IsPut e Takes xs (set_value (is_five_tuple e) (promoted (is_five_tuple e) xs) its)
   put_in x h t =
-      record { its = its; takes = subst (λ o. Takes o its) h t; stands = written e xs x its (sym h) }
+      record {
+        its = its;
+        takes = subst (λ o. Takes o its) h t;
+        stands =
+            written e xs x its (sym h);
+      }
 
   pub put_new : (ys : List (FiveTuple × Connection T)) → None ≡ at e xs → Takes None its
       → ys ≡ (e, its) ∷ others e xs

@@ -21,10 +21,10 @@ use Rattle.connections.specs.declared.dropped.Dropped.{Dropped}
 use Rattle.connections.specs.declared.host.Host.{Host}
 use Rattle.connections.specs.declared.receiver.Judgement.{Judgement}
 use Rattle.connections.specs.declared.receiver.Judgement.TheVariants as judgement
-use Rattle.connections.specs.declared.receiver.Reason.{Reason}
+use Rattle.connections.specs.declared.receiver.DropReason.{DropReason}
 use Rattle.connections.specs.declared.stream.Front.{Front}
 use Rattle.connections.specs.declared.stream.Stream.{Stream}
-use Rattle.connections.specs.declared.waiting.Waiting.{Waiting}
+use Rattle.connections.specs.declared.pending.PendingSegments.{PendingSegments}
 use Rattle.connections.specs.declared.traffic.Traffic.{Traffic}
 use Rattle.connections.specs.declared.connection.Beginning.{Beginning}
 use Rattle.connections.specs.declared.connection.Connection.{Connection}
@@ -166,8 +166,8 @@ lets_in v =
 
 module _ {T : Type 0} where
   -- A new connection.
-  abbrev pub silent : Protocol → End → End → ℕ → Waiting → T → Connection T
-  silent p originator responder time waiting listener = record {
+  abbrev pub silent : Protocol → End → End → ℕ → PendingSegments → T → Connection T
+  silent p originator responder time waiting attachment = record {
     protocol = p;
     originator = originator;
     responder = responder;
@@ -183,7 +183,7 @@ module _ {T : Type 0} where
     originator_dropped = none_dropped;
     responder_dropped = none_dropped;
     weight = 0;
-    listener = listener;
+    attachment = attachment;
   }
 
   abbrev pub NoneWaits : Connection T → Type 0
@@ -191,7 +191,7 @@ module _ {T : Type 0} where
 
   -- A new connection, at the first packet's ends and time, with any caller's value.
   abbrev pub IsBegunBy : Segment → Connection T → Type 0
-  IsBegunBy s c = (c ≡ silent Tcp (originator_of s) (responder_of s) s.time c.waiting c.listener)
+  IsBegunBy s c = (c ≡ silent Tcp (originator_of s) (responder_of s) s.time c.waiting c.attachment)
       × NoneWaits c
 
   abbrev pub side_of : Connection T → End → Side
@@ -278,7 +278,7 @@ module _ {T : Type 0} where
     responder_dropped = new.responder_dropped;
   }
 
-  abbrev pub dropped_from : Side → Reason → Connection T → Connection T
+  abbrev pub dropped_from : Side → DropReason → Connection T → Connection T
   dropped_from Originator r c =
       record c { originator_dropped = with_dropped r c.originator_dropped }
   dropped_from Responder r c = record c { responder_dropped = with_dropped r c.responder_dropped }
@@ -337,14 +337,14 @@ module _ {T : Type 0} where
 
   -- The stream of a SYN's sender begins behind it. Its data is pending.
   pub record PutsSyn (s : Segment) (old new : Connection T) : Type 0 where
-    pub waits : Waiting
+    pub waits : PendingSegments
     pub bare : Segment
     pub is_bare : IsWithoutData s bare
     pub puts : Puts bare (record old { waiting = waits }) new
 
   pub data LeavesOutSyn (s : Segment) (old : Connection T) : Connection T → Type 0 where
-    no_data : (waits : Waiting) → LeavesOutSyn s old (record old { waiting = waits })
-    nothing : (waits : Waiting) (bare : Segment) → IsWithoutData s bare
+    no_data : (waits : PendingSegments) → LeavesOutSyn s old (record old { waiting = waits })
+    nothing : (waits : PendingSegments) (bare : Segment) → IsWithoutData s bare
         → LeavesOutSyn s old (without_bytes bare (record old { waiting = waits }))
 
   -- A segment is counted, its sender's state updated, and its bytes added to its sender's stream;
@@ -409,9 +409,9 @@ module _ {T : Type 0} where
       d.checksum (length d.payload.now)
 
   -- An exchange that begins with a datagram, whose sender is the originator.
-  abbrev pub begun_by_datagram : Datagram → Waiting → T → Connection T
-  begun_by_datagram d waiting listener =
-      with_datagram d (silent Udp d.source d.destination d.time waiting listener)
+  abbrev pub begun_by_datagram : Datagram → PendingSegments → T → Connection T
+  begun_by_datagram d waiting attachment =
+      with_datagram d (silent Udp d.source d.destination d.time waiting attachment)
 
   -- How many bytes both its streams store.
   abbrev pub held_by : Connection T → ℕ
@@ -426,7 +426,7 @@ module _ {T : Type 0} where
   -- stays.
   pub record IsAnew (time : ℕ) (old new : Connection T) : Type 0 where
     pub is_silent : new
-        ≡ record (silent old.protocol old.originator old.responder time new.waiting new.listener) {
+        ≡ record (silent old.protocol old.originator old.responder time new.waiting new.attachment) {
           originator_dropped = with_damaged (damaged_of Originator old) none_dropped;
           responder_dropped = with_damaged (damaged_of Responder old) none_dropped;
           weight = old.weight;
@@ -436,10 +436,11 @@ module _ {T : Type 0} where
   -- Another exchange between the same ends, which a datagram begins. What is known about both ends'
   -- checksums stays.
   pub record IsAfter (d : Datagram) (old new : Connection T) : Type 0 where
-    pub is_silent : new ≡ record (silent Udp d.source d.destination d.time new.waiting new.listener) {
-      originator_host = host_after (hosts_from (side_of old d.source) old).0;
-      responder_host = host_after (hosts_from (side_of old d.source) old).1;
-    }
+    pub is_silent : new
+        ≡ record (silent Udp d.source d.destination d.time new.waiting new.attachment) {
+          originator_host = host_after (hosts_from (side_of old d.source) old).0;
+          responder_host = host_after (hosts_from (side_of old d.source) old).1;
+        }
     pub waits : NoneWaits new
 
   -- A datagram is counted. If it shows that everything before it was damaged, the exchange restarts

@@ -2,8 +2,8 @@
 use Rattle.std.specs.Prelude.{ℕ, ◌==◌, Bool, true, false, if◌then◌else◌}
 use Rattle.connections.specs.Traffic.{plus}
 use Rattle.connections.specs.declared.dropped.Dropped.{Dropped}
-use Rattle.connections.specs.declared.receiver.Reason.{Reason}
-use Rattle.connections.specs.declared.receiver.Reason.TheVariants.{Checksum, NoAck, Acknowledgment, Window, Clock, Signature, Syn, Reset, Fin}
+use Rattle.connections.specs.declared.receiver.DropReason.{DropReason}
+use Rattle.connections.specs.declared.receiver.DropReason.TheVariants.{Checksum, NoAck, Acknowledgment, Window, Clock, Signature, Syn, Reset, Fin}
 
 abbrev pub none_dropped : Dropped
 none_dropped = record {
@@ -19,7 +19,7 @@ none_dropped = record {
   fin = false;
 }
 
-abbrev pub has_reason : Dropped → Reason → Bool
+abbrev pub has_reason : Dropped → DropReason → Bool
 has_reason d Checksum = d.checksum
 has_reason d NoAck = d.no_ack
 has_reason d Acknowledgment = d.acknowledgment
@@ -30,7 +30,7 @@ has_reason d Syn = d.syn
 has_reason d Reset = d.reset
 has_reason d Fin = d.fin
 
-abbrev pub for_reason : Reason → Dropped → Dropped
+abbrev pub for_reason : DropReason → Dropped → Dropped
 for_reason Checksum d = record d { checksum = true }
 for_reason NoAck d = record d { no_ack = true }
 for_reason Acknowledgment d = record d { acknowledgment = true }
@@ -42,7 +42,7 @@ for_reason Reset d = record d { reset = true }
 for_reason Fin d = record d { fin = true }
 
 -- One more packet.
-abbrev pub with_dropped : Reason → Dropped → Dropped
+abbrev pub with_dropped : DropReason → Dropped → Dropped
 with_dropped r d = for_reason r (record d { packets = plus d.packets 1 })
 
 -- This many more packets with a wrong checksum.

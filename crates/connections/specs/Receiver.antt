@@ -10,10 +10,10 @@ use Rattle.connections.specs.declared.stream.Front.{Front}
 use Rattle.connections.specs.declared.stream.TheConstants.{HELD_LIMIT}
 use Rattle.connections.specs.declared.receiver.Judgement.{Judgement}
 use Rattle.connections.specs.declared.receiver.Judgement.TheVariants.{Taken, Again, Waiting, Dropped}
-use Rattle.connections.specs.declared.receiver.Reason.TheVariants as reason
+use Rattle.connections.specs.declared.receiver.DropReason.TheVariants as reason
 use Rattle.connections.specs.declared.segment.Checksum.{Checksum}
 use Rattle.connections.specs.declared.segment.Checksum.TheVariants.{Right, Partial, Wrong, Refused}
-use Rattle.connections.specs.declared.receiver.Reason.TheVariants.{NoAck, Acknowledgment, Window, Clock, Signature, Syn, Reset, Fin}
+use Rattle.connections.specs.declared.receiver.DropReason.TheVariants.{NoAck, Acknowledgment, Window, Clock, Signature, Syn, Reset, Fin}
 
 abbrev pub number_or : ℕ → Option ℕ → ℕ
 number_or n None = n

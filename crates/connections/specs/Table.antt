@@ -12,7 +12,7 @@ use Rattle.connections.specs.declared.five_tuple.FiveTuple.{FiveTuple}
 use Rattle.connections.specs.declared.segment.Header.{Header}
 use Rattle.connections.specs.declared.segment.Segment.{Segment}
 use Rattle.connections.specs.declared.connection.Connection.{Connection}
-use Rattle.connections.specs.declared.receiver.Reason.TheVariants as reason
+use Rattle.connections.specs.declared.receiver.DropReason.TheVariants as reason
 use Rattle.connections.specs.declared.connection.Beginning.{Beginning}
 use Rattle.connections.specs.declared.table.TheConstants.{IDLE_LIMIT, MAX_CONNECTIONS}
 
@@ -85,7 +85,7 @@ module _ {T : Type 0} where
   -- begins.
   abbrev pub TakesDatagram : Datagram → Option (Connection T) → Connection T → Type 0
   TakesDatagram d (Some c) its = TakesDatagramIn d c its
-  TakesDatagram d None its = (its ≡ begun_by_datagram d its.waiting its.listener) × NoneWaits its
+  TakesDatagram d None its = (its ≡ begun_by_datagram d its.waiting its.attachment) × NoneWaits its
 
   -- Another connection has this five-tuple, in the same position. All others stay.
   abbrev pub with_other : FiveTuple → Connection T → Table T → Table T

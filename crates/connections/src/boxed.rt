@@ -4,7 +4,7 @@ ghost use Rattle.std.specs.Borrow.{sem};
 ghost use Rattle.connections.specs.Connection.{Begins};
 ghost use Rattle.connections.specs.Lends.{lends_all};
 
-use crate::connection::{Beginning, Connection, Listener};
+use crate::connection::{Attachment, Beginning, Connection};
 use std::alloc::{AllocError, Global};
 use std::marker::Model;
 
@@ -23,7 +23,7 @@ impl<T> Model for Boxed<T> {
     ghost view = { λ b. b.block.value };
 }
 
-impl<T: Listener> Boxed<T> {
+impl<T: Attachment> Boxed<T> {
     /// Moves a connection to the heap. `AllocError` if there is no memory for it.
     #[inline(always)]
     pub(crate) fn new(alloc: Global, connection: Connection<T>) -> Result<Boxed<T>, AllocError>

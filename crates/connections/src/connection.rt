@@ -9,15 +9,15 @@ ghost use Rattle.connections.specs.Connection.{adds_nothing as adds_none, anothe
 use crate::dropped::Dropped;
 use crate::five_tuple::{End, Protocol};
 use crate::host::{Host, later};
-use crate::receiver::{Judgement, Reason, edge, is_behind_fin, is_beyond, is_known, judge};
+use crate::pending::{AckContext, PendingOutcome, PendingSegment, PendingSegments};
+use crate::receiver::{DropReason, Judgement, edge, is_behind_fin, is_beyond, is_known, judge};
 use crate::segment::{Checksum, Segment};
 use crate::stream::Stream;
 use crate::traffic::Traffic;
-use crate::waiting::{Kept, Known, Told, Waiting};
 use std::alloc::{AllocError, Global};
 
 /// A caller's value that goes with a connection.
-pub trait Listener: Drop {
+pub trait Attachment: Drop {
     /// Returns the value for a new connection.
     fn begin(alloc: Global, protocol: Protocol) -> Self;
 
@@ -54,7 +54,7 @@ pub struct Connection<T> {
     pub(crate) responder_host: Host,
     // Pending segments, for which the receiver's acknowledgements will show whether it took them;
     // and SYNs, with which another connection between the same ends may begin.
-    waiting: Waiting,
+    waiting: PendingSegments,
     /// The originator's TCP stream.
     pub from_originator: Stream,
     /// The responder's TCP stream.
@@ -70,7 +70,7 @@ pub struct Connection<T> {
     // The memory that the table accounts for it, in bytes.
     pub(crate) weight: usize,
     /// The caller's value.
-    pub listener: T,
+    pub attachment: T,
 }
 
 /// The segments with which a connection began: the SYN and the SYN-ACK, or the one of them that was
@@ -83,7 +83,7 @@ pub(crate) struct Beginning {
     pub(crate) answer: Option<Segment<'static>>,
 }
 
-/// An upper bound for a connection's memory besides its listener and its buffers, in bytes: its
+/// An upper bound for a connection's memory besides its attachment and its buffers, in bytes: its
 /// fields, its table entry with a share of a growing map, and the allocator's overhead for both.
 pub const CONNECTION_COST: usize = 1024;
 
@@ -156,7 +156,7 @@ fn confirms(segment: &Segment<'_>, answering: &Segment<'_>) -> bool
         && segment.acknowledgment == answering.first()
 }
 
-impl<T: Listener> Connection<T> {
+impl<T: Attachment> Connection<T> {
     /// Returns a new connection between these ends.
     pub(crate) fn new(
         alloc: Global,
@@ -165,7 +165,7 @@ impl<T: Listener> Connection<T> {
         responder: End,
         time: u64,
     ) -> Connection<T>
-        ensures begun { result ≡ silent protocol originator responder time result.waiting result.listener }
+        ensures begun { result ≡ silent protocol originator responder time result.waiting result.attachment }
         ensures waits { NoneWaits result }
     {
         Connection {
@@ -176,7 +176,7 @@ impl<T: Listener> Connection<T> {
             last_time: time,
             originator_host: Host::new(),
             responder_host: Host::new(),
-            waiting: Waiting::new(alloc),
+            waiting: PendingSegments::new(alloc),
             from_originator: Stream::new(),
             from_responder: Stream::new(),
             originator_sent: Traffic::new(),
@@ -184,7 +184,7 @@ impl<T: Listener> Connection<T> {
             originator_dropped: Dropped::new(),
             responder_dropped: Dropped::new(),
             weight: 0,
-            listener: T::begin(alloc, protocol),
+            attachment: T::begin(alloc, protocol),
         }
     }
 
@@ -416,7 +416,7 @@ impl<T: Listener> Connection<T> {
     }
 
     /// Counts a packet that its receiver drops.
-    pub(crate) fn count_dropped(&mut self, side: Side, reason: Reason)
+    pub(crate) fn count_dropped(&mut self, side: Side, reason: DropReason)
         ensures { self.new ≡ dropped_from side reason self.old }
     {
         match side {
@@ -431,12 +431,12 @@ impl<T: Listener> Connection<T> {
         &mut self,
         alloc: Global,
         segment: &Segment<'_>,
-        reason: Reason,
+        reason: DropReason,
     ) -> Result<(), AllocError>
         ensures changes { ChangesCountsAlone self.old self.new }
         ensures counted { DropsIn segment.now reason self.old self.new }
     {
-        let may_begin = segment.begins() && reason != Reason::Checksum;
+        let may_begin = segment.begins() && reason != DropReason::Checksum;
         if may_begin && self.is_apart(segment) {
             if let Some(earlier) = self.waiting.take_syn(segment.answers()) {
                 self.count_dropped(self.side_of(earlier.segment().source), reason);
@@ -453,7 +453,7 @@ impl<T: Listener> Connection<T> {
         &mut self,
         alloc: Global,
         segment: &Segment<'_>,
-        reason: Reason,
+        reason: DropReason,
     ) -> Result<(), AllocError>
         ensures { ChangesCountsAlone self.old self.new }
     {
@@ -490,9 +490,9 @@ impl<T: Listener> Connection<T> {
     }
 
     /// Returns what is known when a segment arrives that may acknowledge pending ones.
-    fn known_at(&self, segment: &Segment<'_>) -> Known {
+    fn known_at(&self, segment: &Segment<'_>) -> AckContext {
         let (sender, receiver) = self.hosts(segment);
-        Known {
+        AckContext {
             sent: receiver.next,
             reached: self.reached_at(segment),
             fin: receiver.fin,
@@ -524,7 +524,7 @@ impl<T: Listener> Connection<T> {
 
     /// Removes a pending segment that this segment acknowledges, and returns it. If all its bytes
     /// arrived otherwise, it counts as dropped.
-    pub(crate) fn take_waiting(&mut self, segment: &Segment<'_>) -> Option<Told>
+    pub(crate) fn take_pending(&mut self, segment: &Segment<'_>) -> Option<PendingOutcome>
         ensures { ChangesCountsAlone self.old self.new }
     {
         if self.judge(segment) == Judgement::Taken {
@@ -537,16 +537,16 @@ impl<T: Listener> Connection<T> {
         };
         let side = self.side_of(kept.segment().source);
         if self.lacks(&kept) {
-            return Some(Told::Taken(kept));
+            return Some(PendingOutcome::Taken(kept));
         }
         if let Some(reason) = kept.reason() {
             self.count_dropped(side, reason);
         }
-        Some(Told::Had)
+        Some(PendingOutcome::Had)
     }
 
     /// Returns whether bytes of a pending segment are missing in its sender's stream, before a FIN.
-    fn lacks(&self, kept: &Kept) -> bool {
+    fn lacks(&self, kept: &PendingSegment) -> bool {
         let segment = kept.segment();
         self.stream(self.side_of(segment.source))
             .lacks(segment.end())
@@ -659,7 +659,7 @@ impl<T: Listener> Connection<T> {
     /// Accepts the segment, as [`Connection::accept`] does, if its receiver takes or already has it
     /// and nothing has to be done first. Otherwise the connection doesn't change, and `Some` is the
     /// segment's verdict.
-    pub fn accept_or_tell(
+    pub fn accept_or_judge(
         &mut self,
         alloc: Global,
         segment: &Segment<'_>,
@@ -745,7 +745,11 @@ impl<T: Listener> Connection<T> {
     }
 
     /// Adds a pending segment to its sender's stream. A SYN's data was counted with the SYN.
-    pub(crate) fn accept_kept(&mut self, alloc: Global, kept: &Kept) -> Result<(), AllocError>
+    pub(crate) fn accept_pending(
+        &mut self,
+        alloc: Global,
+        kept: &PendingSegment,
+    ) -> Result<(), AllocError>
         ensures { self.new.weight ≡ self.old.weight }
     {
         self.forget_belied(&kept.segment());
@@ -766,7 +770,7 @@ impl<T: Listener> Connection<T> {
         let others = self
             .waiting
             .capacity()
-            .saturating_add(self.listener.capacity())
+            .saturating_add(self.attachment.capacity())
             .saturating_add(CONNECTION_COST);
         streams.saturating_add(others)
     }

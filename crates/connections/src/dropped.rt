@@ -2,7 +2,7 @@
 ghost use Rattle.std.specs.Prelude.{◌≡◌};
 ghost use Rattle.connections.specs.Dropped.{none_dropped, has_reason, with_damaged, with_dropped};
 
-use crate::receiver::Reason;
+use crate::receiver::DropReason;
 
 /// How many packets of a side its receiver dropped, and why.
 #[derive(Clone, Copy, Debug, PartialEq, Eq)]
@@ -40,20 +40,20 @@ impl Dropped {
     }
 
     /// Counts one packet, dropped for this reason.
-    pub(crate) fn add(&mut self, reason: Reason)
+    pub(crate) fn add(&mut self, reason: DropReason)
         ensures { self.new ≡ with_dropped reason self.old }
     {
         self.packets = self.packets.saturating_add(1);
         match reason {
-            Reason::Checksum => self.checksum = true,
-            Reason::NoAck => self.no_ack = true,
-            Reason::Acknowledgment => self.acknowledgment = true,
-            Reason::Window => self.window = true,
-            Reason::Clock => self.clock = true,
-            Reason::Signature => self.signature = true,
-            Reason::Syn => self.syn = true,
-            Reason::Reset => self.reset = true,
-            Reason::Fin => self.fin = true,
+            DropReason::Checksum => self.checksum = true,
+            DropReason::NoAck => self.no_ack = true,
+            DropReason::Acknowledgment => self.acknowledgment = true,
+            DropReason::Window => self.window = true,
+            DropReason::Clock => self.clock = true,
+            DropReason::Signature => self.signature = true,
+            DropReason::Syn => self.syn = true,
+            DropReason::Reset => self.reset = true,
+            DropReason::Fin => self.fin = true,
         }
     }
 
@@ -68,19 +68,19 @@ impl Dropped {
     }
 
     /// Returns whether a packet was dropped for this reason.
-    pub fn has(&self, reason: Reason) -> bool
+    pub fn has(&self, reason: DropReason) -> bool
         ensures { result ≡ has_reason self.now reason }
     {
         match reason {
-            Reason::Checksum => self.checksum,
-            Reason::NoAck => self.no_ack,
-            Reason::Acknowledgment => self.acknowledgment,
-            Reason::Window => self.window,
-            Reason::Clock => self.clock,
-            Reason::Signature => self.signature,
-            Reason::Syn => self.syn,
-            Reason::Reset => self.reset,
-            Reason::Fin => self.fin,
+            DropReason::Checksum => self.checksum,
+            DropReason::NoAck => self.no_ack,
+            DropReason::Acknowledgment => self.acknowledgment,
+            DropReason::Window => self.window,
+            DropReason::Clock => self.clock,
+            DropReason::Signature => self.signature,
+            DropReason::Syn => self.syn,
+            DropReason::Reset => self.reset,
+            DropReason::Fin => self.fin,
         }
     }
 }

@@ -1,19 +1,19 @@
 //! UDP exchanges: connections whose packets have no sequence numbers.
 ghost use Rattle.std.specs.Prelude.{◌≡◌};
-ghost use Rattle.connections.specs.declared.receiver.Reason.TheVariants as reason;
+ghost use Rattle.connections.specs.declared.receiver.DropReason.TheVariants as reason;
 ghost use Rattle.connections.specs.Connection.{begun_by_datagram, dropped_from, is_datagram_damaged, side_of, with_datagram, IsAfter, NoneWaits, TakesDatagramIn};
 
-use crate::connection::{Connection, Listener, Side};
+use crate::connection::{Attachment, Connection, Side};
 use crate::datagram::Datagram;
 use crate::five_tuple::Protocol;
 use crate::host::Host;
-use crate::receiver::{Reason, is_damaged};
+use crate::receiver::{DropReason, is_damaged};
 use std::alloc::Global;
 
-impl<T: Listener> Connection<T> {
+impl<T: Attachment> Connection<T> {
     /// Returns an exchange that begins with this datagram.
     pub(crate) fn of_datagram(alloc: Global, datagram: &Datagram<'_>) -> Connection<T>
-        ensures begun { result ≡ begun_by_datagram datagram.now result.waiting result.listener }
+        ensures begun { result ≡ begun_by_datagram datagram.now result.waiting result.attachment }
         ensures waits { NoneWaits result }
         ensures weight { result.weight ≡ 0 }
     {
@@ -59,7 +59,7 @@ impl<T: Listener> Connection<T> {
         ensures { self.new ≡ dropped_from (side_of self.old datagram.now.source)
             reason.Checksum self.old }
     {
-        self.count_dropped(self.side_of(datagram.source), Reason::Checksum);
+        self.count_dropped(self.side_of(datagram.source), DropReason::Checksum);
     }
 
     /// Counts the datagram, and notes its time.

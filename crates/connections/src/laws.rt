@@ -73,7 +73,7 @@ pub fn dropped_packets_change_nothing_that_is_heard<T>()
         → judgement_of s new ≡ judgement_of s old }
     ensures streams { (side : Side) (old new : Connection T) → ChangesCountsAlone old new
         → stream_of side new ≡ stream_of side old }
-    ensures listener { (old new : Connection T) → ChangesCountsAlone old new → new.listener ≡ old.listener }
+    ensures attachment { (old new : Connection T) → ChangesCountsAlone old new → new.attachment ≡ old.attachment }
     ensures many { (old mid new : Connection T) → ChangesCountsAlone old mid
         → ChangesCountsAlone mid new → ChangesCountsAlone old new }
 {}

@@ -2,10 +2,11 @@
 //!
 //! [`Connections`] is a table by protocol and both ends. Each [`Segment`] goes to its connection,
 //! where it is reassembled in its direction's stream ([`Stream`]) as its receiver would. In-order
-//! data can be read, and a caller's value ([`Listener`]) goes with the connection. A TCP connection
-//! ends by both sides' FINs, an RST, a new SYN, after [`IDLE_LIMIT`] without packets, or with the
-//! capture. A [`Datagram`] goes to the exchange between its ends, which ends after [`IDLE_LIMIT`]
-//! without packets, or with the capture. [`Traffic`] and [`Dropped`] count what each side sent.
+//! data can be read, and a caller's value ([`Attachment`]) goes with the connection. A TCP
+//! connection ends by both sides' FINs, an RST, a new SYN, after [`IDLE_LIMIT`] without packets, or
+//! with the capture. A [`Datagram`] goes to the exchange between its ends, which ends after
+//! [`IDLE_LIMIT`] without packets, or with the capture. [`Traffic`] and [`Dropped`] count what each
+//! side sent.
 //!
 //! Promise: `Receiver.judge` in `specs/` defines what a receiver does with a segment, `Stream`
 //! which bytes a stream has, `Connection` and `Table` what each call changes, and `Memory` how the
@@ -24,15 +25,15 @@ mod host;
 mod laws;
 mod memory;
 mod numbers;
+mod pending;
 mod receiver;
 mod segment;
 mod stream;
 mod table;
 mod traffic;
-mod waiting;
 mod words;
 
-pub use connection::{CONNECTION_COST, Connection, Listener, Side, Verdict};
+pub use connection::{Attachment, CONNECTION_COST, Connection, Side, Verdict};
 pub use datagram::Datagram;
 pub use dropped::Dropped;
 pub use five_tuple::{End, FiveTuple, Protocol};
@@ -42,9 +43,9 @@ pub use laws::{
     no_other_packets_have_these_ends, the_next_number_is_that_of_what_is_held,
     what_stands_under_other_ends_stays,
 };
-pub use receiver::{Judgement, Reason, judge};
+pub use pending::{MAX_PENDING, PendingOutcome, PendingSegment};
+pub use receiver::{DropReason, Judgement, judge};
 pub use segment::{Checksum, Options, Segment};
 pub use stream::{Front, HELD_LIMIT, Stream};
 pub use table::{CLOSED_COST, CLOSED_SHARE, Connections, IDLE_LIMIT, MAX_CONNECTIONS};
 pub use traffic::Traffic;
-pub use waiting::{Kept, MAX_WAITING, Told};

@@ -5,7 +5,7 @@ ghost use Rattle.connections.specs.Table.{at, others};
 ghost use Rattle.connections.specs.Memory.{closed_count, closed_part, is_crowded as crowded, open_part, total, FitsClosed, IsAccounted, IsSettled, IsTakenOut};
 
 use crate::by_five_tuple::ByFiveTuple;
-use crate::connection::{Connection, Listener};
+use crate::connection::{Attachment, Connection};
 use crate::five_tuple::FiveTuple;
 use crate::table::{CLOSED_COST, CLOSED_SHARE, Connections};
 
@@ -44,7 +44,7 @@ fn forget_crowded(closed: &mut ByFiveTuple<u64>, limit: usize)
     }
 }
 
-impl<T: Listener> Connections<T> {
+impl<T: Attachment> Connections<T> {
     /// Returns the memory that is accounted for the open connections, in bytes.
     pub fn held(&self) -> usize
         ensures { result ≡ self.now.held }
@@ -91,7 +91,7 @@ impl<T: Listener> Connections<T> {
         if self.held <= part_of_open(limit) {
             return None;
         }
-        self.take_left()
+        self.take_remaining()
     }
 
     /// Removes and returns the connection of a five-tuple.

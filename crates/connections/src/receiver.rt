@@ -16,7 +16,7 @@ const MAX_WINDOW: u32 = 0xffff;
 
 /// Why a receiver drops a packet.
 #[derive(Clone, Copy, Debug, PartialEq, Eq)]
-pub enum Reason {
+pub enum DropReason {
     /// A checksum is wrong.
     Checksum,
     /// The segment has no ACK (RFC 9293, section 3.10.7.4, fifth).
@@ -47,9 +47,9 @@ pub enum Judgement {
     Again,
     /// It takes the segment if it knows more than was captured, and else drops it for this reason.
     /// Its next acknowledgement shows which.
-    Waiting(Reason),
+    Waiting(DropReason),
     /// It drops the segment.
-    Dropped(Reason),
+    Dropped(DropReason),
 }
 
 /// Returns whether a known number is more than `least` ahead of another.
@@ -200,23 +200,23 @@ fn judge_data(sender: &Host, receiver: &Host, front: Front, segment: &Segment<'_
     ensures { result ≡ judged_data sender.now receiver.now front segment.now }
 {
     if is_behind_fin(sender, segment) {
-        return Judgement::Dropped(Reason::Fin);
+        return Judgement::Dropped(DropReason::Fin);
     }
     if is_known(sender, receiver, segment) {
         return Judgement::Again;
     }
     if is_stale(sender, receiver, segment) {
-        return Judgement::Dropped(Reason::Acknowledgment);
+        return Judgement::Dropped(DropReason::Acknowledgment);
     }
     if is_of_unsent(receiver, segment) {
         return if segment.takes_numbers() {
-            Judgement::Waiting(Reason::Acknowledgment)
+            Judgement::Waiting(DropReason::Acknowledgment)
         } else {
             Judgement::Again
         };
     }
     if segment.has_data() && is_past_edge(sender, receiver, front, segment) {
-        return Judgement::Waiting(Reason::Window);
+        return Judgement::Waiting(DropReason::Window);
     }
     Judgement::Taken
 }
@@ -226,22 +226,22 @@ fn judge_open(sender: &Host, receiver: &Host, front: Front, segment: &Segment<'_
     ensures { result ≡ judged_open sender.now receiver.now front segment.now }
 {
     if !segment.acknowledges() {
-        return Judgement::Dropped(Reason::NoAck);
+        return Judgement::Dropped(DropReason::NoAck);
     }
     if is_signed_apart(sender, segment) {
-        return Judgement::Dropped(Reason::Signature);
+        return Judgement::Dropped(DropReason::Signature);
     }
     if has_old_clock(sender, receiver, segment) {
-        return Judgement::Dropped(Reason::Clock);
+        return Judgement::Dropped(DropReason::Clock);
     }
     if is_far_before(sender, receiver, segment) {
-        return Judgement::Dropped(Reason::Window);
+        return Judgement::Dropped(DropReason::Window);
     }
     if is_beyond(edge(sender, receiver), segment) {
         return if segment.has_data() {
-            Judgement::Waiting(Reason::Window)
+            Judgement::Waiting(DropReason::Window)
         } else {
-            Judgement::Dropped(Reason::Window)
+            Judgement::Dropped(DropReason::Window)
         };
     }
     judge_data(sender, receiver, front, segment)
@@ -279,10 +279,10 @@ fn judge_first_syn(sender: &Host, receiver: &Host, segment: &Segment<'_>) -> Jud
         None => sender.next.is_some() || (receiver.next.is_some() && !segment.answers()),
     };
     if is_late {
-        return Judgement::Dropped(Reason::Syn);
+        return Judgement::Dropped(DropReason::Syn);
     }
     if segment.answers() && !answers_to(receiver, segment) {
-        return Judgement::Dropped(Reason::Acknowledgment);
+        return Judgement::Dropped(DropReason::Acknowledgment);
     }
     Judgement::Taken
 }
@@ -293,7 +293,7 @@ fn judge_syn_again(sender: &Host, receiver: &Host, segment: &Segment<'_>) -> Jud
     ensures { result ≡ judged_syn_again sender.now receiver.now segment.now }
 {
     if sender.is_open || receiver.is_open {
-        return Judgement::Dropped(Reason::Syn);
+        return Judgement::Dropped(DropReason::Syn);
     }
     if segment.answers() && sender.acknowledged.is_none() {
         return Judgement::Taken;
@@ -308,7 +308,7 @@ fn judge_syn(sender: &Host, receiver: &Host, segment: &Segment<'_>) -> Judgement
     match sender.first {
         None => judge_first_syn(sender, receiver, segment),
         Some(first) if segment.first() == first => judge_syn_again(sender, receiver, segment),
-        Some(_) => Judgement::Dropped(Reason::Syn),
+        Some(_) => Judgement::Dropped(DropReason::Syn),
     }
 }
 
@@ -322,13 +322,13 @@ pub fn judge(sender: &Host, receiver: &Host, front: Front, segment: &Segment<'_>
     ensures { result ≡ judged sender.now receiver.now front segment.now }
 {
     if is_damaged(sender, receiver, segment.checksum, segment.payload.len()) {
-        return Judgement::Dropped(Reason::Checksum);
+        return Judgement::Dropped(DropReason::Checksum);
     }
     if segment.breaks() {
         return if takes_reset(sender, receiver, front, segment) {
             Judgement::Taken
         } else {
-            Judgement::Dropped(Reason::Reset)
+            Judgement::Dropped(DropReason::Reset)
         };
     }
     if segment.begins() {

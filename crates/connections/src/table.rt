@@ -11,12 +11,12 @@ ghost use Rattle.connections.specs.Lends.{lends_connection, lends_first};
 
 use crate::boxed::Boxed;
 use crate::by_five_tuple::ByFiveTuple;
-use crate::connection::{Connection, Listener};
+use crate::connection::{Attachment, Connection};
 use crate::datagram::Datagram;
 use crate::five_tuple::FiveTuple;
-use crate::receiver::Reason;
+use crate::pending::{PendingOutcome, PendingSegment};
+use crate::receiver::DropReason;
 use crate::segment::Segment;
-use crate::waiting::{Kept, Told};
 use std::alloc::{AllocError, Global};
 use std::hash::RandomState;
 use std::marker::Model;
@@ -99,7 +99,7 @@ fn forget_idle(closed: &mut ByFiveTuple<u64>, time: u64)
     }
 }
 
-impl<T: Listener> Connections<T> {
+impl<T: Attachment> Connections<T> {
     /// Returns an empty table. `keys` keys its hashes, so that nobody without the keys can choose
     /// five-tuples whose hashes collide.
     pub fn new(alloc: Global, keys: RandomState) -> Result<Connections<T>, AllocError>
@@ -118,7 +118,11 @@ impl<T: Listener> Connections<T> {
     /// it.
     ///
     /// `AllocError` if there is no memory for it.
-    pub fn drop_segment(&mut self, segment: &Segment<'_>, reason: Reason) -> Result<(), AllocError>
+    pub fn drop_segment(
+        &mut self,
+        segment: &Segment<'_>,
+        reason: DropReason,
+    ) -> Result<(), AllocError>
         ensures drops { Drops segment.now self.old self.new }
         ensures counted { Counts segment.now reason self.old self.new }
         ensures accounted { IsAccounted self.old → IsAccounted self.new }
@@ -144,10 +148,10 @@ impl<T: Listener> Connections<T> {
     }
 
     /// Keeps a segment as pending in its connection, until its receiver shows whether it took it.
-    /// If more than [`MAX_WAITING`] are pending, it counts as dropped for this reason.
+    /// If more than [`MAX_PENDING`] are pending, it counts as dropped for this reason.
     ///
     /// `AllocError` if there is no memory for it.
-    pub fn wait(&mut self, segment: &Segment<'_>, reason: Reason) -> Result<(), AllocError>
+    pub fn wait(&mut self, segment: &Segment<'_>, reason: DropReason) -> Result<(), AllocError>
         ensures drops { Drops segment.now self.old self.new }
         ensures accounted { IsAccounted self.old → IsAccounted self.new }
     {
@@ -162,13 +166,13 @@ impl<T: Listener> Connections<T> {
     /// arrived otherwise counts as dropped.
     ///
     /// Call it before this segment is accepted, until it returns `None`.
-    pub fn take_waiting(&mut self, segment: &Segment<'_>) -> Option<Told>
+    pub fn take_pending(&mut self, segment: &Segment<'_>) -> Option<PendingOutcome>
         ensures drops { Drops segment.now self.old self.new }
         ensures accounted { IsAccounted self.old → IsAccounted self.new }
     {
         let five_tuple = segment.between();
         if let Some(connection) = self.live.peek_mut(&five_tuple) {
-            return connection.get_mut().take_waiting(segment);
+            return connection.get_mut().take_pending(segment);
         }
         None
     }
@@ -176,12 +180,12 @@ impl<T: Listener> Connections<T> {
     /// Adds a pending segment to its connection's stream.
     ///
     /// `AllocError` if there is no memory for its bytes. They are left out then.
-    pub fn accept_kept(&mut self, kept: &Kept) -> Result<(), AllocError>
+    pub fn accept_pending(&mut self, kept: &PendingSegment) -> Result<(), AllocError>
         ensures { IsAccounted self.old → IsAccounted self.new }
     {
         let (alloc, five_tuple) = (self.alloc, kept.segment().between());
         if let Some(connection) = self.live.get_mut(&five_tuple) {
-            return connection.get_mut().accept_kept(alloc, kept);
+            return connection.get_mut().accept_pending(alloc, kept);
         }
         Ok(())
     }
@@ -425,7 +429,7 @@ impl<T: Listener> Connections<T> {
 
     /// Removes and returns the longest-idle of the remaining connections. At the end of the
     /// capture, call it until it returns `None`.
-    pub fn take_left(&mut self) -> Option<Box<Connection<T>>>
+    pub fn take_remaining(&mut self) -> Option<Box<Connection<T>>>
         ensures taken { IfSome result (λ b. WasLast self.old.live self.new.live b.value) }
         ensures none { IfNone result (self.old.live ≡ []) }
         ensures same { IfNone result (self.new ≡ self.old) }

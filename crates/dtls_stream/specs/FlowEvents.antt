@@ -3,7 +3,7 @@ use Rattle.std.specs.Prelude.{Option, Some, None}
 use Rattle.dtls_stream.specs.Messages as datagrams
 use Rattle.tls_flow.specs.Bytes.{HandshakeMessage, datagram_message, kind_of_datagrams}
 use Rattle.tls_flow.specs.Events.{of_alert, plain}
-use Rattle.tls_flow.specs.declared.event.Event.{Event}
+use Rattle.tls_flow.specs.declared.event.FlowEvent.{FlowEvent}
 use Rattle.tls_flow.specs.declared.symbol.Kind.{Kind}
 use Rattle.tls_flow.specs.declared.symbol.Kind.TheVariants as kind
 use Rattle.tls_flow.specs.declared.symbol.Direction.{Direction as Side}
@@ -11,7 +11,7 @@ use Rattle.tls_flow.specs.declared.symbol.Direction.{Direction as Side}
 -- The flow event, where k is the kind of a handshake message. What a peer drops is no event: a
 -- record, or the rest of one, that can't be parsed (RFC 6347, section 4.1.2.7), and a refused
 -- fragment, such as one of a retransmitted message (section 4.2.4).
-abbrev pub event_in_datagram_with : Side → datagrams.Event → Kind → Option Event
+abbrev pub event_in_datagram_with : Side → datagrams.Event → Kind → Option FlowEvent
 event_in_datagram_with s (datagrams.Handshake m) k = Some (plain k s)
 event_in_datagram_with s datagrams.ChangeCipherSpec k = Some (plain kind.ChangeCipherSpec s)
 event_in_datagram_with s (datagrams.Alert a) k = Some (of_alert a s)
@@ -27,5 +27,5 @@ message_in_datagram e = None
 abbrev pub kind_in_datagram : datagrams.Event → Kind
 kind_in_datagram e = kind_of_datagrams (message_in_datagram e)
 
-abbrev pub event_in_datagram : Side → datagrams.Event → Option Event
+abbrev pub event_in_datagram : Side → datagrams.Event → Option FlowEvent
 event_in_datagram s e = event_in_datagram_with s e (kind_in_datagram e)

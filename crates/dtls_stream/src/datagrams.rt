@@ -5,7 +5,7 @@ ghost use Rattle.dtls_stream.specs.Datagrams.{IsDatagramCut, IsStep, datagram as
 
 use crate::event::Event;
 use crate::messages::{Limits, Messages};
-use crate::records::{hear_record, read_record, tell_unread};
+use crate::records::{read_record, read_record_events, tell_unread};
 use layouts::OutOfMemory;
 use std::alloc::Global;
 
@@ -38,7 +38,7 @@ pub fn read_datagram<'a>(
     'records: for taken in 0..datagram.len() {
         match read_record(left) {
             Ok((rest, raw)) => {
-                hear_record(alloc, raw, messages, events)?;
+                read_record_events(alloc, raw, messages, events)?;
                 left = rest;
             }
             Err(error) => return tell_unread(left, error, events),

@@ -6,7 +6,7 @@ ghost use Rattle.dtls_stream.specs.Messages.{view_event};
 ghost use Rattle.dtls_stream.specs.FlowEvents.{event_in_datagram, event_in_datagram_with, message_in_datagram};
 
 use crate::event::Event;
-use tls_flow::{Direction, Event as FlowEvent, HandshakeMessage, Kind};
+use tls_flow::{Direction, FlowEvent, HandshakeMessage, Kind};
 
 /// The handshake message of an event, with its ServerHello parsed; `None` if the event is another
 /// one.

@@ -40,5 +40,5 @@ pub use flow_event::{datagram_message, dtls_event, dtls_event_with};
 pub use fragments::{Fragment, FragmentError, Fragments, parse_dtls_fragment};
 pub use messages::{DEFAULT_LIMITS, Limits, Messages};
 pub use read::{read_all, read_fragments};
-pub use records::{fragment_of, hear_record, read_record};
+pub use records::{fragment_of, read_record, read_record_events};
 pub use tls_records::MAX_ENCRYPTED_LEN;

@@ -222,7 +222,7 @@ fn read_handshake(
 ///
 /// `OutOfMemory` if there is no memory for a fragment or an event, as in
 /// [`read_datagram`](crate::read_datagram).
-pub fn hear_record<'a>(
+pub fn read_record_events<'a>(
     alloc: Global,
     raw: DTLSRawRecord<'a>,
     messages: &mut Messages,

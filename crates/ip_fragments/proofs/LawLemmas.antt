@@ -2,7 +2,7 @@
 use Rattle.std.proofs.Common.{◌≡◌, ℕ, zero, suc, ◌+◌, ◌-◌, ◌<◌, ◌≤◌, ◌==◌, ◌||◌, ◌&&◌, not, max, List, [], ◌∷◌, ◌++◌, length}
 use Rattle.std.proofs.Common.{Option, Some, None, is_some, Bool, true, false, ltb, refl, sym, ◌∙◌, ap, subst, arith}
 use Rattle.std.proofs.Common.{eqb-true, ltb-false, length-append}
-use Rattle.capture.specs.declared.fragment.Fragment.{Fragment}
+use Rattle.capture.specs.declared.fragment.IpFragment.{IpFragment}
 use Rattle.segments.specs.Cells.{Bytes, Cells, byte_at, cell, earlier, run}
 use Rattle.segments.specs.Law.{IsPart}
 use Rattle.segments.proofs.LawLemmas.{part_byte}
@@ -10,7 +10,7 @@ use Rattle.ip_fragments.specs.Waiting.{Waiting, end_of, given}
 use Rattle.ip_fragments.specs.Law.{AreOf, IsAfter, IsOut, first_at}
 
 -- Each offset has the byte that arrived first.
-cells_first : (time : ℕ) (fs : List Fragment) (w : Waiting) → IsAfter time fs w → (i : ℕ)
+cells_first : (time : ℕ) (fs : List IpFragment) (w : Waiting) → IsAfter time fs w → (i : ℕ)
     → cell w.cells i ≡ first_at fs i
 cells_first time [] w is i = ap (λ v. cell v.cells i) is
 cells_first time (f ∷ fs) w is i =
@@ -22,7 +22,7 @@ run_cell (None ∷ cs) i low = absurd (omega (arith, low))
 run_cell (Some x ∷ cs) zero low = refl
 run_cell (Some x ∷ cs) (suc i) low = run_cell cs i (omega (arith, low))
 
-pub out_first : (fs : List Fragment) (out : Bytes) → IsOut fs out → (i : ℕ) → i < length out
+pub out_first : (fs : List IpFragment) (out : Bytes) → IsOut fs out → (i : ℕ) → i < length out
     → byte_at out i ≡ first_at fs i
 out_first fs out o i low =
     let w = o.1.0 in
@@ -31,7 +31,7 @@ out_first fs out o i low =
     ∙ cells_first o.0 fs w o.1.1 i
 
 -- A fragment's bytes are those of the datagram.
-given_of : (d : Bytes) (f : Fragment) (i y : ℕ) → IsPart d f.offset f.payload.now
+given_of : (d : Bytes) (f : IpFragment) (i y : ℕ) → IsPart d f.offset f.payload.now
     → given f i ≡ Some y → byte_at d i ≡ Some y
 given_of d f i y part told = go (ltb i f.offset) refl
   where
@@ -44,7 +44,7 @@ given_of d f i y part told = go (ltb i f.offset) refl
         subst (λ k. byte_at d k ≡ Some y) same
         (part_byte d f.offset f.payload.now (i - f.offset) y part there)
 
-first_of : (d : Bytes) (fs : List Fragment) (i y : ℕ) → AreOf d fs → first_at fs i ≡ Some y
+first_of : (d : Bytes) (fs : List IpFragment) (i y : ℕ) → AreOf d fs → first_at fs i ≡ Some y
     → byte_at d i ≡ Some y
 first_of d [] i y parts told = absurd cc
 first_of d (f ∷ fs) i y parts told = go (first_at fs i) refl (first_of d fs i y parts.2)
@@ -86,7 +86,7 @@ max_left a b n q e = omega (arith, q, e)
 max_right : (a b n : ℕ) → a ≤ n → b ≡ n → max a b ≡ n
 max_right a b n p e = omega (arith, p, e)
 
-reach_low : (time : ℕ) (d : Bytes) (fs : List Fragment) (w : Waiting) → IsAfter time fs w
+reach_low : (time : ℕ) (d : Bytes) (fs : List IpFragment) (w : Waiting) → IsAfter time fs w
     → AreOf d fs → w.reach ≤ length d
 reach_low time d [] w after parts = let none : w.reach ≡ 0 = ap (λ v. v.reach) after in
     omega (arith, none)
@@ -101,7 +101,7 @@ still_ended true m h g = refl
 still_ended false true h g = h
 still_ended false false h g = absurd cc
 
-reach_whole : (time : ℕ) (d : Bytes) (fs : List Fragment) (w : Waiting) → IsAfter time fs w
+reach_whole : (time : ℕ) (d : Bytes) (fs : List IpFragment) (w : Waiting) → IsAfter time fs w
     → AreOf d fs → w.is_ended ≡ true
     → w.reach ≡ length d
 reach_whole time d [] w after parts ended = let none : w.is_ended ≡ false =
@@ -124,7 +124,7 @@ both : (a b : Bool) → (a && b) ≡ true → (a ≡ true) × (b ≡ true)
 both true b h = (refl, h)
 both false b h = absurd cc
 
-pub out_whole : (fs : List Fragment) (out : Bytes) → IsOut fs out → (d : Bytes)
+pub out_whole : (fs : List IpFragment) (out : Bytes) → IsOut fs out → (d : Bytes)
     → AreOf d fs → out ≡ d
 out_whole fs out o d parts =
     let w = o.1.0 in

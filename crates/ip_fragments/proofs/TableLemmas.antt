@@ -6,12 +6,12 @@ use Rattle.std.proofs.lemmas.List.{reverse-append, reverse-reverse}
 use Rattle.std.specs.Prelude.{IfOk, IfSome, OnErr, Result, Ok, Err}
 use Rattle.std.specs.Map.{lookup_entry}
 use Rattle.lru.specs.LruCache.{LruCache, last_entry, put_entries}
-use Rattle.capture.specs.declared.fragment.Fragment.{Fragment}
+use Rattle.capture.specs.declared.fragment.IpFragment.{IpFragment}
 use Rattle.ip_fragments.specs.Key.{are_keys, key_of}
 use Rattle.ip_fragments.specs.Waiting.{Waiting, IsWith, begun, end_of, is_other_end, is_whole}
 use Rattle.ip_fragments.specs.Table.{AddsAt, Becomes, BeginsAt, HandsOut, Table, at, counted, crowded_in, dropped, dropped_of, found_or_begun, is_late, is_over, its, kept, late_in, left_of, others, put_at, weight, with_other}
-use Rattle.ip_fragments.specs.declared.fragments.Outcome.{Outcome}
-use Rattle.ip_fragments.specs.declared.fragments.Outcome.TheVariants as outcome
+use Rattle.ip_fragments.specs.declared.fragments.FragmentOutcome.{FragmentOutcome}
+use Rattle.ip_fragments.specs.declared.fragments.FragmentOutcome.TheVariants as outcome
 use Rattle.ip_fragments.specs.declared.fragments.Step.{Step}
 use Rattle.ip_fragments.specs.declared.fragments.Step.TheVariants as step
 use Rattle.ip_fragments.specs.declared.key.Key.{Key}
@@ -181,7 +181,8 @@ module _ (time more : ℕ) (t : Table) (k : Key) (w : Waiting) where
 -- One more is counted.
 counted_more : (n : ℕ) (b : Bool) (k : Key) (w : Waiting) (p : Key × Waiting → Bool) (t : Table)
     → p (k, w) ≡ b
-    → counted (counted n (cond b 1 0)) (length (filter p t)) ≡ counted n (length (filter p ((k, w) ∷ t)))
+    → counted (counted n (cond b 1 0)) (length (filter p t)) ≡ counted n
+    (length (filter p ((k, w) ∷ t)))
 counted_more n true k w p t e = rw e (omega arith)
 counted_more n false k w p t e = rw e (omega arith)
 
@@ -255,31 +256,31 @@ none_before n = go (nat_lt n 0) refl
     go false e = e
 
 -- No end contradicts an empty datagram.
-begun_agrees : (time : ℕ) (f : Fragment) → is_other_end f (begun time) ≡ false
+begun_agrees : (time : ℕ) (f : IpFragment) → is_other_end f (begun time) ≡ false
 begun_agrees time f = go f.has_more
   where
     go : (b : Bool) → ((not b && nat_lt (end_of f) 0) || false) ≡ false
     go true = refl
     go false = rw (none_before (end_of f)) refl
 
-agrees_at : (time : ℕ) (f : Fragment) (t : Table) (o : Option Waiting) → at (key_of f) t ≡ o
+agrees_at : (time : ℕ) (f : IpFragment) (t : Table) (o : Option Waiting) → at (key_of f) t ≡ o
     → is_other_end f (found_or_begun time o) ≡ false → is_other_end f (its time f t) ≡ false
 agrees_at time f t o is h =
     subst (λ p. is_other_end f (found_or_begun time p) ≡ false) (sym is) h
 
-pub agrees_missing : (time : ℕ) (k : Key) (f : Fragment) (s : Step) (t u : Table) → k ≡ key_of f
+pub agrees_missing : (time : ℕ) (k : Key) (f : IpFragment) (s : Step) (t u : Table) → k ≡ key_of f
     → s ≡ step.Missing → AddsAt s k f t u → is_other_end f (its time f t) ≡ false
 agrees_missing time k f s t u is said a =
     let a' : AddsAt step.Missing k f t u = subst (λ x. AddsAt x k f t u) said a in
     agrees_at time f t None (subst (λ x. at x t ≡ None) is a'.0) (begun_agrees time f)
 
-pub agrees_found : (time : ℕ) (k : Key) (f : Fragment) (t : Table) (v : Waiting) → k ≡ key_of f
+pub agrees_found : (time : ℕ) (k : Key) (f : IpFragment) (t : Table) (v : Waiting) → k ≡ key_of f
     → at k t ≡ Some v → is_other_end f v ≡ false → is_other_end f (its time f t) ≡ false
 agrees_found time k f t v is found h =
     agrees_at time f t (Some v) (subst (λ x. at x t ≡ Some v) is found) h
 
 -- The first fragment of a datagram.
-begins : (time : ℕ) (f : Fragment) (o : Outcome) (t u : Table) → at (key_of f) t ≡ None
+begins : (time : ℕ) (f : IpFragment) (o : FragmentOutcome) (t u : Table) → at (key_of f) t ≡ None
     → BeginsAt time (key_of f) f o t u → Becomes time f o t u
 begins time f (outcome.Refused r) t u none b = absurd b
 begins time f outcome.Waits t u none b = (
@@ -298,8 +299,8 @@ begins time f (outcome.Whole d) t u none b = (
   b.4 ∙ sym (missed (key_of f) t none),
 )
 
-pub missing_becomes : {E : Type 0} (time : ℕ) (k : Key) (f : Fragment) (s : Step)
-    (r : Result Outcome E) (t v u : Table) → k ≡ key_of f
+pub missing_becomes : {E : Type 0} (time : ℕ) (k : Key) (f : IpFragment) (s : Step)
+    (r : Result FragmentOutcome E) (t v u : Table) → k ≡ key_of f
     → s ≡ step.Missing → AddsAt s k f t v → IfOk r (λ o. BeginsAt time k f o v u)
     → IfOk r (λ o. Becomes time f o t u)
 missing_becomes time k f s (Err e) t v u is said a b = _
@@ -310,7 +311,7 @@ missing_becomes time k f s (Ok o) t v u is said a b =
     (subst (λ x. BeginsAt time x f o t u) is b')
 
 -- A fragment of a datagram that waits for more.
-pub waits_becomes : (time : ℕ) (k : Key) (f : Fragment) (s : Step) (t u : Table) → k ≡ key_of f
+pub waits_becomes : (time : ℕ) (k : Key) (f : IpFragment) (s : Step) (t u : Table) → k ≡ key_of f
     → s ≡ step.Waits → AddsAt s k f t u → Becomes time f outcome.Waits t u
 waits_becomes time k f s t u is said a =
     let a' : AddsAt step.Waits k f t u = subst (λ x. AddsAt x k f t u) said a in
@@ -323,7 +324,7 @@ waits_becomes time k f s t u is said a =
     )
 
 -- The fragment that completes a datagram.
-ends : (time : ℕ) (f : Fragment) (o : Outcome) (t u : Table) (v w : Waiting)
+ends : (time : ℕ) (f : IpFragment) (o : FragmentOutcome) (t u : Table) (v w : Waiting)
     → at (key_of f) t ≡ Some v → is_other_end f v ≡ false → IsWith f v w → is_whole w ≡ true
     → HandsOut f w o → u ≡ others (key_of f) t → Becomes time f o t u
 ends time f (outcome.Refused r) t u v w found agrees is whole h e = absurd h
@@ -337,7 +338,8 @@ ends time f (outcome.Whole d) t u v w found agrees is whole h e = (
   e,
 )
 
-pub whole_becomes : (time : ℕ) (k : Key) (f : Fragment) (s : Step) (o : Outcome) (t v u : Table)
+pub whole_becomes : (time : ℕ) (k : Key) (f : IpFragment) (s : Step) (o : FragmentOutcome)
+    (t v u : Table)
     → k ≡ key_of f → s ≡ step.Whole
     → AddsAt s k f t v → IfSome (at k v) (λ w. is_whole w ≡ true → HandsOut f w o) → u ≡ others k v
     → Becomes time f o t u

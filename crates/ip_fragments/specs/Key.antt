@@ -4,7 +4,7 @@ use Rattle.std.specs.Hash as fed
 use Rattle.std.specs.Prelude.{ℕ, ◌++◌, ◌+◌, ◌*◌, Bool}
 use Rattle.capture.specs.declared.ip.Address.{Address}
 use Rattle.capture.specs.declared.ip.Address.TheVariants.{V4, V6}
-use Rattle.capture.specs.declared.fragment.Fragment.{Fragment}
+use Rattle.capture.specs.declared.fragment.IpFragment.{IpFragment}
 use Rattle.ip_fragments.specs.declared.key.Key.{Key}
 use Rattle.ip_fragments.specs.contracts.key.KeyPartialEq.TheImpl as key_eq
 
@@ -18,7 +18,7 @@ protocol_in (V4 n) protocol = protocol
 protocol_in (V6 upper lower) protocol = 0
 
 -- Source, destination, identification and protocol (RFC 791, section 3.2; RFC 8200, section 4.5).
-abbrev pub key_of : Fragment → Key
+abbrev pub key_of : IpFragment → Key
 key_of f = record {
   source = f.source;
   destination = f.destination;

@@ -2,34 +2,34 @@
 use Rattle.std.specs.Prelude.{◌≡◌, ℕ, ◌<◌, true, false, Option, None, List, [], ◌∷◌, length}
 use Rattle.segments.specs.Cells.{Bytes, byte_at, earlier, run}
 use Rattle.segments.specs.Law.{IsPart}
-use Rattle.capture.specs.declared.fragment.Fragment.{Fragment}
+use Rattle.capture.specs.declared.fragment.IpFragment.{IpFragment}
 use Rattle.ip_fragments.specs.Waiting.{Waiting, IsWith, begun, end_of, given, is_whole}
 
 -- These fragments arrived, the last one first.
-abbrev pub IsAfter : ℕ → List Fragment → Waiting → Type 0
+abbrev pub IsAfter : ℕ → List IpFragment → Waiting → Type 0
 IsAfter time [] w = w ≡ begun time
 IsAfter time (f ∷ fs) w = (v : Waiting) × IsAfter time fs v × IsWith f v w
 
 -- The byte that arrived first at an offset.
-abbrev pub first_at : List Fragment → ℕ → Option ℕ
+abbrev pub first_at : List IpFragment → ℕ → Option ℕ
 first_at [] i = None
 first_at (f ∷ fs) i = earlier (first_at fs i) (given f i)
 
 -- Each fragment is a part of the datagram d at its offset, and only the last one ends it.
-abbrev pub AreOf : Bytes → List Fragment → Type 0
+abbrev pub AreOf : Bytes → List IpFragment → Type 0
 AreOf d [] = Unit {0}
 AreOf d (f ∷ fs) = IsPart d f.offset f.payload.now × (f.has_more ≡ false → end_of f ≡ length d)
     × AreOf d fs
 
 -- The payload reassembled from these fragments.
-abbrev pub IsOut : List Fragment → Bytes → Type 0
+abbrev pub IsOut : List IpFragment → Bytes → Type 0
 IsOut fs out =
     (time : ℕ) × ((w : Waiting) × IsAfter time fs w × (is_whole w ≡ true) × (out ≡ run w.cells))
 
 -- Each byte is the first that arrived at its offset.
-abbrev pub HasTheFirst : List Fragment → Bytes → Type 0
+abbrev pub HasTheFirst : List IpFragment → Bytes → Type 0
 HasTheFirst fs out = (i : ℕ) → i < length out → byte_at out i ≡ first_at fs i
 
 -- If the fragments are parts of one datagram, in any order, the result is that datagram.
-abbrev pub IsTheDatagram : List Fragment → Bytes → Type 0
+abbrev pub IsTheDatagram : List IpFragment → Bytes → Type 0
 IsTheDatagram fs out = (d : Bytes) → AreOf d fs → out ≡ d

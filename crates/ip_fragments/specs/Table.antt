@@ -2,13 +2,13 @@
 -- comes first.
 use Rattle.std.specs.Prelude.{◌≡◌, ℕ, ◌+◌, ◌-◌, ◌^◌, ◌||◌, not, nat_lt, min, Bool, true, false, if◌then◌else◌, Option, Some, None, List, [], ◌∷◌, filter, length, reverse}
 use Rattle.std.specs.Map.{lookup, remove_entry, set_value}
-use Rattle.capture.specs.declared.fragment.Fragment.{Fragment}
+use Rattle.capture.specs.declared.fragment.IpFragment.{IpFragment}
 use Rattle.ip_fragments.specs.Key.{are_keys, key_of}
 use Rattle.ip_fragments.specs.Waiting.{Waiting, IsHandedOut, IsWith, begun, is_other_end, is_too_long, is_uneven, is_whole, weight_of}
 use Rattle.ip_fragments.specs.declared.key.Key.{Key}
-use Rattle.ip_fragments.specs.declared.fragments.Outcome.{Outcome}
-use Rattle.ip_fragments.specs.declared.fragments.Outcome.TheVariants as outcome
-use Rattle.ip_fragments.specs.declared.fragments.Refusal.TheVariants as refusal
+use Rattle.ip_fragments.specs.declared.fragments.FragmentOutcome.{FragmentOutcome}
+use Rattle.ip_fragments.specs.declared.fragments.FragmentOutcome.TheVariants as outcome
+use Rattle.ip_fragments.specs.declared.fragments.FragmentRefusal.TheVariants as refusal
 use Rattle.ip_fragments.specs.declared.fragments.Step.{Step}
 use Rattle.ip_fragments.specs.declared.fragments.Step.TheVariants as step
 use Rattle.ip_fragments.specs.declared.fragments.TheConstants.{HELD_LIMIT, WAIT_LIMIT}
@@ -94,7 +94,7 @@ forgetting time more r = record {
 }
 
 -- What a fragment does to a datagram in the table, or without one.
-abbrev pub AddsAt : Step → Key → Fragment → Table → Table → Type 0
+abbrev pub AddsAt : Step → Key → IpFragment → Table → Table → Type 0
 AddsAt step.Missing k f t u = (at k t ≡ None) × (u ≡ t)
 AddsAt step.OtherEnd k f t u =
     (v : Waiting) × (at k t ≡ Some v) × (is_other_end f v ≡ true) × (u ≡ t)
@@ -111,13 +111,13 @@ found_or_begun time None = begun time
 found_or_begun time (Some v) = v
 
 -- A complete datagram is returned.
-abbrev pub HandsOut : Fragment → Waiting → Outcome → Type 0
+abbrev pub HandsOut : IpFragment → Waiting → FragmentOutcome → Type 0
 HandsOut f w (outcome.Whole d) = IsHandedOut f w d
 HandsOut f w outcome.Waits = ⊥
 HandsOut f w (outcome.Refused r) = ⊥
 
 -- A fragment begins a datagram.
-abbrev pub BeginsAt : ℕ → Key → Fragment → Outcome → Table → Table → Type 0
+abbrev pub BeginsAt : ℕ → Key → IpFragment → FragmentOutcome → Table → Table → Type 0
 BeginsAt time k f (outcome.Refused r) t u = ⊥
 BeginsAt time k f outcome.Waits t u =
     (w : Waiting) × IsWith f (begun time) w × (is_whole w ≡ false) × (u ≡ (k, w) ∷ t)
@@ -125,13 +125,13 @@ BeginsAt time k f (outcome.Whole d) t u =
     (w : Waiting) × IsWith f (begun time) w × (is_whole w ≡ true) × IsHandedOut f w d × (u ≡ t)
 
 -- The datagram of a fragment: the one in the table, or an empty one.
-abbrev pub its : ℕ → Fragment → Table → Waiting
+abbrev pub its : ℕ → IpFragment → Table → Waiting
 its time f t = found_or_begun time (at (key_of f) t)
 
 -- What a fragment does that isn't refused for its length: its end contradicts its datagram's, or
 -- its bytes are added to its datagram, which waits for more or is complete and returned. Other keys
 -- keep their datagrams.
-abbrev pub Becomes : ℕ → Fragment → Outcome → Table → Table → Type 0
+abbrev pub Becomes : ℕ → IpFragment → FragmentOutcome → Table → Table → Type 0
 Becomes time f (outcome.Refused refusal.TooLong) t u = ⊥
 Becomes time f (outcome.Refused refusal.Uneven) t u = ⊥
 Becomes time f (outcome.Refused refusal.OtherEnd) t u =
@@ -144,7 +144,7 @@ Becomes time f (outcome.Whole d) t u =
     × (is_whole w ≡ true) × IsHandedOut f w d × (u ≡ others (key_of f) t)
 
 -- A fragment that isn't refused for its length. Datagrams that are over are dropped first.
-pub record Takes (time : ℕ) (f : Fragment) (o : Outcome) (r s : Reassembly) : Type 0 where
+pub record Takes (time : ℕ) (f : IpFragment) (o : FragmentOutcome) (r s : Reassembly) : Type 0 where
   pub fits : is_too_long f ≡ false
   pub even : is_uneven f ≡ false
   pub becomes : Becomes time f o (forgetting time (weight_of f) r).waiting s.waiting
@@ -152,7 +152,7 @@ pub record Takes (time : ℕ) (f : Fragment) (o : Outcome) (r s : Reassembly) : 
   pub crowded : s.crowded ≡ (forgetting time (weight_of f) r).crowded
 
 -- What a fragment does to the table and the counts.
-abbrev pub Adds : ℕ → Fragment → Outcome → Reassembly → Reassembly → Type 0
+abbrev pub Adds : ℕ → IpFragment → FragmentOutcome → Reassembly → Reassembly → Type 0
 Adds time f (outcome.Refused refusal.TooLong) r s = (is_too_long f ≡ true) × (s ≡ r)
 Adds time f (outcome.Refused refusal.Uneven) r s =
     (is_too_long f ≡ false) × (is_uneven f ≡ true) × (s ≡ r)
@@ -163,7 +163,7 @@ Adds time f (outcome.Whole d) r s = Takes time f (outcome.Whole d) r s
 
 -- There was no memory for the bytes of a fragment that would be added. Datagrams that are over were
 -- dropped before.
-pub record LeavesOut (time : ℕ) (f : Fragment) (r s : Reassembly) : Type 0 where
+pub record LeavesOut (time : ℕ) (f : IpFragment) (r s : Reassembly) : Type 0 where
   pub fits : is_too_long f ≡ false
   pub even : is_uneven f ≡ false
   pub agrees : is_other_end f (its time f (forgetting time (weight_of f) r).waiting) ≡ false

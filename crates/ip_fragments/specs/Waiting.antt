@@ -2,8 +2,8 @@
 use Rattle.std.specs.Prelude.{◌≡◌, ℕ, ◌+◌, ◌*◌, ◌%◌, ◌==◌, ◌&&◌, ◌||◌, not, nat_lt, max, Bool, true, false, Option, Some, None, is_some, [], ◌∷◌, length, if◌then◌else◌}
 use Rattle.segments.specs.Cells.{Bytes, Cells, cell, differing, earlier, run}
 use Rattle.segments.specs.Pages.{written}
-use Rattle.capture.specs.declared.fragment.Fragment.{Fragment}
-use Rattle.ip_fragments.specs.declared.waiting.Whole.{Whole}
+use Rattle.capture.specs.declared.fragment.IpFragment.{IpFragment}
+use Rattle.ip_fragments.specs.declared.waiting.ReassembledDatagram.{ReassembledDatagram}
 
 -- The fields: at each offset the byte that arrived there first; the offset up to which fragments
 -- reach, and whether the last fragment arrived; the protocol of the fragment with offset 0; whether
@@ -33,35 +33,35 @@ begun time = record {
 }
 
 -- The offset behind a fragment's last byte, and its byte at an offset.
-abbrev pub end_of : Fragment → ℕ
+abbrev pub end_of : IpFragment → ℕ
 end_of f = f.offset + length f.payload.now
 
-abbrev pub given : Fragment → ℕ → Option ℕ
+abbrev pub given : IpFragment → ℕ → Option ℕ
 given f i = written f.offset f.payload.now i
 
 -- Twice its bytes, and the overhead.
-abbrev pub weight_of : Fragment → ℕ
+abbrev pub weight_of : IpFragment → ℕ
 weight_of f = length f.payload.now * 2 + 5120
 
 -- The datagram would exceed 65,535 bytes.
-abbrev pub is_too_long : Fragment → Bool
+abbrev pub is_too_long : IpFragment → Bool
 is_too_long f = nat_lt 65535 (f.in_front + end_of f)
 
 -- It isn't the last fragment, and its length isn't a multiple of 8.
-abbrev pub is_uneven : Fragment → Bool
+abbrev pub is_uneven : IpFragment → Bool
 is_uneven f = f.has_more && not (length f.payload.now % 8 == 0)
 
 -- Two fragments end the datagram differently, or bytes are past its end.
-abbrev pub is_other_end : Fragment → Waiting → Bool
+abbrev pub is_other_end : IpFragment → Waiting → Bool
 is_other_end f w = (not f.has_more && nat_lt (end_of f) w.reach)
     || (w.is_ended && nat_lt w.reach (end_of f))
 
-abbrev pub first_protocol : Option ℕ → Fragment → Option ℕ
+abbrev pub first_protocol : Option ℕ → IpFragment → Option ℕ
 first_protocol (Some p) f = Some p
 first_protocol None f = if f.offset == 0 then Some f.protocol else None
 
 -- A fragment's bytes are added at the offsets that have none.
-pub record IsWith (f : Fragment) (v w : Waiting) : Type 0 where
+pub record IsWith (f : IpFragment) (v w : Waiting) : Type 0 where
   pub bytes : (i : ℕ) → cell w.cells i ≡ earlier (cell v.cells i) (given f i)
   pub reach : w.reach ≡ max v.reach (end_of f)
   pub ended : w.is_ended ≡ (v.is_ended || not f.has_more)
@@ -82,7 +82,7 @@ unlike (x ∷ xs) [] = 0
 unlike (x ∷ xs) (y ∷ ys) = (if x == y then 0 else 1) + unlike xs ys
 
 -- The reassembled datagram, with the addresses of its last fragment. All its fragments have these.
-pub record IsHandedOut (f : Fragment) (w : Waiting) (d : Whole) : Type 0 where
+pub record IsHandedOut (f : IpFragment) (w : Waiting) (d : ReassembledDatagram) : Type 0 where
   pub source : d.source ≡ f.source
   pub destination : d.destination ≡ f.destination
   pub protocol : Some d.protocol ≡ w.protocol

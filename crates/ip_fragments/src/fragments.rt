@@ -5,8 +5,8 @@ ghost use Rattle.ip_fragments.specs.Key.{key_of};
 ghost use Rattle.ip_fragments.specs.Table.{at, counted, crowded_in, dropped, forgetting, is_late as is_late_datagram, is_over as is_over_datagram, its, kept, late_in, others, weight, Adds, AddsAt, Becomes, BeginsAt, HandsOut, LeavesOut};
 
 use crate::key::Key;
-use crate::waiting::{Waiting, Whole, weight_of};
-use capture::Fragment;
+use crate::waiting::{ReassembledDatagram, Waiting, weight_of};
+use capture::IpFragment;
 use lru::LruCache;
 use std::alloc::{AllocError, Global};
 use std::hash::RandomState;
@@ -28,7 +28,7 @@ const MAX_DATAGRAM: usize = 65_535;
 
 /// Why a fragment is refused. Its datagram doesn't change.
 #[derive(Clone, Copy, Debug, PartialEq, Eq)]
-pub enum Refusal {
+pub enum FragmentRefusal {
     /// The datagram would exceed 65,535 bytes.
     TooLong,
     /// It isn't the last fragment, and its length isn't a multiple of 8.
@@ -40,13 +40,13 @@ pub enum Refusal {
 
 /// What happened to a fragment.
 #[derive(Debug, PartialEq, Drop)]
-pub enum Outcome {
+pub enum FragmentOutcome {
     /// It completed its datagram.
-    Whole(Whole),
+    Whole(ReassembledDatagram),
     /// Its datagram waits for more fragments.
     Waits,
     /// It was refused.
-    Refused(Refusal),
+    Refused(FragmentRefusal),
 }
 
 /// What happened to a fragment of a datagram in reassembly.
@@ -64,7 +64,7 @@ enum Step {
 
 /// The datagrams in reassembly.
 #[derive(Drop)]
-pub struct Fragments {
+pub struct FragmentTable {
     alloc: Global,
     // The datagram whose first fragment arrived last comes first.
     waiting: LruCache<Key, Waiting, RandomState>,
@@ -73,7 +73,7 @@ pub struct Fragments {
     crowded: u64,
 }
 
-impl Model for Fragments {
+impl Model for FragmentTable {
     ghost use Rattle.std.specs.Prelude.{◌≡◌, ◌≤◌, ◌-◌, ◌^◌};
     ghost use Rattle.ip_fragments.specs.Table.{weight, Reassembly};
 
@@ -94,7 +94,7 @@ impl Model for Fragments {
 fn add_at(
     table: &mut LruCache<Key, Waiting, RandomState>,
     key: &Key,
-    fragment: &Fragment<'_>,
+    fragment: &IpFragment<'_>,
 ) -> Result<Step, AllocError>
     requires short { length fragment.now.payload.now < 2 ^ 16 }
     requires light { weight table.old.entries ≤ 33554432 }
@@ -194,12 +194,12 @@ fn forget_over(
 }
 
 /// Returns the outcome for a fragment that completed its datagram.
-fn handed_out(waiting: Waiting, fragment: &Fragment<'_>) -> Outcome
+fn handed_out(waiting: Waiting, fragment: &IpFragment<'_>) -> FragmentOutcome
     ensures { is_whole_datagram waiting ≡ true → HandsOut fragment.now waiting result }
 {
     match waiting.into_whole(fragment) {
-        Some(whole) => Outcome::Whole(whole),
-        None => Outcome::Waits,
+        Some(whole) => FragmentOutcome::Whole(whole),
+        None => FragmentOutcome::Waits,
     }
 }
 
@@ -220,13 +220,13 @@ fn put_in_front(
     Ok(())
 }
 
-impl Fragments {
+impl FragmentTable {
     /// Returns an empty table. `keys` keys its hashes, so that nobody without the keys can choose
     /// datagrams whose hashes collide.
-    pub fn new(alloc: Global, keys: RandomState) -> Result<Fragments, AllocError>
+    pub fn new(alloc: Global, keys: RandomState) -> Result<FragmentTable, AllocError>
         ensures { IfOk result (λ f. f ≡ record { waiting = []; late = 0; crowded = 0 }) }
     {
-        Ok(Fragments {
+        Ok(FragmentTable {
             alloc,
             waiting: LruCache::unbounded_with_hasher(alloc, keys)?,
             held: 0,
@@ -292,7 +292,12 @@ impl Fragments {
     }
 
     /// Adds the first fragment of a datagram.
-    fn begin(&mut self, time: u64, key: Key, fragment: &Fragment<'_>) -> Result<Outcome, AllocError>
+    fn begin(
+        &mut self,
+        time: u64,
+        key: Key,
+        fragment: &IpFragment<'_>,
+    ) -> Result<FragmentOutcome, AllocError>
         requires short { length fragment.now.payload.now < 2 ^ 16 }
         requires missing { at key self.old.waiting ≡ None }
         requires room { weight self.old.waiting + weight_of_fragment fragment.now ≤ 33554432 }
@@ -310,12 +315,12 @@ impl Fragments {
         let weight = waiting.weight();
         put_in_front(&mut self.waiting, key, waiting)?;
         self.held += weight;
-        Ok(Outcome::Waits)
+        Ok(FragmentOutcome::Waits)
     }
 
     /// Removes a complete datagram and returns it.
     #[tactic(auto, using(crate::proofs::TableLemmas::missed, crate::proofs::TableLemmas::weight_others, crate::proofs::TableLemmas::weight_at))]
-    fn take(&mut self, key: &Key, fragment: &Fragment<'_>) -> Outcome
+    fn take(&mut self, key: &Key, fragment: &IpFragment<'_>) -> FragmentOutcome
         ensures handed_out { IfSome (at key.now self.old.waiting)
             (λ w. is_whole_datagram w ≡ true → HandsOut fragment.now w result) }
         ensures left { self.new ≡ record self.old { waiting = others key.now self.old.waiting } }
@@ -325,13 +330,13 @@ impl Fragments {
                 self.held -= waiting.weight();
                 handed_out(waiting, fragment)
             }
-            None => Outcome::Waits,
+            None => FragmentOutcome::Waits,
         }
     }
 
     /// Adds a fragment to its datagram. There is room for its bytes.
     #[tactic(auto, using(crate::proofs::TableLemmas::at_with, crate::proofs::TableLemmas::others_with, crate::proofs::TableLemmas::weight_with))]
-    fn put(&mut self, time: u64, fragment: &Fragment<'_>) -> Result<Outcome, AllocError>
+    fn put(&mut self, time: u64, fragment: &IpFragment<'_>) -> Result<FragmentOutcome, AllocError>
         requires short { length fragment.now.payload.now < 2 ^ 16 }
         requires room { weight self.old.waiting + weight_of_fragment fragment.now ≤ 33554432 }
         ensures becomes { IfOk result
@@ -345,10 +350,10 @@ impl Fragments {
         let key = Key::of(fragment);
         match add_at(&mut self.waiting, &key, fragment)? {
             Step::Missing => self.begin(time, key, fragment),
-            Step::OtherEnd => Ok(Outcome::Refused(Refusal::OtherEnd)),
+            Step::OtherEnd => Ok(FragmentOutcome::Refused(FragmentRefusal::OtherEnd)),
             Step::Waits => {
                 self.held += weight_of(fragment);
-                Ok(Outcome::Waits)
+                Ok(FragmentOutcome::Waits)
             }
             Step::Whole => {
                 self.held += weight_of(fragment);
@@ -363,16 +368,20 @@ impl Fragments {
     ///
     /// `AllocError` if there is no memory for the fragment. It is left out then, but the datagrams
     /// dropped before stay dropped.
-    pub fn add(&mut self, time: u64, fragment: &Fragment<'_>) -> Result<Outcome, AllocError>
+    pub fn add(
+        &mut self,
+        time: u64,
+        fragment: &IpFragment<'_>,
+    ) -> Result<FragmentOutcome, AllocError>
         ensures adds { IfOk result (λ o. Adds time fragment.now o self.old self.new) }
         ensures err { OnErr result (LeavesOut time fragment.now self.old self.new) }
     {
         let end = fragment.offset as usize + fragment.payload.len();
         if fragment.in_front > MAX_DATAGRAM || end > MAX_DATAGRAM - fragment.in_front {
-            return Ok(Outcome::Refused(Refusal::TooLong));
+            return Ok(FragmentOutcome::Refused(FragmentRefusal::TooLong));
         }
         if fragment.has_more && fragment.payload.len() % 8 != 0 {
-            return Ok(Outcome::Refused(Refusal::Uneven));
+            return Ok(FragmentOutcome::Refused(FragmentRefusal::Uneven));
         }
         self.forget(time, weight_of(fragment));
         self.put(time, fragment)

@@ -5,7 +5,7 @@ ghost use Rattle.std.specs.Hash as fed;
 ghost use Rattle.std.specs.Cmp.Rules.{hashing};
 ghost use Rattle.ip_fragments.specs.Key.{address_fed, key_of, number_of};
 
-use capture::{Address, Fragment};
+use capture::{Address, IpFragment};
 use std::hash::{Hash, Hasher};
 
 /// What all fragments of a datagram have in common.
@@ -21,7 +21,7 @@ pub struct Key {
 impl Key {
     /// Returns a fragment's key: source, destination, identification and protocol (RFC 791, section
     /// 3.2). In IPv6 the protocol doesn't count (RFC 8200, section 4.5).
-    pub(crate) fn of(fragment: &Fragment<'_>) -> Key
+    pub(crate) fn of(fragment: &IpFragment<'_>) -> Key
         ensures { result ≡ key_of fragment.now }
     {
         let protocol = match fragment.source {

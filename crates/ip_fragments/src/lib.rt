@@ -1,7 +1,8 @@
 //! Reassembles IPv4 and IPv6 datagrams from their fragments (RFC 791, section 3.2; RFC 8200,
 //! section 4.5).
 //!
-//! [`Fragments`] is the table of datagrams in reassembly. [`Fragments::add`] takes a fragment, as
+//! [`FragmentTable`] is the table of datagrams in reassembly. [`FragmentTable::add`] takes a
+//! fragment, as
 //! `capture` parses it, and returns its datagram once all bytes arrived, in any order and with any
 //! repeats. Where fragments overlap, the first byte stays; the datagram has the count of bytes that
 //! disagreed.
@@ -25,5 +26,7 @@ mod key;
 pub mod laws;
 mod waiting;
 
-pub use fragments::{FRAGMENT_COST, Fragments, HELD_LIMIT, Outcome, Refusal, WAIT_LIMIT};
-pub use waiting::Whole;
+pub use fragments::{
+    FRAGMENT_COST, FragmentOutcome, FragmentRefusal, FragmentTable, HELD_LIMIT, WAIT_LIMIT,
+};
+pub use waiting::ReassembledDatagram;

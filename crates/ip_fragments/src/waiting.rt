@@ -4,14 +4,14 @@ ghost use Rattle.segments.specs.Cells.{differing, run};
 ghost use Rattle.ip_fragments.specs.Waiting.{IsHandedOut, IsWith, begun, is_other_end as is_other_end_of, is_whole as is_whole_datagram, unlike, weight_of as weight_of_fragment};
 
 use crate::fragments::FRAGMENT_COST;
-use capture::{Address, Fragment};
+use capture::{Address, IpFragment};
 use segments::TcpReassembler;
 use std::alloc::{AllocError, Global};
 use std::marker::Model;
 
 /// A reassembled datagram.
 #[derive(Debug, PartialEq, Drop)]
-pub struct Whole {
+pub struct ReassembledDatagram {
     /// The source address.
     pub source: Address,
     /// The destination address.
@@ -64,7 +64,7 @@ impl Model for Waiting {
 }
 
 /// Returns the memory that a fragment counts, in bytes.
-pub(crate) fn weight_of(fragment: &Fragment<'_>) -> usize
+pub(crate) fn weight_of(fragment: &IpFragment<'_>) -> usize
     requires { length fragment.now.payload.now < 2 ^ 16 }
     ensures { result ≡ weight_of_fragment fragment.now }
 {
@@ -118,7 +118,7 @@ impl Waiting {
     }
 
     /// Returns whether a fragment's end contradicts those of others, or it goes past the end.
-    pub(crate) fn is_other_end(&self, fragment: &Fragment<'_>) -> bool
+    pub(crate) fn is_other_end(&self, fragment: &IpFragment<'_>) -> bool
         ensures { result ≡ is_other_end_of fragment.now self.now }
     {
         let end = fragment.offset as usize + fragment.payload.len();
@@ -129,7 +129,7 @@ impl Waiting {
 
     /// Returns at how many offsets a fragment's byte differs from one that arrived before.
     #[tactic(auto, using(crate::proofs::CountLemmas::differing_behind))]
-    fn count_differing(&self, fragment: &Fragment<'_>) -> usize
+    fn count_differing(&self, fragment: &IpFragment<'_>) -> usize
         requires { length fragment.now.payload.now < 2 ^ 16 }
         ensures is { result ≡ differing fragment.now.offset fragment.now.payload.now
             self.now.cells }
@@ -154,7 +154,7 @@ impl Waiting {
     ///
     /// `AllocError` if there is no memory for them. Nothing changes then.
     #[tactic(auto, using(crate::proofs::CountLemmas::put_bytes))]
-    pub(crate) fn add(&mut self, fragment: &Fragment<'_>) -> Result<(), AllocError>
+    pub(crate) fn add(&mut self, fragment: &IpFragment<'_>) -> Result<(), AllocError>
         requires short { length fragment.now.payload.now < 2 ^ 16 }
         requires light { self.old.weight < 2 ^ 40 }
         ensures added { OnOk result (IsWith fragment.now self.old self.new) }
@@ -187,12 +187,12 @@ impl Waiting {
     }
 
     /// Returns the datagram between the addresses of this fragment, if the protocol is known.
-    pub(crate) fn into_whole(self, fragment: &Fragment<'_>) -> Option<Whole>
+    pub(crate) fn into_whole(self, fragment: &IpFragment<'_>) -> Option<ReassembledDatagram>
         ensures some { is_whole_datagram self ≡ true → is_some result ≡ true }
         ensures is { IfSome result (IsHandedOut fragment.now self) }
     {
         let protocol = self.protocol?;
-        Some(Whole {
+        Some(ReassembledDatagram {
             source: fragment.source,
             destination: fragment.destination,
             protocol,

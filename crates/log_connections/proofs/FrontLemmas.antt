@@ -13,16 +13,17 @@ use Rattle.tls_flow.specs.Table.{outcome_at}
 use Rattle.tls_flow.specs.declared.symbol.Direction.{Direction}
 use Rattle.tls_analyzer.specs.Analyzers.{IsHeardAsNone, IsHeardBy, IsHeardOn, IsNext, IsNextBy, hearing, is_over, over_by}
 use Rattle.tls_analyzer.specs.declared.analyzer.Analyzer.{Analyzer}
-use Rattle.tls_analyzer.specs.declared.analyzer.Hearing.{Hearing}
-use Rattle.tls_analyzer.specs.declared.analyzer.Hearing.TheVariants.{Unknown, Clear, Encrypted, Other}
+use Rattle.tls_analyzer.specs.declared.analyzer.SideState.{SideState}
+use Rattle.tls_analyzer.specs.declared.analyzer.SideState.TheVariants.{Unknown, Clear, Encrypted, Other}
 use Rattle.log_connections.specs.Fronts.{front_of, is_sought, leaving, with_begun}
-use Rattle.log_connections.specs.Heard.{HearsAt, HearsBy, HearsNone, HearsStream, IsTakenOff, begins_in, is_over_in}
+use Rattle.log_connections.specs.Analysis.{HearsAt, HearsBy, HearsNone, HearsStream, IsTakenOff, begins_in, is_over_in}
 use Rattle.log_connections.specs.declared.fronts.Fronts.{Fronts}
 use Rattle.log_connections.specs.declared.fronts.Beginning.TheVariants as beginnings
-use Rattle.log_connections.specs.declared.heard.Said.{Said}
-use Rattle.log_connections.specs.declared.heard.Said.TheVariants as said
+use Rattle.log_connections.specs.declared.analysis.TransportAnalyzer.{TransportAnalyzer}
+use Rattle.log_connections.specs.declared.analysis.TransportAnalyzer.TheVariants as said
 
-pub heard_none : (s : Side) (d : Direction) (t u : Stream) (z : Said) (x : Analyzer) (f : Fronts)
+pub heard_none : (s : Side) (d : Direction) (t u : Stream) (z : TransportAnalyzer) (x : Analyzer)
+    (f : Fronts)
     (y : Analyzer) (g : Fronts)
     → z ≡ said.Stream x f → IsHeardAsNone x d y → g ≡ leaving s f → u ≡ stopped t t.reading
     → HearsNone s d t u z (said.Stream y g)
@@ -30,7 +31,8 @@ unfolding HearsNone
 heard_none s d t u z x f y g is heard left stops =
     subst (λ z. HearsNone s d t u z (said.Stream y g)) (sym is) (heard, left, stops)
 
-pub heard_at : (s : Side) (d : Direction) (n : ℕ) (t u : Stream) (z w : Said) (x : Analyzer)
+pub heard_at : (s : Side) (d : Direction) (n : ℕ) (t u : Stream) (z w : TransportAnalyzer)
+    (x : Analyzer)
     (f : Fronts) (y : Analyzer) (g : Fronts)
     (b : Bytes)
     → z ≡ said.Stream x f → w ≡ said.Stream y g → b ≡ drop n (next_bytes t t.reading)
@@ -58,10 +60,10 @@ heard_over x d b over = go (hearing x d) refl
     next : IsNext x d b x
     next = subst (λ t. IsNextBy t x d b x) (sym over) refl
 
-    go : (h : Hearing) → hearing x d ≡ h → IsHeardBy h x d b x
+    go : (h : SideState) → hearing x d ≡ h → IsHeardBy h x d b x
     go Unknown is =
         let none : false ≡ true =
-        subst (λ h. over_by h (outcome_at x.hearer.flow.state) ≡ true) is over in cc
+        subst (λ h. over_by h (outcome_at x.conversation_state.flow.state) ≡ true) is over in cc
     go Clear is = next
     go Encrypted is = next
     go Other is = next
@@ -76,7 +78,7 @@ not_sought false is = refl
 not_sought true is = cc
 
 -- A side that is over is read no further, and everything else stays.
-pub over_stays : (s : Side) (last : Bool) (d : Direction) (t u : Stream) (z : Said)
+pub over_stays : (s : Side) (last : Bool) (d : Direction) (t u : Stream) (z : TransportAnalyzer)
     → is_over_in s d z ≡ true → u ≡ stopped t t.reading → HearsStream s last d t u z z
 unfolding HearsStream HearsAt
 over_stays s last d t u (said.Stream x f) over stops =

@@ -16,7 +16,7 @@ use Rattle.connections.specs.declared.datagram.Datagram.{Datagram}
 use Rattle.connections.specs.declared.five_tuple.FiveTuple.{FiveTuple}
 use Rattle.connections.specs.declared.segment.Segment.{Segment}
 use Rattle.log_connections.specs.Log.{HearsFrom, HearsSegment, HearsSide, LogsDatagram}
-use Rattle.log_connections.specs.declared.heard.Heard.{Heard}
+use Rattle.log_connections.specs.declared.analysis.TlsAnalysis.{TlsAnalysis}
 
 module _ {X : Type 0} (e : FiveTuple) where
   -- The first entry of these ends is found, and another value is put there.
@@ -28,35 +28,35 @@ module _ {X : Type 0} (e : FiveTuple) where
   set_first x w xs = rw (is_five_tuple-refl e)
 
 module _ {K : Type 0} (e : FiveTuple)
-    (Takes : Option (Connection (Heard K)) → Connection (Heard K) → Type 0)
-    (xs ys : List (FiveTuple × Connection (Heard K))) (put : IsPut e Takes xs ys) where
+    (Takes : Option (Connection (TlsAnalysis K)) → Connection (TlsAnalysis K) → Type 0)
+    (xs ys : List (FiveTuple × Connection (TlsAnalysis K))) (put : IsPut e Takes xs ys) where
   -- The borrowed connection is the one that was put.
-  lent : (c : Connection (Heard K)) → Some c ≡ at e ys → c ≡ put.its
+  lent : (c : Connection (TlsAnalysis K)) → Some c ≡ at e ys → c ≡ put.its
   lent c found = ap (λ o. unwrap_or o c)
       (found ∙ ap (at e) put.stands ∙ at_first e put.its (others e xs))
 
   -- A connection is borrowed.
   pub some_lent : at e ys ≡ None → ⊥
   some_lent none =
-      let both : ◌≡◌ {A = Option (Connection (Heard K))} None (Some put.its) =
+      let both : ◌≡◌ {A = Option (Connection (TlsAnalysis K))} None (Some put.its) =
       sym none ∙ ap (at e) put.stands ∙ at_first e put.its (others e xs) in
       cc
 
   -- A value written to it replaces it.
-  written_first : (d : Connection (Heard K))
+  written_first : (d : Connection (TlsAnalysis K))
       → set_value (is_five_tuple e) ys d ≡ (e, d) ∷ others e xs
   written_first d = ap (λ l. set_value (is_five_tuple e) l d) put.stands
       ∙ set_first e put.its d (others e xs)
 
 module _ {K : Type 0} where
-  put_where_true : (b : Bool) (s : Segment) (old mid : Table (Heard K)) → b ≡ true
+  put_where_true : (b : Bool) (s : Segment) (old mid : Table (TlsAnalysis K)) → b ≡ true
       → Puts b s old mid
       → IsPut (five_tuple_of s) (TakesSegment s) old.live mid.live
   put_where_true true s old mid is put = put
   put_where_true false s old mid is put = cc
 
-  pub segment_heard : (b : Bool) (s : Segment) (old mid : Table (Heard K))
-      (c d : Connection (Heard K)) → b ≡ true
+  pub segment_heard : (b : Bool) (s : Segment) (old mid : Table (TlsAnalysis K))
+      (c d : Connection (TlsAnalysis K)) → b ≡ true
       → Puts b s old mid → mid.closed ≡ closed_behind b s old
       → Some c ≡ at (five_tuple_of s) mid.live
       → HearsSide (side_of c s.source) c d
@@ -75,7 +75,8 @@ module _ {K : Type 0} where
       }
 
   -- The open connection takes it.
-  pub heard_by_open : (s : Segment) (old : Table (Heard K)) (c put its : Connection (Heard K))
+  pub heard_by_open : (s : Segment) (old : Table (TlsAnalysis K))
+      (c put its : Connection (TlsAnalysis K))
       → Some c ≡ at (five_tuple_of s) old.live → Accepts s c put
       → HearsSide (side_of put s.source) put its
       → HearsSegment s old (with_first (five_tuple_of s) its old)
@@ -90,7 +91,8 @@ module _ {K : Type 0} where
   }
 
   -- The open connection takes it in place, and comes first then.
-  pub heard_in_place : (s : Segment) (old : Table (Heard K)) (c put its : Connection (Heard K))
+  pub heard_in_place : (s : Segment) (old : Table (TlsAnalysis K))
+      (c put its : Connection (TlsAnalysis K))
       → Some c ≡ at (five_tuple_of s) old.live → Accepts s c put
       → HearsSide (side_of put s.source) put its
       → HearsSegment s old
@@ -105,7 +107,8 @@ module _ {K : Type 0} where
         found refl;
   }
 
-  pub exchange_heard : (d : Datagram) (old : Table (Heard K)) (c put its : Connection (Heard K))
+  pub exchange_heard : (d : Datagram) (old : Table (TlsAnalysis K))
+      (c put its : Connection (TlsAnalysis K))
       → Some c ≡ at (five_tuple_of_datagram d) old.live → TakesDatagramIn d c put
       → HearsFrom d put its
       → LogsDatagram d old
@@ -120,21 +123,23 @@ module _ {K : Type 0} where
   }
 
   -- A borrowed connection that doesn't change leaves the table as it was.
-  pub lent_unchanged : (e : FiveTuple) (old : Table (Heard K)) (c d : Connection (Heard K))
+  pub lent_unchanged : (e : FiveTuple) (old : Table (TlsAnalysis K))
+      (c d : Connection (TlsAnalysis K))
       → Some c ≡ at e old.live → d ≡ c
       → with_other e d old ≡ old
   lent_unchanged e old c d found same =
       ap (λ x. with_other e x old) same
       ∙ ap (λ l. record old { live = l }) (set_value_same (is_five_tuple e) old.live c (sym found))
 
-  pub segment_lent : (b : Bool) (s : Segment) (old mid : Table (Heard K)) → b ≡ true
+  pub segment_lent : (b : Bool) (s : Segment) (old mid : Table (TlsAnalysis K)) → b ≡ true
       → Puts b s old mid
       → None ≡ at (five_tuple_of s) mid.live → ⊥
   segment_lent b s old mid is puts none =
       some_lent (five_tuple_of s) (TakesSegment s) old.live mid.live
       (put_where_true b s old mid is puts) (sym none)
 
-  pub datagram_heard : (g : Datagram) (old mid : Table (Heard K)) (c d : Connection (Heard K))
+  pub datagram_heard : (g : Datagram) (old mid : Table (TlsAnalysis K))
+      (c d : Connection (TlsAnalysis K))
       → IsPut (five_tuple_of_datagram g) (TakesDatagram g) old.live mid.live
       → mid.closed ≡ old.closed
       → Some c ≡ at (five_tuple_of_datagram g) mid.live → HearsFrom g c d
@@ -151,7 +156,7 @@ module _ {K : Type 0} where
     closed = closed;
   }
 
-  pub datagram_lent : (g : Datagram) (old mid : Table (Heard K))
+  pub datagram_lent : (g : Datagram) (old mid : Table (TlsAnalysis K))
       → IsPut (five_tuple_of_datagram g) (TakesDatagram g) old.live mid.live
       → None ≡ at (five_tuple_of_datagram g) mid.live → ⊥
   datagram_lent g old mid put none =

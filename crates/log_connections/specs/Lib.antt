@@ -1,5 +1,5 @@
 pub mod Arrival
 pub mod Counts
 pub mod Fronts
-pub mod Heard
+pub mod Analysis
 pub mod Log

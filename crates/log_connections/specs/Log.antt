@@ -15,8 +15,8 @@ use Rattle.connections.specs.declared.connection.Side.TheVariants.{Originator, R
 use Rattle.connections.specs.declared.datagram.Datagram.{Datagram}
 use Rattle.connections.specs.declared.segment.Segment.{Segment}
 use Rattle.tls_detection.specs.Front.{held_datagram}
-use Rattle.log_connections.specs.Heard.{HearsDatagram, HearsOn, direction_of}
-use Rattle.log_connections.specs.declared.heard.Heard.{Heard}
+use Rattle.log_connections.specs.Analysis.{HearsDatagram, HearsOn, direction_of}
+use Rattle.log_connections.specs.declared.analysis.TlsAnalysis.{TlsAnalysis}
 use Rattle.log_connections.specs.declared.log.Delivery.{Delivery}
 use Rattle.log_connections.specs.declared.log.Delivery.TheVariants as delivery
 use Rattle.log_connections.specs.declared.log.Reception.{Reception}
@@ -30,42 +30,42 @@ is_logged (Some part) protocol one other = falls_to protocol one other part
 module _ {K : Type 0} where
   -- The next bytes of a side's stream are analyzed. Everything else in the connection stays, the
   -- other side's stream included.
-  abbrev pub HearsSide : Side → Connection (Heard K) → Connection (Heard K) → Type 0
+  abbrev pub HearsSide : Side → Connection (TlsAnalysis K) → Connection (TlsAnalysis K) → Type 0
   HearsSide Originator c c' =
-      HearsOn Originator (direction_of c'.listener.is_turned Originator) c.from_originator
-      c'.from_originator c.listener.said c'.listener.said
-      × (c' ≡ record c { from_originator = c'.from_originator; listener = c'.listener })
+      HearsOn Originator (direction_of c'.attachment.is_turned Originator) c.from_originator
+      c'.from_originator c.attachment.said c'.attachment.said
+      × (c' ≡ record c { from_originator = c'.from_originator; attachment = c'.attachment })
   HearsSide Responder c c' =
-      HearsOn Responder (direction_of c'.listener.is_turned Responder) c.from_responder
-      c'.from_responder c.listener.said c'.listener.said
-      × (c' ≡ record c { from_responder = c'.from_responder; listener = c'.listener })
+      HearsOn Responder (direction_of c'.attachment.is_turned Responder) c.from_responder
+      c'.from_responder c.attachment.said c'.attachment.said
+      × (c' ≡ record c { from_responder = c'.from_responder; attachment = c'.attachment })
 
   -- The segment's connection takes it, and the next bytes of its sender's stream are analyzed. All
   -- other connections stay.
-  pub record HearsSegment (s : Segment) (old new : Table (Heard K)) : Type 0 where
-    pub put : Connection (Heard K)
-    pub its : Connection (Heard K)
+  pub record HearsSegment (s : Segment) (old new : Table (TlsAnalysis K)) : Type 0 where
+    pub put : Connection (TlsAnalysis K)
+    pub its : Connection (TlsAnalysis K)
     pub takes : TakesSegment s (at (five_tuple_of s) old.live) put
     pub hears : HearsSide (side_of put s.source) put its
     pub stands : new.live ≡ (five_tuple_of s, its) ∷ others (five_tuple_of s) old.live
     pub closed : new.closed ≡ closed_behind true s old
 
   -- A segment without a connection changes none.
-  abbrev pub Logs : Bool → Segment → Table (Heard K) → Table (Heard K) → Type 0
+  abbrev pub Logs : Bool → Segment → Table (TlsAnalysis K) → Table (TlsAnalysis K) → Type 0
   Logs true s old new = HearsSegment s old new
   Logs false s old new = new ≡ old
 
   -- A datagram, or the DTLS datagram inside it, is analyzed. Everything else in the exchange stays.
-  abbrev pub HearsFrom : Datagram → Connection (Heard K) → Connection (Heard K) → Type 0
+  abbrev pub HearsFrom : Datagram → Connection (TlsAnalysis K) → Connection (TlsAnalysis K) → Type 0
   HearsFrom d c c' =
-      HearsDatagram (direction_of c.listener.is_turned (side_of c d.source))
-      (held_datagram d.payload.now) c.listener.said c'.listener.said
-      × (c' ≡ record c { listener = c'.listener })
+      HearsDatagram (direction_of c.attachment.is_turned (side_of c d.source))
+      (held_datagram d.payload.now) c.attachment.said c'.attachment.said
+      × (c' ≡ record c { attachment = c'.attachment })
 
   -- The datagram's exchange takes and analyzes it. All others stay.
-  pub record LogsDatagram (d : Datagram) (old new : Table (Heard K)) : Type 0 where
-    pub put : Connection (Heard K)
-    pub its : Connection (Heard K)
+  pub record LogsDatagram (d : Datagram) (old new : Table (TlsAnalysis K)) : Type 0 where
+    pub put : Connection (TlsAnalysis K)
+    pub its : Connection (TlsAnalysis K)
     pub takes : TakesDatagram d (at (five_tuple_of_datagram d) old.live) put
     pub hears : HearsFrom d put its
     pub stands : new.live ≡ (five_tuple_of_datagram d, its) ∷ others
@@ -73,14 +73,15 @@ module _ {K : Type 0} where
     pub closed : new.closed ≡ old.closed
 
   -- A segment that its open connection analyzed is logged. For any other nothing changes.
-  abbrev pub LogsOpen : Reception → Segment → Table (Heard K) → Table (Heard K) → Type 0
+  abbrev pub LogsOpen : Reception → Segment → Table (TlsAnalysis K) → Table (TlsAnalysis K) → Type 0
   LogsOpen (reception.Heard closed) s old new = HearsSegment s old new
   LogsOpen (reception.Told verdict) s old new = new ≡ old
   LogsOpen reception.NoneOpen s old new = new ≡ old
 
   -- A datagram that its open exchange analyzed is logged, and a damaged one counted. For any other
   -- nothing changes.
-  abbrev pub LogsExchange : Delivery → Datagram → Table (Heard K) → Table (Heard K) → Type 0
+  abbrev pub LogsExchange : Delivery → Datagram → Table (TlsAnalysis K)
+      → Table (TlsAnalysis K) → Type 0
   LogsExchange delivery.Heard d old new = LogsDatagram d old new
   LogsExchange delivery.Damaged d old new = DropsDatagram d true old new
   LogsExchange delivery.BeginsAnother d old new = new ≡ old

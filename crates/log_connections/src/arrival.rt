@@ -175,7 +175,7 @@ fn options_of(options: &[u8], is_syn: bool) -> Options
 }
 
 /// Returns the result for a packet's checksums, as far as they count.
-pub(crate) fn checksum_of(datagram: &capture::Datagram<'_>, checksums: Checksums) -> Checksum
+pub(crate) fn checksum_of(datagram: &capture::IpDatagram<'_>, checksums: Checksums) -> Checksum
     ensures { result ≡ counted_as checksums (checksum_in (view_datagram datagram.now)) }
 {
     if checksums == Checksums::Ignore {

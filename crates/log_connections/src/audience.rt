@@ -1,40 +1,40 @@
 //! The listeners to the events of a connection.
-use crate::heard::Keeper;
+use crate::analysis::PieceCollector;
 use std::alloc::AllocError;
-use tls_analyzer::Witness;
+use tls_analyzer::Observer;
 use tls_flow::{Direction, HandshakeMessage};
-use tls_stream::Said;
-use tls_summary::KnownCertificates;
+use tls_stream::SideEvent;
+use tls_summary::CertificateCache;
 
-/// The keeper of a connection's pieces, if it has one, and the certificates of all connections,
-/// which are borrowed. The keeper is owned, since no contract of the analyzers' calls says that a
-/// borrowed one stays in place.
+/// The collector of a connection's pieces, if it has one, and the certificates of all connections,
+/// which are borrowed. The collector is owned, since no contract of the analyzers' calls says that
+/// a borrowed one stays in place.
 #[derive(Drop)]
 pub(crate) struct Audience<'a, K> {
-    pub(crate) keeper: Option<Box<K>>,
-    pub(crate) known: &'a mut KnownCertificates,
+    pub(crate) collector: Option<Box<K>>,
+    pub(crate) known: &'a mut CertificateCache,
 }
 
-impl<K: Keeper> Witness for Audience<'_, K> {
-    fn hear_said(
+impl<K: PieceCollector> Observer for Audience<'_, K> {
+    fn on_stream_event(
         &mut self,
         side: Direction,
-        said: &Said<'_>,
+        said: &SideEvent<'_>,
         message: Option<&HandshakeMessage<'_>>,
     ) -> Result<(), AllocError> {
-        self.keeper.hear_said(side, said, message)
+        self.collector.on_stream_event(side, said, message)
     }
 
-    fn hear_event(
+    fn on_datagram_event(
         &mut self,
         side: Direction,
         event: &dtls_stream::Event<'_>,
         message: Option<&HandshakeMessage<'_>>,
     ) -> Result<(), AllocError> {
-        self.keeper.hear_event(side, event, message)
+        self.collector.on_datagram_event(side, event, message)
     }
 
-    fn known_certificates(&mut self) -> Option<&mut KnownCertificates> {
+    fn certificate_cache(&mut self) -> Option<&mut CertificateCache> {
         Some(&mut *self.known)
     }
 }

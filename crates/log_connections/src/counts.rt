@@ -279,7 +279,7 @@ impl Counts {
 
     /// Writes what was found to standard error, and a line for each reason why something was left
     /// out.
-    pub fn tell<R: Eprint>(&self, rt: &R, name: &str) -> io::Result<()> {
+    pub fn report<R: Eprint>(&self, rt: &R, name: &str) -> io::Result<()> {
         eprintln!(rt;
             "{name}: {}, {}",
             Found { counts: self },

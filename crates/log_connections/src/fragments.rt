@@ -1,12 +1,12 @@
 //! Reassembly of fragmented datagrams.
 
+use crate::analysis::PieceCollector;
 use crate::arrival::Arrival;
 use crate::counts::add_one;
-use crate::heard::Keeper;
 use crate::log::Log;
-use capture::{Datagram, Fragment, parse_joined};
+use capture::{IpDatagram, IpFragment, parse_joined};
 use connections::Side;
-use ip_fragments::{Outcome, Refusal, Whole};
+use ip_fragments::{FragmentOutcome, FragmentRefusal, ReassembledDatagram};
 use packets::Packet;
 use std::alloc::AllocError;
 use std::mem;
@@ -14,16 +14,16 @@ use tunnels::{Inside, Tunnels, fragment_in, innermost_fragment, inside_of};
 
 /// A reassembled datagram.
 #[derive(Drop)]
-pub struct Joined {
-    whole: Whole,
+pub struct CompletedDatagram {
+    whole: ReassembledDatagram,
     // The capture time of its last fragment, and the tunnels around that.
     time: u64,
     tunnels: Tunnels,
 }
 
-impl Joined {
+impl CompletedDatagram {
     /// Parses the datagram; `None` if its content is malformed.
-    fn datagram(&self) -> Option<Datagram<'_>> {
+    fn datagram(&self) -> Option<IpDatagram<'_>> {
         let whole = &self.whole;
         let read = parse_joined(
             &whole.payload,
@@ -39,37 +39,37 @@ impl Joined {
     }
 }
 
-impl<K: Keeper> Log<K> {
+impl<K: PieceCollector> Log<K> {
     /// Adds a fragment, captured at `time` in these tunnels, to its datagram. Returns the datagram
     /// once it is complete.
     fn join_fragment(
         &mut self,
         time: u64,
         tunnels: Tunnels,
-        fragment: &Fragment<'_>,
-    ) -> Result<Option<Joined>, AllocError> {
+        fragment: &IpFragment<'_>,
+    ) -> Result<Option<CompletedDatagram>, AllocError> {
         let refusal = match self.fragments.add(time, fragment)? {
-            Outcome::Whole(whole) => {
-                return Ok(Some(Joined {
+            FragmentOutcome::Whole(whole) => {
+                return Ok(Some(CompletedDatagram {
                     whole,
                     time,
                     tunnels,
                 }));
             }
-            Outcome::Waits => return Ok(None),
-            Outcome::Refused(refusal) => refusal,
+            FragmentOutcome::Waits => return Ok(None),
+            FragmentOutcome::Refused(refusal) => refusal,
         };
         match refusal {
-            Refusal::TooLong => add_one(&mut self.counts.too_long),
-            Refusal::Uneven => add_one(&mut self.counts.uneven),
-            Refusal::OtherEnd => add_one(&mut self.counts.other_end),
+            FragmentRefusal::TooLong => add_one(&mut self.counts.too_long),
+            FragmentRefusal::Uneven => add_one(&mut self.counts.uneven),
+            FragmentRefusal::OtherEnd => add_one(&mut self.counts.other_end),
         }
         Ok(None)
     }
 
     /// Adds the fragment in a packet without an arrival to its datagram. Returns the datagram once
     /// it is complete, or `None` if the packet has no fragment.
-    pub fn join(&mut self, packet: Packet<'_>) -> Result<Option<Joined>, AllocError> {
+    pub fn join(&mut self, packet: Packet<'_>) -> Result<Option<CompletedDatagram>, AllocError> {
         if !mem::replace(&mut self.is_cut, false) {
             return Ok(None);
         }
@@ -89,7 +89,7 @@ impl<K: Keeper> Log<K> {
     pub fn arrival_in<'a>(
         &mut self,
         packet: Packet<'_>,
-        joined: &'a Joined,
+        joined: &'a CompletedDatagram,
     ) -> Result<Option<Arrival<'a>>, AllocError> {
         let Some(datagram) = joined.datagram() else {
             add_one(&mut self.counts.unread);
@@ -102,7 +102,10 @@ impl<K: Keeper> Log<K> {
 
     /// Adds the fragment in a reassembled datagram without an arrival to its own datagram. Returns
     /// that once it is complete, or `None` if there is no fragment.
-    pub fn join_inner(&mut self, joined: &Joined) -> Result<Option<Joined>, AllocError> {
+    pub fn join_inner(
+        &mut self,
+        joined: &CompletedDatagram,
+    ) -> Result<Option<CompletedDatagram>, AllocError> {
         if !mem::replace(&mut self.is_cut, false) {
             return Ok(None);
         }
@@ -121,7 +124,7 @@ impl<K: Keeper> Log<K> {
 
     /// Adds the count of bytes that disagreed in a datagram's fragments to the sender of an
     /// arrival, if its connection is open. Returns whether it is.
-    pub fn note_disagreeing(&mut self, arrival: &Arrival<'_>, joined: &Joined) -> bool {
+    pub fn note_disagreeing(&mut self, arrival: &Arrival<'_>, joined: &CompletedDatagram) -> bool {
         let count = joined.whole.disagreeing as u64;
         let source = arrival.source();
         let Some(connection) = self.connection(arrival) else {

@@ -1,38 +1,38 @@
 //! What a capture's packets add to the log.
 ghost use Rattle.std.specs.Prelude.{◌≡◌, IfOk, OnOk, is_some};
 ghost use Rattle.connections.specs.Connection.{side_of};
-ghost use Rattle.log_connections.specs.Heard.{HearsNext, HearsOn, direction_of as direction};
+ghost use Rattle.log_connections.specs.Analysis.{HearsNext, HearsOn, direction_of as direction};
 ghost use Rattle.log_connections.specs.Log.{HearsFrom, HearsSide, Logs, LogsDatagram, LogsExchange, LogsOpen, is_logged};
 
+use crate::analysis::{PieceCollector, PieceKind, TlsAnalysis};
 use crate::arrival::{Arrival, Checksums, checksum_of, datagram_of, end, segment_of};
 use crate::counts::{Counts, add_one};
-use crate::heard::{Heard, Keeper, Pieces};
 use crate::memory::SPARE;
 use capture::{Content, TcpSegment, UdpDatagram};
 use connection_parts::Part;
 use connections::{
-    Checksum, Connection, Connections, Datagram, End, Judgement, Kept, MAX_WAITING, Protocol,
-    Reason, Segment, Side, Stream, Told, Verdict,
+    Checksum, Connection, Connections, Datagram, DropReason, End, Judgement, MAX_PENDING,
+    PendingOutcome, PendingSegment, Protocol, Segment, Side, Stream, Verdict,
 };
-use ip_fragments::Fragments;
+use ip_fragments::FragmentTable;
 use networks::{Network, Networks};
 use packets::Packet;
 use std::alloc::{AllocError, Global};
 use std::hash::RandomState;
 use tls_flow::Direction;
-use tls_summary::KnownCertificates;
+use tls_summary::CertificateCache;
 use tunnels::{Inside, Tunnels, innermost_into, plain_segment, vlan_tags};
 
 /// The log of one capture, with its open connections.
 #[derive(Drop)]
 pub struct Log<K> {
     pub(crate) alloc: Global,
-    pub(crate) connections: Connections<Heard<K>>,
+    pub(crate) connections: Connections<TlsAnalysis<K>>,
     // The datagrams in reassembly, and whether the last packet held a fragment.
-    pub(crate) fragments: Fragments,
+    pub(crate) fragments: FragmentTable,
     pub(crate) is_cut: bool,
     // The pieces of connections that are kept until they are taken.
-    kept: Option<Pieces>,
+    kept: Option<PieceKind>,
     // The memory limit for connections in bytes, and whether the accounted memory of the last
     // arrival's connection may have changed.
     pub(crate) memory: usize,
@@ -40,7 +40,7 @@ pub struct Log<K> {
     // Memory that is freed when the system refuses more, so that connections can be ended.
     pub(crate) spare: Vec<u8>,
     // The latest certificates of all connections, whose digests aren't computed again.
-    pub(crate) known: KnownCertificates,
+    pub(crate) known: CertificateCache,
     checksums: Checksums,
     // The part whose connections are logged, if not all are.
     part: Option<Part>,
@@ -75,26 +75,26 @@ enum Delivery {
 }
 
 /// Analyzes the last bytes of both streams, which were held back while more could come.
-fn hear_last<K: Keeper>(
-    connection: &mut Connection<Heard<K>>,
-    known: &mut KnownCertificates,
+fn analyze_last<K: PieceCollector>(
+    connection: &mut Connection<TlsAnalysis<K>>,
+    known: &mut CertificateCache,
 ) -> Result<(), AllocError> {
     let is_opened = connection.has_opening();
-    let heard = &mut connection.listener;
+    let heard = &mut connection.attachment;
     let stream = &mut connection.from_originator;
-    heard.hear_stream(stream, Side::Originator, is_opened, true, known)?;
+    heard.analyze_stream(stream, Side::Originator, is_opened, true, known)?;
     let stream = &mut connection.from_responder;
-    heard.hear_stream(stream, Side::Responder, is_opened, true, known)
+    heard.analyze_stream(stream, Side::Responder, is_opened, true, known)
 }
 
 /// Analyzes the last bytes of a removed connection, and returns it.
-pub(crate) fn with_last<K: Keeper>(
-    known: &mut KnownCertificates,
-    taken: Option<Box<Connection<Heard<K>>>>,
-) -> Result<Option<Box<Connection<Heard<K>>>>, AllocError> {
+pub(crate) fn with_last<K: PieceCollector>(
+    known: &mut CertificateCache,
+    taken: Option<Box<Connection<TlsAnalysis<K>>>>,
+) -> Result<Option<Box<Connection<TlsAnalysis<K>>>>, AllocError> {
     match taken {
         Some(mut connection) => {
-            hear_last(&mut connection, known)?;
+            analyze_last(&mut connection, known)?;
             Ok(Some(connection))
         }
         None => Ok(None),
@@ -103,20 +103,20 @@ pub(crate) fn with_last<K: Keeper>(
 
 /// Analyzes the next bytes of a side's stream, on both sides of an urgent byte.
 #[inline(always)]
-fn hear_next<K: Keeper>(
-    heard: &mut Heard<K>,
+fn analyze_next<K: PieceCollector>(
+    heard: &mut TlsAnalysis<K>,
     stream: &mut Stream,
     side: Side,
     is_opened: bool,
-    known: &mut KnownCertificates,
+    known: &mut CertificateCache,
 ) -> Result<(), AllocError>
     ensures { OnOk result
         (HearsNext side (direction heard.new.is_turned side) stream.old stream.new heard.old.said
         heard.new.said) }
 {
-    heard.hear_stream(stream, side, is_opened, false, known)?;
+    heard.analyze_stream(stream, side, is_opened, false, known)?;
     if stream.pass_urgent() {
-        heard.hear_stream(stream, side, is_opened, false, known)?;
+        heard.analyze_stream(stream, side, is_opened, false, known)?;
     }
     Ok(())
 }
@@ -124,19 +124,19 @@ fn hear_next<K: Keeper>(
 /// Analyzes the next bytes of a side's stream. In a stream that is analyzed no further, counts the
 /// segment's records.
 #[inline(always)]
-fn hear_side<K: Keeper>(
-    heard: &mut Heard<K>,
+fn analyze_side<K: PieceCollector>(
+    heard: &mut TlsAnalysis<K>,
     stream: &mut Stream,
     side: Side,
     is_opened: bool,
     segment: &Segment<'_>,
-    known: &mut KnownCertificates,
+    known: &mut CertificateCache,
 ) -> Result<(), AllocError>
     ensures { OnOk result
         (HearsOn side (direction heard.new.is_turned side) stream.old stream.new heard.old.said
         heard.new.said) }
 {
-    hear_next(heard, stream, side, is_opened, known)?;
+    analyze_next(heard, stream, side, is_opened, known)?;
     if segment.has_data() {
         heard.count_records(side, stream.pass(segment));
     }
@@ -145,18 +145,18 @@ fn hear_side<K: Keeper>(
 
 /// Analyzes the next bytes of the segment's sender. Keeps the pieces if they are to be taken.
 #[inline(always)]
-fn hear<K: Keeper>(
-    connection: &mut Connection<Heard<K>>,
+fn analyze<K: PieceCollector>(
+    connection: &mut Connection<TlsAnalysis<K>>,
     segment: &Segment<'_>,
-    kept: Option<Pieces>,
+    kept: Option<PieceKind>,
     tunnels: &Tunnels,
-    known: &mut KnownCertificates,
+    known: &mut CertificateCache,
 ) -> Result<(), AllocError>
     ensures { OnOk result
         (HearsSide (side_of connection.old segment.now.source) connection.old connection.new) }
 {
     let (side, is_opened) = (connection.side_of(segment.source), connection.has_opening());
-    let heard = &mut connection.listener;
+    let heard = &mut connection.attachment;
     heard.note_tunnels(tunnels)?;
     if let Some(pieces) = kept {
         heard.keep(pieces)?;
@@ -164,53 +164,53 @@ fn hear<K: Keeper>(
     match side {
         Side::Originator => {
             let stream = &mut connection.from_originator;
-            hear_side(heard, stream, side, is_opened, segment, known)
+            analyze_side(heard, stream, side, is_opened, segment, known)
         }
         Side::Responder => {
             let stream = &mut connection.from_responder;
-            hear_side(heard, stream, side, is_opened, segment, known)
+            analyze_side(heard, stream, side, is_opened, segment, known)
         }
     }
 }
 
 /// Analyzes a datagram. Keeps the pieces if they are to be taken.
-fn hear_from<K: Keeper>(
-    exchange: &mut Connection<Heard<K>>,
+fn analyze_from<K: PieceCollector>(
+    exchange: &mut Connection<TlsAnalysis<K>>,
     datagram: &Datagram<'_>,
-    kept: Option<Pieces>,
+    kept: Option<PieceKind>,
     tunnels: &Tunnels,
-    known: &mut KnownCertificates,
+    known: &mut CertificateCache,
 ) -> Result<(), AllocError>
     ensures { OnOk result (HearsFrom datagram.now exchange.old exchange.new) }
 {
     let side = exchange.side_of(datagram.source);
-    let heard = &mut exchange.listener;
+    let heard = &mut exchange.attachment;
     let direction = heard.direction(side);
     heard.note_tunnels(tunnels)?;
     if let Some(pieces) = kept {
         heard.keep(pieces)?;
     }
-    heard.hear_datagram(direction, datagram.payload, known)
+    heard.analyze_datagram(direction, datagram.payload, known)
 }
 
-impl<K: Keeper> Log<K> {
+impl<K: PieceCollector> Log<K> {
     /// Returns the log of a capture of which nothing was read. `keys` keys the hashes of its
     /// tables. Such pieces of connections as `kept` are kept until they are taken.
     pub fn new(
         alloc: Global,
         keys: RandomState,
-        kept: Option<Pieces>,
+        kept: Option<PieceKind>,
     ) -> Result<Log<K>, AllocError> {
         Ok(Log {
             alloc,
             connections: Connections::new(alloc, keys)?,
-            fragments: Fragments::new(alloc, keys)?,
+            fragments: FragmentTable::new(alloc, keys)?,
             is_cut: false,
             kept,
             memory: usize::MAX,
             is_unsettled: false,
             spare: Vec::with_capacity(alloc, SPARE)?,
-            known: KnownCertificates::new(alloc),
+            known: CertificateCache::new(alloc),
             checksums: Checksums::Auto,
             part: None,
             networks: None,
@@ -231,7 +231,7 @@ impl<K: Keeper> Log<K> {
 
     /// Tells connections with the same ends in several networks apart. The default is not to.
     /// `keys` keys the hashes of the table of networks.
-    pub fn tell_networks_apart(&mut self, keys: RandomState) -> Result<(), AllocError> {
+    pub fn separate_networks(&mut self, keys: RandomState) -> Result<(), AllocError> {
         self.networks = Some(Networks::new(self.alloc, keys)?);
         Ok(())
     }
@@ -292,7 +292,7 @@ impl<K: Keeper> Log<K> {
     fn segment<'a>(
         &mut self,
         packet: Packet<'_>,
-        datagram: &capture::Datagram<'a>,
+        datagram: &capture::IpDatagram<'a>,
         tcp: &TcpSegment<'a>,
     ) -> Result<Option<Arrival<'a>>, AllocError> {
         let source = end(datagram.source, tcp.source);
@@ -310,7 +310,7 @@ impl<K: Keeper> Log<K> {
     fn user_datagram<'a>(
         &mut self,
         packet: Packet<'_>,
-        datagram: &capture::Datagram<'a>,
+        datagram: &capture::IpDatagram<'a>,
         udp: &UdpDatagram<'a>,
     ) -> Result<Option<Arrival<'a>>, AllocError> {
         let source = end(datagram.source, udp.source);
@@ -352,7 +352,7 @@ impl<K: Keeper> Log<K> {
         add_one(&mut self.counts.packets);
         // (field by field: the checksum reads the datagram from memory, and the segment is built
         // from one in registers)
-        let looked_at = capture::Datagram { ..datagram };
+        let looked_at = capture::IpDatagram { ..datagram };
         let source = end(datagram.source, tcp.source);
         let destination = end(datagram.destination, tcp.destination);
         let checksum = checksum_of(&looked_at, self.checksums);
@@ -365,7 +365,7 @@ impl<K: Keeper> Log<K> {
     fn arrival_of<'a>(
         &mut self,
         packet: Packet<'_>,
-        datagram: &capture::Datagram<'a>,
+        datagram: &capture::IpDatagram<'a>,
     ) -> Result<Option<Arrival<'a>>, AllocError> {
         match &datagram.content {
             Content::Tcp(tcp) => return self.segment(packet, datagram, tcp),
@@ -381,7 +381,7 @@ impl<K: Keeper> Log<K> {
     pub fn take_over(
         &mut self,
         arrival: &Arrival<'_>,
-    ) -> Result<Option<Box<Connection<Heard<K>>>>, AllocError> {
+    ) -> Result<Option<Box<Connection<TlsAnalysis<K>>>>, AllocError> {
         if !self.connections.has_idle(arrival.time()) {
             return Ok(None);
         }
@@ -389,7 +389,10 @@ impl<K: Keeper> Log<K> {
     }
 
     /// Removes and returns an idle connection, when there may be one.
-    fn take_idle(&mut self, time: u64) -> Result<Option<Box<Connection<Heard<K>>>>, AllocError> {
+    fn take_idle(
+        &mut self,
+        time: u64,
+    ) -> Result<Option<Box<Connection<TlsAnalysis<K>>>>, AllocError> {
         with_last(&mut self.known, self.connections.take_idle(time))
     }
 
@@ -400,9 +403,9 @@ impl<K: Keeper> Log<K> {
     pub fn accept(
         &mut self,
         arrival: &Arrival<'_>,
-    ) -> Result<Option<Box<Connection<Heard<K>>>>, AllocError> {
+    ) -> Result<Option<Box<Connection<TlsAnalysis<K>>>>, AllocError> {
         self.is_unsettled = false;
-        let over = self.hear_arrival(arrival)?;
+        let over = self.analyze_arrival(arrival)?;
         if self.is_unsettled {
             self.connections.settle(&arrival.between());
         }
@@ -411,10 +414,10 @@ impl<K: Keeper> Log<K> {
 
     /// Adds an arrival to its connection and analyzes it, and notes whether the accounted memory
     /// may have changed.
-    fn hear_arrival(
+    fn analyze_arrival(
         &mut self,
         arrival: &Arrival<'_>,
-    ) -> Result<Option<Box<Connection<Heard<K>>>>, AllocError> {
+    ) -> Result<Option<Box<Connection<TlsAnalysis<K>>>>, AllocError> {
         match arrival {
             Arrival::Segment(segment) => self.accept_segment(segment),
             Arrival::Datagram(datagram) => self.accept_user_datagram(datagram),
@@ -423,14 +426,14 @@ impl<K: Keeper> Log<K> {
 
     /// Adds the segment to its connection and analyzes the bytes that it completes. Returns whether
     /// both sides closed the connection, or `None` if the segment belongs to none.
-    fn hear_segment(&mut self, segment: &Segment<'_>) -> Result<Option<bool>, AllocError>
+    fn analyze_segment(&mut self, segment: &Segment<'_>) -> Result<Option<bool>, AllocError>
         ensures { IfOk result
             (λ heard. Logs (is_some heard) segment.now self.old.connections self.new.connections) }
     {
         // (mostly there is a connection already, which is looked up once)
         if let Some(connection) = self.connections.get_first_mut(&segment.between()) {
             connection.accept(self.alloc, segment)?;
-            hear(
+            analyze(
                 connection,
                 segment,
                 self.kept,
@@ -440,11 +443,11 @@ impl<K: Keeper> Log<K> {
             self.is_unsettled = !connection.is_settled();
             return Ok(Some(connection.is_closed()));
         }
-        self.hear_first(segment)
+        self.analyze_first(segment)
     }
 
     /// Adds a segment that may begin a connection, and analyzes the bytes that it completes.
-    fn hear_first(&mut self, segment: &Segment<'_>) -> Result<Option<bool>, AllocError>
+    fn analyze_first(&mut self, segment: &Segment<'_>) -> Result<Option<bool>, AllocError>
         ensures { IfOk result
             (λ heard. Logs (is_some heard) segment.now self.old.connections self.new.connections) }
     {
@@ -453,7 +456,7 @@ impl<K: Keeper> Log<K> {
         }
         match self.connections.get_mut(&segment.between()) {
             Some(connection) => {
-                hear(
+                analyze(
                     connection,
                     segment,
                     self.kept,
@@ -468,11 +471,11 @@ impl<K: Keeper> Log<K> {
     }
 
     /// Analyzes a pending segment that its receiver took.
-    fn hear_kept(&mut self, kept: &Kept) -> Result<(), AllocError> {
-        self.connections.accept_kept(kept)?;
+    fn analyze_pending(&mut self, kept: &PendingSegment) -> Result<(), AllocError> {
+        self.connections.accept_pending(kept)?;
         let segment = kept.segment();
         match self.connections.get_mut(&segment.between()) {
-            Some(connection) => hear(
+            Some(connection) => analyze(
                 connection,
                 &segment,
                 self.kept,
@@ -484,12 +487,12 @@ impl<K: Keeper> Log<K> {
     }
 
     /// Analyzes the pending segments that this segment acknowledges.
-    fn hear_waiting(&mut self, segment: &Segment<'_>) -> Result<(), AllocError> {
+    fn analyze_acknowledged(&mut self, segment: &Segment<'_>) -> Result<(), AllocError> {
         self.is_unsettled = true;
-        'waiting: for _ in 0..MAX_WAITING {
-            match self.connections.take_waiting(segment) {
-                Some(Told::Taken(kept)) => self.hear_kept(&kept)?,
-                Some(Told::Had) => {}
+        'waiting: for _ in 0..MAX_PENDING {
+            match self.connections.take_pending(segment) {
+                Some(PendingOutcome::Taken(kept)) => self.analyze_pending(&kept)?,
+                Some(PendingOutcome::Had) => {}
                 None => break,
             }
         }
@@ -501,18 +504,18 @@ impl<K: Keeper> Log<K> {
     fn take_segment(
         &mut self,
         segment: &Segment<'_>,
-    ) -> Result<Option<Box<Connection<Heard<K>>>>, AllocError> {
-        let heard = self.hear_segment(segment)?;
-        self.end_heard(segment, heard)
+    ) -> Result<Option<Box<Connection<TlsAnalysis<K>>>>, AllocError> {
+        let heard = self.analyze_segment(segment)?;
+        self.end_analyzed(segment, heard)
     }
 
     /// Removes and returns the connection of an analyzed segment if it is closed. A segment without
     /// a connection is counted.
-    fn end_heard(
+    fn end_analyzed(
         &mut self,
         segment: &Segment<'_>,
         heard: Option<bool>,
-    ) -> Result<Option<Box<Connection<Heard<K>>>>, AllocError> {
+    ) -> Result<Option<Box<Connection<TlsAnalysis<K>>>>, AllocError> {
         match heard {
             Some(true) => self.take_closed(segment),
             Some(false) => Ok(None),
@@ -532,7 +535,7 @@ impl<K: Keeper> Log<K> {
     fn take_closed(
         &mut self,
         segment: &Segment<'_>,
-    ) -> Result<Option<Box<Connection<Heard<K>>>>, AllocError> {
+    ) -> Result<Option<Box<Connection<TlsAnalysis<K>>>>, AllocError> {
         with_last(&mut self.known, self.connections.take_closed(segment)?)
     }
 
@@ -541,16 +544,16 @@ impl<K: Keeper> Log<K> {
     fn take_replaced(
         &mut self,
         segment: &Segment<'_>,
-    ) -> Result<Option<Box<Connection<Heard<K>>>>, AllocError> {
+    ) -> Result<Option<Box<Connection<TlsAnalysis<K>>>>, AllocError> {
         let over = self.connections.take_replaced(segment)?;
-        self.hear_segment(segment)?;
+        self.analyze_segment(segment)?;
         with_last(&mut self.known, over)
     }
 
     /// Adds a segment that its receiver takes to its open connection, and analyzes the bytes that
     /// it completes. If something has to be done first, nothing changes. The connection is looked
     /// up once, and looks at the segment once.
-    fn hear_open(&mut self, segment: &Segment<'_>) -> Result<Reception, AllocError>
+    fn analyze_open(&mut self, segment: &Segment<'_>) -> Result<Reception, AllocError>
         ensures { IfOk result
             (λ reception. LogsOpen reception segment.now self.old.connections self.new.connections) }
     {
@@ -558,10 +561,10 @@ impl<K: Keeper> Log<K> {
         let Some(connection) = self.connections.get_mut(&five_tuple) else {
             return Ok(Reception::NoneOpen);
         };
-        if let Some(verdict) = connection.accept_or_tell(self.alloc, segment)? {
+        if let Some(verdict) = connection.accept_or_judge(self.alloc, segment)? {
             return Ok(Reception::Told(verdict));
         }
-        hear(
+        analyze(
             connection,
             segment,
             self.kept,
@@ -580,13 +583,13 @@ impl<K: Keeper> Log<K> {
     fn accept_segment(
         &mut self,
         segment: &Segment<'_>,
-    ) -> Result<Option<Box<Connection<Heard<K>>>>, AllocError> {
-        match self.hear_open(segment)? {
+    ) -> Result<Option<Box<Connection<TlsAnalysis<K>>>>, AllocError> {
+        match self.analyze_open(segment)? {
             Reception::Heard(false) => Ok(None),
             Reception::Heard(true) => self.take_closed(segment),
             Reception::NoneOpen => {
-                let heard = self.hear_first(segment)?;
-                self.end_heard(segment, heard)
+                let heard = self.analyze_first(segment)?;
+                self.end_analyzed(segment, heard)
             }
             Reception::Told(verdict) => self.accept_by(segment, verdict),
         }
@@ -597,7 +600,7 @@ impl<K: Keeper> Log<K> {
         &mut self,
         segment: &Segment<'_>,
         verdict: Verdict,
-    ) -> Result<Option<Box<Connection<Heard<K>>>>, AllocError> {
+    ) -> Result<Option<Box<Connection<TlsAnalysis<K>>>>, AllocError> {
         if verdict.shows_damage {
             self.connections.restart(segment);
             return self.take_segment(segment);
@@ -607,7 +610,7 @@ impl<K: Keeper> Log<K> {
         }
         match verdict.judgement {
             Judgement::Dropped(reason) => {
-                if reason == Reason::Checksum {
+                if reason == DropReason::Checksum {
                     add_one(&mut self.counts.damaged);
                 }
                 self.is_unsettled = segment.begins();
@@ -621,7 +624,7 @@ impl<K: Keeper> Log<K> {
             }
             Judgement::Taken | Judgement::Again => {
                 if verdict.tells {
-                    self.hear_waiting(segment)?;
+                    self.analyze_acknowledged(segment)?;
                 }
                 self.take_segment(segment)
             }
@@ -630,7 +633,7 @@ impl<K: Keeper> Log<K> {
 
     /// Analyzes a datagram in its open exchange, unless it is damaged or begins another DTLS
     /// association. The exchange is looked up once.
-    fn hear_exchange(&mut self, datagram: &Datagram<'_>) -> Result<Delivery, AllocError>
+    fn analyze_exchange(&mut self, datagram: &Datagram<'_>) -> Result<Delivery, AllocError>
         ensures { IfOk result
             (λ delivery. LogsExchange delivery datagram.now self.old.connections
             self.new.connections) }
@@ -644,11 +647,11 @@ impl<K: Keeper> Log<K> {
             return Ok(Delivery::Damaged);
         }
         let side = exchange.side_of(datagram.source);
-        if exchange.listener.begins_another(side, datagram.payload) {
+        if exchange.attachment.begins_another(side, datagram.payload) {
             return Ok(Delivery::BeginsAnother);
         }
         exchange.take_datagram(self.alloc, datagram);
-        hear_from(
+        analyze_from(
             exchange,
             datagram,
             self.kept,
@@ -665,8 +668,8 @@ impl<K: Keeper> Log<K> {
     fn accept_user_datagram(
         &mut self,
         datagram: &Datagram<'_>,
-    ) -> Result<Option<Box<Connection<Heard<K>>>>, AllocError> {
-        match self.hear_exchange(datagram)? {
+    ) -> Result<Option<Box<Connection<TlsAnalysis<K>>>>, AllocError> {
+        match self.analyze_exchange(datagram)? {
             Delivery::Heard => Ok(None),
             Delivery::Damaged => {
                 add_one(&mut self.counts.damaged);
@@ -701,7 +704,7 @@ impl<K: Keeper> Log<K> {
         self.connections.accept_datagram(datagram)?;
         match self.connections.get_mut(&datagram.between()) {
             Some(exchange) => {
-                hear_from(
+                analyze_from(
                     exchange,
                     datagram,
                     self.kept,
@@ -716,14 +719,16 @@ impl<K: Keeper> Log<K> {
     }
 
     /// Returns the open connection of an arrival.
-    pub fn connection(&mut self, arrival: &Arrival<'_>) -> Option<&mut Connection<Heard<K>>> {
+    pub fn connection(&mut self, arrival: &Arrival<'_>) -> Option<&mut Connection<TlsAnalysis<K>>> {
         self.connections.get_mut(&arrival.between())
     }
 
     /// Removes and returns one of the remaining connections. At the end of the capture, call it
     /// until it returns `None`.
-    pub fn take_left(&mut self) -> Result<Option<Box<Connection<Heard<K>>>>, AllocError> {
+    pub fn take_remaining(
+        &mut self,
+    ) -> Result<Option<Box<Connection<TlsAnalysis<K>>>>, AllocError> {
         self.count_cut();
-        with_last(&mut self.known, self.connections.take_left())
+        with_last(&mut self.known, self.connections.take_remaining())
     }
 }

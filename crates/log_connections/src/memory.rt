@@ -1,8 +1,8 @@
 //! Evicts connections when memory runs short.
 
+use crate::analysis::{PieceCollector, TlsAnalysis};
 use crate::arrival::Arrival;
 use crate::counts::add_one;
-use crate::heard::{Heard, Keeper};
 use crate::log::{Log, with_last};
 use connections::Connection;
 use std::alloc::AllocError;
@@ -11,7 +11,7 @@ use std::alloc::AllocError;
 /// line and its parts.
 pub(crate) const SPARE: usize = 1_048_576;
 
-impl<K: Keeper> Log<K> {
+impl<K: PieceCollector> Log<K> {
     /// Sets the memory limit for connections in bytes. The default is none.
     pub fn set_memory(&mut self, memory: usize) {
         self.memory = memory;
@@ -20,11 +20,11 @@ impl<K: Keeper> Log<K> {
     /// Ends a removed connection early, and counts it.
     fn end_early(
         &mut self,
-        taken: Option<Box<Connection<Heard<K>>>>,
-    ) -> Result<Option<Box<Connection<Heard<K>>>>, AllocError> {
+        taken: Option<Box<Connection<TlsAnalysis<K>>>>,
+    ) -> Result<Option<Box<Connection<TlsAnalysis<K>>>>, AllocError> {
         match with_last(&mut self.known, taken)? {
             Some(mut connection) => {
-                connection.listener.is_ended_early = true;
+                connection.attachment.is_ended_early = true;
                 add_one(&mut self.counts.ended_early);
                 Ok(Some(connection))
             }
@@ -34,7 +34,7 @@ impl<K: Keeper> Log<K> {
 
     /// Removes and returns the longest-idle connection if all exceed the memory limit. Call it
     /// after each arrival until it returns `None`.
-    pub fn take_crowded(&mut self) -> Result<Option<Box<Connection<Heard<K>>>>, AllocError> {
+    pub fn take_crowded(&mut self) -> Result<Option<Box<Connection<TlsAnalysis<K>>>>, AllocError> {
         if !self.connections.is_crowded(self.memory) {
             return Ok(None);
         }
@@ -47,15 +47,15 @@ impl<K: Keeper> Log<K> {
     pub fn take_refused(
         &mut self,
         arrival: &Arrival<'_>,
-    ) -> Result<Option<Box<Connection<Heard<K>>>>, AllocError> {
+    ) -> Result<Option<Box<Connection<TlsAnalysis<K>>>>, AllocError> {
         self.spare = Vec::new(self.alloc);
         let taken = self.connections.take(&arrival.between());
         self.end_early(taken)
     }
 
     /// Removes and returns the longest-idle connection, when the system refuses memory.
-    pub fn take_oldest(&mut self) -> Result<Option<Box<Connection<Heard<K>>>>, AllocError> {
-        let taken = self.connections.take_left();
+    pub fn take_oldest(&mut self) -> Result<Option<Box<Connection<TlsAnalysis<K>>>>, AllocError> {
+        let taken = self.connections.take_remaining();
         self.end_early(taken)
     }
 

@@ -2,13 +2,13 @@
 //! sends them.
 use crate::nested::{Nested, Path};
 use connections::{Protocol, Side};
-use log_fields::columns::Certified;
+use log_fields::columns::CertificateField;
 use log_fields::connection::cell_of;
+use log_fields::context::FieldContext;
 use log_fields::fields::{Chain, Course, End, Field, Named, Offer, Print, Sent};
 use log_fields::listed::listed_cell;
 use log_fields::stamps::stamp_cell;
 use log_fields::summary::Summary;
-use log_fields::told::Told;
 use log_formats::cell::{Cell, Row};
 use log_formats::lists::{Texts, some_texts};
 use log_formats::objects::{LINE_LEN, json_bytes};
@@ -30,11 +30,11 @@ enum Said {
     /// A field of the connection's line.
     Same(Field),
     /// A field of the certificate.
-    Certified(Certified),
+    Certified(CertificateField),
     /// A hexadecimal field of the certificate, in upper case.
-    Digits(Certified),
+    Digits(CertificateField),
     /// A field of the certificate, as a number.
-    Number(Certified),
+    Number(CertificateField),
     /// The names in the certificate's subjectAltName.
     AlternativeNames,
     /// The certificate's SHA-256.
@@ -136,44 +136,56 @@ const CLIENT: Rows = &[
         "supported_ciphers",
         Said::Same(Field::Offer(Offer::Ciphers)),
     ),
-    ("subject", Said::Certified(Certified::Subject)),
-    ("issuer", Said::Certified(Certified::Issuer)),
-    ("not_before", Said::Certified(Certified::NotBefore)),
-    ("not_after", Said::Certified(Certified::NotAfter)),
+    ("subject", Said::Certified(CertificateField::Subject)),
+    ("issuer", Said::Certified(CertificateField::Issuer)),
+    ("not_before", Said::Certified(CertificateField::NotBefore)),
+    ("not_after", Said::Certified(CertificateField::NotAfter)),
 ];
 
 const SERVER: Rows = &[
     ("ja3s", Said::Same(Field::Print(Print::Ja3s))),
-    ("subject", Said::Certified(Certified::Subject)),
-    ("issuer", Said::Certified(Certified::Issuer)),
-    ("not_before", Said::Certified(Certified::NotBefore)),
-    ("not_after", Said::Certified(Certified::NotAfter)),
+    ("subject", Said::Certified(CertificateField::Subject)),
+    ("issuer", Said::Certified(CertificateField::Issuer)),
+    ("not_before", Said::Certified(CertificateField::NotBefore)),
+    ("not_after", Said::Certified(CertificateField::NotAfter)),
 ];
 
 const HASH: Rows = &[("sha256", Said::Sha256)];
 
 const X509: Rows = &[
-    ("version_number", Said::Certified(Certified::Version)),
-    ("serial_number", Said::Digits(Certified::Serial)),
-    ("not_before", Said::Certified(Certified::NotBefore)),
-    ("not_after", Said::Certified(Certified::NotAfter)),
+    ("version_number", Said::Certified(CertificateField::Version)),
+    ("serial_number", Said::Digits(CertificateField::Serial)),
+    ("not_before", Said::Certified(CertificateField::NotBefore)),
+    ("not_after", Said::Certified(CertificateField::NotAfter)),
     ("alternative_names", Said::AlternativeNames),
     (
         "public_key_algorithm",
-        Said::Certified(Certified::KeyAlgorithm),
+        Said::Certified(CertificateField::KeyAlgorithm),
     ),
-    ("public_key_size", Said::Certified(Certified::KeyLength)),
-    ("public_key_exponent", Said::Number(Certified::Exponent)),
-    ("public_key_curve", Said::Certified(Certified::Curve)),
+    (
+        "public_key_size",
+        Said::Certified(CertificateField::KeyLength),
+    ),
+    (
+        "public_key_exponent",
+        Said::Number(CertificateField::Exponent),
+    ),
+    ("public_key_curve", Said::Certified(CertificateField::Curve)),
     (
         "signature_algorithm",
-        Said::Certified(Certified::SignatureAlgorithm),
+        Said::Certified(CertificateField::SignatureAlgorithm),
     ),
 ];
 
-const SUBJECT: Rows = &[("distinguished_name", Said::Certified(Certified::Subject))];
+const SUBJECT: Rows = &[(
+    "distinguished_name",
+    Said::Certified(CertificateField::Subject),
+)];
 
-const ISSUER: Rows = &[("distinguished_name", Said::Certified(Certified::Issuer))];
+const ISSUER: Rows = &[(
+    "distinguished_name",
+    Said::Certified(CertificateField::Issuer),
+)];
 
 /// Fields for which the schema has no names.
 const OWN: Rows = &[
@@ -215,25 +227,25 @@ static OBJECTS: &[(Path, Owner, Rows)] = &[
 
 /// Returns a field of the owner's certificate.
 fn certified_cell<'a>(
-    told: &mut Told<'a>,
+    context: &mut FieldContext<'a>,
     owner: Owner,
-    field: Certified,
+    field: CertificateField,
 ) -> Result<Option<Cell<'a>>, AllocError> {
     match owner {
         Owner::Nobody => Ok(None),
-        Owner::Client => cell_of(told, &Field::ClientCertificate(field)),
-        Owner::Server => cell_of(told, &Field::ServerCertificate(field)),
+        Owner::Client => cell_of(context, &Field::ClientCertificate(field)),
+        Owner::Server => cell_of(context, &Field::ServerCertificate(field)),
     }
 }
 
 /// Returns a hexadecimal field of the owner's certificate, in upper case.
 fn digits_cell<'a>(
-    told: &mut Told<'_>,
+    context: &mut FieldContext<'_>,
     owner: Owner,
-    field: Certified,
+    field: CertificateField,
 ) -> Result<Option<Cell<'a>>, AllocError> {
-    let alloc = told.alloc;
-    match certified_cell(told, owner, field)? {
+    let alloc = context.alloc;
+    match certified_cell(context, owner, field)? {
         Some(Cell::Text(text)) => {
             some_text(text.to_string(alloc)?.as_str().to_ascii_uppercase(alloc))
         }
@@ -243,12 +255,12 @@ fn digits_cell<'a>(
 
 /// Returns a field of the owner's certificate as a number, if its text is one.
 fn number_cell<'a>(
-    told: &mut Told<'_>,
+    context: &mut FieldContext<'_>,
     owner: Owner,
-    field: Certified,
+    field: CertificateField,
 ) -> Result<Option<Cell<'a>>, AllocError> {
-    let alloc = told.alloc;
-    let Some(Cell::Text(text)) = certified_cell(told, owner, field)? else {
+    let alloc = context.alloc;
+    let Some(Cell::Text(text)) = certified_cell(context, owner, field)? else {
         return Ok(None);
     };
     match text.to_string(alloc)?.as_str().parse::<u64>() {
@@ -259,41 +271,44 @@ fn number_cell<'a>(
 
 /// The names in the client's certificate, by kind.
 static CLIENT_NAMES: [Field; 4] = [
-    Field::ClientCertificate(Certified::DnsNames),
-    Field::ClientCertificate(Certified::Addresses),
-    Field::ClientCertificate(Certified::Emails),
-    Field::ClientCertificate(Certified::Uris),
+    Field::ClientCertificate(CertificateField::DnsNames),
+    Field::ClientCertificate(CertificateField::Addresses),
+    Field::ClientCertificate(CertificateField::Emails),
+    Field::ClientCertificate(CertificateField::Uris),
 ];
 
 /// The names in the server's certificate, by kind.
 static SERVER_NAMES: [Field; 4] = [
-    Field::ServerCertificate(Certified::DnsNames),
-    Field::ServerCertificate(Certified::Addresses),
-    Field::ServerCertificate(Certified::Emails),
-    Field::ServerCertificate(Certified::Uris),
+    Field::ServerCertificate(CertificateField::DnsNames),
+    Field::ServerCertificate(CertificateField::Addresses),
+    Field::ServerCertificate(CertificateField::Emails),
+    Field::ServerCertificate(CertificateField::Uris),
 ];
 
 /// Returns the names in the owner's certificate.
 fn alternative_names_cell<'a>(
-    told: &mut Told<'_>,
+    context: &mut FieldContext<'_>,
     owner: Owner,
 ) -> Result<Option<Cell<'a>>, AllocError> {
     match owner {
         Owner::Nobody => Ok(None),
-        Owner::Client => listed_cell(told, &CLIENT_NAMES),
-        Owner::Server => listed_cell(told, &SERVER_NAMES),
+        Owner::Client => listed_cell(context, &CLIENT_NAMES),
+        Owner::Server => listed_cell(context, &SERVER_NAMES),
     }
 }
 
 /// Returns the SHA-256 of the owner's certificate, in upper case.
-fn sha256_cell<'a>(told: &mut Told<'_>, owner: Owner) -> Result<Option<Cell<'a>>, AllocError> {
-    let alloc = told.alloc;
+fn sha256_cell<'a>(
+    context: &mut FieldContext<'_>,
+    owner: Owner,
+) -> Result<Option<Cell<'a>>, AllocError> {
+    let alloc = context.alloc;
     let prints = match owner {
         Owner::Nobody => return Ok(None),
         Owner::Client => Chain::ClientPrints,
         Owner::Server => Chain::ServerPrints,
     };
-    let Some(Cell::Texts(Texts::Digests(chain))) = cell_of(told, &Field::Chain(prints))? else {
+    let Some(Cell::Texts(Texts::Digests(chain))) = cell_of(context, &Field::Chain(prints))? else {
         return Ok(None);
     };
     match chain.first() {
@@ -336,30 +351,33 @@ fn network_protocol(protocol: Protocol) -> &'static str {
 }
 
 /// Returns a count of one side.
-fn count_of(told: &mut Told<'_>, side: Side, counted: Sent) -> Result<u64, AllocError> {
-    match cell_of(told, &Field::Sent(side, counted))? {
+fn count_of(context: &mut FieldContext<'_>, side: Side, counted: Sent) -> Result<u64, AllocError> {
+    match cell_of(context, &Field::Sent(side, counted))? {
         Some(Cell::Number(count)) => Ok(count),
         _ => Ok(0),
     }
 }
 
 /// Returns the sum of a count of both sides.
-fn both_cell<'a>(told: &mut Told<'_>, counted: Sent) -> Result<Option<Cell<'a>>, AllocError> {
-    let from_originator = count_of(told, Side::Originator, counted)?;
-    let from_responder = count_of(told, Side::Responder, counted)?;
+fn both_cell<'a>(
+    context: &mut FieldContext<'_>,
+    counted: Sent,
+) -> Result<Option<Cell<'a>>, AllocError> {
+    let from_originator = count_of(context, Side::Originator, counted)?;
+    let from_responder = count_of(context, Side::Responder, counted)?;
     Ok(Some(Cell::Number(from_originator.saturating_add(from_responder))))
 }
 
 /// Returns the version without the protocol's name, or its number.
-fn version_cell<'a>(told: &Told<'_>) -> Option<Cell<'a>> {
-    let version = told.handshake.version()?;
+fn version_cell<'a>(context: &FieldContext<'_>) -> Option<Cell<'a>> {
+    let version = context.handshake.version()?;
     let name = ecs_version(version).map(|(_protocol, name)| name);
     Some(Cell::Text(name_or_number(name, version.0)))
 }
 
 /// Returns the protocol's name without the version.
-fn version_protocol_cell<'a>(told: &Told<'_>) -> Option<Cell<'a>> {
-    let version = told.handshake.version()?;
+fn version_protocol_cell<'a>(context: &FieldContext<'_>) -> Option<Cell<'a>> {
+    let version = context.handshake.version()?;
     some_name(ecs_version(version).map(|(protocol, _name)| protocol))
 }
 
@@ -386,20 +404,20 @@ fn summary_cell<'a>(
 
 /// Returns a name's value, for a connection and the owner's certificate.
 fn said_cell<'a>(
-    told: &mut Told<'a>,
+    context: &mut FieldContext<'a>,
     owner: Owner,
     said: Said,
 ) -> Result<Option<Cell<'a>>, AllocError> {
     match said {
-        Said::Same(field) => cell_of(told, &field),
-        Said::Certified(field) => certified_cell(told, owner, field),
-        Said::Digits(field) => digits_cell(told, owner, field),
-        Said::Number(field) => number_cell(told, owner, field),
-        Said::AlternativeNames => alternative_names_cell(told, owner),
-        Said::Sha256 => sha256_cell(told, owner),
-        Said::Both(counted) => both_cell(told, counted),
-        Said::Version => Ok(version_cell(told)),
-        Said::VersionProtocol => Ok(version_protocol_cell(told)),
+        Said::Same(field) => cell_of(context, &field),
+        Said::Certified(field) => certified_cell(context, owner, field),
+        Said::Digits(field) => digits_cell(context, owner, field),
+        Said::Number(field) => number_cell(context, owner, field),
+        Said::AlternativeNames => alternative_names_cell(context, owner),
+        Said::Sha256 => sha256_cell(context, owner),
+        Said::Both(counted) => both_cell(context, counted),
+        Said::Version => Ok(version_cell(context)),
+        Said::VersionProtocol => Ok(version_protocol_cell(context)),
         Said::Begin
         | Said::End
         | Said::Duration
@@ -407,26 +425,30 @@ fn said_cell<'a>(
         | Said::NetworkType
         | Said::NetworkProtocol
         | Said::Word(_)
-        | Said::Words(_) => summary_cell(told.alloc, told.summary, said),
+        | Said::Words(_) => summary_cell(context.alloc, context.summary, said),
     }
 }
 
 /// Returns the values of an object's names.
-fn object_row<'a>(told: &mut Told<'a>, owner: Owner, rows: Rows) -> Result<Row<'a>, AllocError> {
-    let mut cells = Vec::with_capacity(told.alloc, rows.len())?;
+fn object_row<'a>(
+    context: &mut FieldContext<'a>,
+    owner: Owner,
+    rows: Rows,
+) -> Result<Row<'a>, AllocError> {
+    let mut cells = Vec::with_capacity(context.alloc, rows.len())?;
     for (name, said) in rows {
-        cells.push((*name, said_cell(told, owner, *said)?))?;
+        cells.push((*name, said_cell(context, owner, *said)?))?;
     }
     Ok(Row { cells })
 }
 
 /// Returns the event of a connection, without a line break.
-pub fn line(told: Told<'_>) -> Result<Vec<u8>, AllocError> {
-    let alloc = told.alloc;
-    let mut told = told;
+pub fn line(context: FieldContext<'_>) -> Result<Vec<u8>, AllocError> {
+    let alloc = context.alloc;
+    let mut context = context;
     let mut rows = Vec::with_capacity(alloc, OBJECTS.len())?;
     for (path, owner, names) in OBJECTS {
-        rows.push((*path, object_row(&mut told, *owner, names)?))?;
+        rows.push((*path, object_row(&mut context, *owner, names)?))?;
     }
     json_bytes(alloc, &Nested { rows }, LINE_LEN)
 }

@@ -1,5 +1,5 @@
 //! The fields of a certificate (RFC 5280, section 4.1). Nothing is verified.
-use crate::columns::Certified;
+use crate::columns::CertificateField;
 use der::ObjectIdentifier;
 use layouts::{ErrorKind, Items};
 use log_formats::cell::Cell;
@@ -54,14 +54,17 @@ fn alternative_names<'a>(certificate: &Certificate<'a>) -> Items<'a, GeneralName
 }
 
 /// Returns whether a name is of the kind that a field lists.
-fn is_listed(name: &GeneralName<'_>, field: &Certified) -> bool {
+fn is_listed(name: &GeneralName<'_>, field: &CertificateField) -> bool {
     matches!(
         (field, name),
-        (Certified::DnsNames, GeneralName::DnsName(_))
-            | (Certified::Emails, GeneralName::Rfc822Name(_))
-            | (Certified::Uris, GeneralName::UniformResourceIdentifier(_))
-            | (Certified::Addresses, GeneralName::IpAddress(_))
-            | (Certified::OtherNames, GeneralName::Other(_))
+        (CertificateField::DnsNames, GeneralName::DnsName(_))
+            | (CertificateField::Emails, GeneralName::Rfc822Name(_))
+            | (
+                CertificateField::Uris,
+                GeneralName::UniformResourceIdentifier(_)
+            )
+            | (CertificateField::Addresses, GeneralName::IpAddress(_))
+            | (CertificateField::OtherNames, GeneralName::Other(_))
     )
 }
 
@@ -69,7 +72,7 @@ fn is_listed(name: &GeneralName<'_>, field: &Certified) -> bool {
 fn names_cell<'c>(
     alloc: Global,
     certificate: &Certificate<'_>,
-    field: &Certified,
+    field: &CertificateField,
 ) -> Result<Option<Cell<'c>>, AllocError> {
     let mut all = Vec::new(alloc);
     for name in alternative_names(certificate) {
@@ -178,19 +181,19 @@ fn time_cell<'c>(alloc: Global, seconds: i64) -> Result<Option<Cell<'c>>, AllocE
 fn key_cell<'c>(
     alloc: Global,
     info: SubjectPublicKeyInfo<'_>,
-    field: &Certified,
+    field: &CertificateField,
 ) -> Result<Option<Cell<'c>>, AllocError> {
     match field {
-        Certified::KeyAlgorithm => some_text(object_text(alloc, info.algorithm.algorithm)),
-        Certified::KeyLength => match key_length(info) {
+        CertificateField::KeyAlgorithm => some_text(object_text(alloc, info.algorithm.algorithm)),
+        CertificateField::KeyLength => match key_length(info) {
             Some(bits) => Ok(Some(Cell::Number(u64::from(bits)))),
             None => Ok(None),
         },
-        Certified::Exponent => match key_exponent(info) {
+        CertificateField::Exponent => match key_exponent(info) {
             Some(exponent) => some_text(natural_text(alloc, exponent)),
             None => Ok(None),
         },
-        Certified::Curve => match key_curve(info) {
+        CertificateField::Curve => match key_curve(info) {
             Some(curve) => some_text(object_text(alloc, curve)),
             None => Ok(None),
         },
@@ -202,34 +205,37 @@ fn key_cell<'c>(
 pub fn certified_cell<'c>(
     alloc: Global,
     certificate: &Certificate<'_>,
-    field: &Certified,
+    field: &CertificateField,
 ) -> Result<Option<Cell<'c>>, AllocError> {
     let tbs = &certificate.tbs_certificate;
     match field {
-        Certified::Version => Ok(Some(Cell::Number(u64::from(version_number(certificate))))),
-        Certified::Serial => some_text(serial_number_text(alloc, tbs.serial_number)),
-        Certified::Subject => some_text(name_text(alloc, tbs.subject)),
-        Certified::Issuer => some_text(name_text(alloc, tbs.issuer)),
-        Certified::NotBefore => time_cell(alloc, tbs.validity.not_before),
-        Certified::NotAfter => time_cell(alloc, tbs.validity.not_after),
-        Certified::ValidFrom => Ok(Some(Cell::Whole(tbs.validity.not_before))),
-        Certified::ValidUntil => Ok(Some(Cell::Whole(tbs.validity.not_after))),
-        Certified::KeyAlgorithm
-        | Certified::KeyType
-        | Certified::KeyLength
-        | Certified::Exponent
-        | Certified::Curve => key_cell(alloc, tbs.subject_public_key_info, field),
-        Certified::SignatureAlgorithm => some_text(object_text(alloc, tbs.signature.algorithm)),
-        Certified::DnsNames
-        | Certified::Uris
-        | Certified::Emails
-        | Certified::Addresses
-        | Certified::OtherNames => names_cell(alloc, certificate, field),
-        Certified::IsCa => Ok(Some(Cell::Mark(is_ca(certificate)))),
-        Certified::MayBeCa => Ok(may_be_ca(certificate)),
-        Certified::PathLength => Ok(path_length(certificate)),
-        Certified::SelfIssued => Ok(Some(Cell::Mark(is_self_issued(certificate)))),
-        Certified::KeyUsage => key_usage(alloc, certificate),
-        Certified::Purposes => purposes(alloc, certificate),
+        CertificateField::Version => Ok(Some(Cell::Number(u64::from(version_number(certificate))))),
+        CertificateField::Serial => some_text(serial_number_text(alloc, tbs.serial_number)),
+        CertificateField::Subject => some_text(name_text(alloc, tbs.subject)),
+        CertificateField::Issuer => some_text(name_text(alloc, tbs.issuer)),
+        CertificateField::NotBefore => time_cell(alloc, tbs.validity.not_before),
+        CertificateField::NotAfter => time_cell(alloc, tbs.validity.not_after),
+        CertificateField::ValidFrom => Ok(Some(Cell::Whole(tbs.validity.not_before))),
+        CertificateField::ValidUntil => Ok(Some(Cell::Whole(tbs.validity.not_after))),
+        CertificateField::KeyAlgorithm
+        | CertificateField::KeyType
+        | CertificateField::KeyLength
+        | CertificateField::Exponent
+        | CertificateField::Curve => key_cell(alloc, tbs.subject_public_key_info, field),
+        CertificateField::SignatureAlgorithm => some_text(object_text(
+            alloc,
+            tbs.signature.algorithm,
+        )),
+        CertificateField::DnsNames
+        | CertificateField::Uris
+        | CertificateField::Emails
+        | CertificateField::Addresses
+        | CertificateField::OtherNames => names_cell(alloc, certificate, field),
+        CertificateField::IsCa => Ok(Some(Cell::Mark(is_ca(certificate)))),
+        CertificateField::MayBeCa => Ok(may_be_ca(certificate)),
+        CertificateField::PathLength => Ok(path_length(certificate)),
+        CertificateField::SelfIssued => Ok(Some(Cell::Mark(is_self_issued(certificate)))),
+        CertificateField::KeyUsage => key_usage(alloc, certificate),
+        CertificateField::Purposes => purposes(alloc, certificate),
     }
 }

@@ -4,7 +4,7 @@ use log_formats::column::{Column, Type};
 
 /// A field of a certificate (RFC 5280, section 4.1).
 #[derive(Clone, Copy)]
-pub enum Certified {
+pub enum CertificateField {
     Version,
     Serial,
     Subject,
@@ -33,7 +33,7 @@ pub enum Certified {
 }
 
 /// A field of a message's line.
-pub enum Part {
+pub enum MessageField {
     End(End),
     Side,
     Place,
@@ -43,13 +43,13 @@ pub enum Part {
 }
 
 /// A field of a certificate's line.
-pub enum Detail {
+pub enum CertificateLineField {
     End(End),
     Side,
     Place,
     Print,
     Length,
-    Certificate(Certified),
+    Certificate(CertificateField),
     IsServers,
     IsClients,
     Fault,
@@ -68,145 +68,150 @@ macro_rules! columns {
 }
 
 /// The fields of a message's line, in their order.
-pub static PARTS: &[Column<Part>] = columns! {
+pub static PARTS: &[Column<MessageField>] = columns! {
     /// the time of the packet that completed it, as above
-    "ts": Time = Part::End(End::Time);
+    "ts": Time = MessageField::End(End::Time);
     /// that of the connection
-    "uid": Text = Part::End(End::Uid);
+    "uid": Text = MessageField::End(End::Uid);
     /// the connection, as above
-    "id.orig_h": Address = Part::End(End::Originator);
+    "id.orig_h": Address = MessageField::End(End::Originator);
     /// as above
-    "id.orig_p": Port = Part::End(End::OriginatorPort);
+    "id.orig_p": Port = MessageField::End(End::OriginatorPort);
     /// as above
-    "id.resp_h": Address = Part::End(End::Responder);
+    "id.resp_h": Address = MessageField::End(End::Responder);
     /// as above
-    "id.resp_p": Port = Part::End(End::ResponderPort);
+    "id.resp_p": Port = MessageField::End(End::ResponderPort);
     /// as above
-    "proto": Enum = Part::End(End::Protocol);
+    "proto": Enum = MessageField::End(End::Protocol);
     /// the sender: `client`, `server`
-    "side": Text = Part::Side;
+    "side": Text = MessageField::Side;
     /// the number of messages of that side before it
-    "place": Count = Part::Place;
+    "place": Count = MessageField::Place;
     /// the type of its record: 20 a ChangeCipherSpec, 21 an alert, 22 a handshake message, 24 a
     /// heartbeat
     /// RFC: 8446, 5.1; 6520, 3
-    "content_type": Count = Part::ContentType;
+    "content_type": Count = MessageField::ContentType;
     /// the name of the handshake message, as `client_hello`; else `change_cipher_spec`, `alert`,
     /// `heartbeat`
     /// RFC: 8446, B.3; 5246, A.4
     /// absent: the handshake type has no name
-    "name": Text = Part::Name;
+    "name": Text = MessageField::Name;
     /// its fields, by the names in its RFC
     /// RFC: see below
-    "message": Fields = Part::Message;
+    "message": Fields = MessageField::Message;
 };
 
 /// The fields of a certificate's line, in their order. They have the names in Zeek's x509.log where
 /// that has the field.
-pub static DETAILS: &[Column<Detail>] = columns! {
+pub static DETAILS: &[Column<CertificateLineField>] = columns! {
     /// the time of the packet that completed the message
     /// Zeek: `ts`
-    "ts": Time = Detail::End(End::Time);
+    "ts": Time = CertificateLineField::End(End::Time);
     /// that of the connection
-    "uid": Text = Detail::End(End::Uid);
+    "uid": Text = CertificateLineField::End(End::Uid);
     /// the connection, as above
-    "id.orig_h": Address = Detail::End(End::Originator);
+    "id.orig_h": Address = CertificateLineField::End(End::Originator);
     /// as above
-    "id.orig_p": Port = Detail::End(End::OriginatorPort);
+    "id.orig_p": Port = CertificateLineField::End(End::OriginatorPort);
     /// as above
-    "id.resp_h": Address = Detail::End(End::Responder);
+    "id.resp_h": Address = CertificateLineField::End(End::Responder);
     /// as above
-    "id.resp_p": Port = Detail::End(End::ResponderPort);
+    "id.resp_p": Port = CertificateLineField::End(End::ResponderPort);
     /// as above
-    "proto": Enum = Detail::End(End::Protocol);
+    "proto": Enum = CertificateLineField::End(End::Protocol);
     /// who sent it: `client`, `server`
-    "side": Text = Detail::Side;
+    "side": Text = CertificateLineField::Side;
     /// the number of certificates in front of it in its chain
     /// RFC: 5246, 7.4.2
-    "place": Count = Detail::Place;
+    "place": Count = CertificateLineField::Place;
     /// the SHA-256 of its bytes, as in `cert_chain_fps`
     /// Zeek: `fingerprint`
-    "fingerprint": Text = Detail::Print;
+    "fingerprint": Text = CertificateLineField::Print;
     /// its bytes
-    "length": Count = Detail::Length;
+    "length": Count = CertificateLineField::Length;
     /// 1, 2, 3
     /// RFC: 5280, 4.1.2.1
     /// Zeek: the same
     /// absent: it isn't read (as for all up to `self_issued`)
-    "certificate.version": Count = Detail::Certificate(Certified::Version);
+    "certificate.version": Count = CertificateLineField::Certificate(CertificateField::Version);
     /// as `serial`, `subject`, `issuer` above
     /// RFC: 5280, 4.1.2
     /// Zeek: the same
-    "certificate.serial": Text = Detail::Certificate(Certified::Serial);
+    "certificate.serial": Text = CertificateLineField::Certificate(CertificateField::Serial);
     /// as above
-    "certificate.subject": Text = Detail::Certificate(Certified::Subject);
+    "certificate.subject": Text = CertificateLineField::Certificate(CertificateField::Subject);
     /// as above
-    "certificate.issuer": Text = Detail::Certificate(Certified::Issuer);
+    "certificate.issuer": Text = CertificateLineField::Certificate(CertificateField::Issuer);
     /// seconds since 1970-01-01 00:00 UTC
     /// RFC: 5280, 4.1.2.5
     /// Zeek: the same
-    "certificate.not_valid_before": Time = Detail::Certificate(Certified::ValidFrom);
+    "certificate.not_valid_before": Time =
+        CertificateLineField::Certificate(CertificateField::ValidFrom);
     /// as above
-    "certificate.not_valid_after": Time = Detail::Certificate(Certified::ValidUntil);
+    "certificate.not_valid_after": Time =
+        CertificateLineField::Certificate(CertificateField::ValidUntil);
     /// the algorithms of its key and of its signature, by OpenSSL's long names, or dotted
     /// RFC: 5280, 4.1.1.2
     /// Zeek: the same
-    "certificate.key_alg": Text = Detail::Certificate(Certified::KeyAlgorithm);
+    "certificate.key_alg": Text = CertificateLineField::Certificate(CertificateField::KeyAlgorithm);
     /// as above
-    "certificate.sig_alg": Text = Detail::Certificate(Certified::SignatureAlgorithm);
+    "certificate.sig_alg": Text =
+        CertificateLineField::Certificate(CertificateField::SignatureAlgorithm);
     /// as `key_type`, `key_length` above
     /// Zeek: the same
-    "certificate.key_type": Text = Detail::Certificate(Certified::KeyType);
+    "certificate.key_type": Text = CertificateLineField::Certificate(CertificateField::KeyType);
     /// as above
-    "certificate.key_length": Count = Detail::Certificate(Certified::KeyLength);
+    "certificate.key_length": Count =
+        CertificateLineField::Certificate(CertificateField::KeyLength);
     /// RSA's public exponent, in decimal; from 2^64 on in hexadecimal, behind `0x`
     /// RFC: 8017, A.1.1
     /// Zeek: the same, always decimal
     /// absent: it has another key
-    "certificate.exponent": Text = Detail::Certificate(Certified::Exponent);
+    "certificate.exponent": Text = CertificateLineField::Certificate(CertificateField::Exponent);
     /// as `key_curve` above
     /// Zeek: the same
-    "certificate.curve": Text = Detail::Certificate(Certified::Curve);
+    "certificate.curve": Text = CertificateLineField::Certificate(CertificateField::Curve);
     /// the names of each kind in its subjectAltName, in order
     /// RFC: 5280, 4.2.1.6
     /// Zeek: the same
     /// absent: there are none
-    "san.dns": Texts = Detail::Certificate(Certified::DnsNames);
+    "san.dns": Texts = CertificateLineField::Certificate(CertificateField::DnsNames);
     /// as above
-    "san.uri": Texts = Detail::Certificate(Certified::Uris);
+    "san.uri": Texts = CertificateLineField::Certificate(CertificateField::Uris);
     /// as above
-    "san.email": Texts = Detail::Certificate(Certified::Emails);
+    "san.email": Texts = CertificateLineField::Certificate(CertificateField::Emails);
     /// as above
-    "san.ip": Addresses = Detail::Certificate(Certified::Addresses);
+    "san.ip": Addresses = CertificateLineField::Certificate(CertificateField::Addresses);
     /// those of other kinds there
     /// absent: there are none
-    "san.other": Texts = Detail::Certificate(Certified::OtherNames);
+    "san.other": Texts = CertificateLineField::Certificate(CertificateField::OtherNames);
     /// whether it may sign others
     /// RFC: 5280, 4.2.1.9
     /// Zeek: the same
     /// absent: it has no such extension
-    "basic_constraints.ca": Mark = Detail::Certificate(Certified::MayBeCa);
+    "basic_constraints.ca": Mark = CertificateLineField::Certificate(CertificateField::MayBeCa);
     /// how many certificates may stand between it and the last one
     /// Zeek: the same
     /// absent: no limit
-    "basic_constraints.path_len": Count = Detail::Certificate(Certified::PathLength);
+    "basic_constraints.path_len": Count =
+        CertificateLineField::Certificate(CertificateField::PathLength);
     /// what its key may be used for, by the names of bits and purposes
     /// RFC: 5280, 4.2.1.3, 4.2.1.12
     /// absent: it has no such extension
-    "key_usage": Texts = Detail::Certificate(Certified::KeyUsage);
+    "key_usage": Texts = CertificateLineField::Certificate(CertificateField::KeyUsage);
     /// as above
-    "ext_key_usage": Texts = Detail::Certificate(Certified::Purposes);
+    "ext_key_usage": Texts = CertificateLineField::Certificate(CertificateField::Purposes);
     /// whether its subject is its issuer, byte for byte
     /// RFC: 5280, 3.2
-    "self_issued": Mark = Detail::Certificate(Certified::SelfIssued);
+    "self_issued": Mark = CertificateLineField::Certificate(CertificateField::SelfIssued);
     /// `true`: it is the server's own, the client's own
     /// Zeek: the same
     /// absent: it is another
-    "host_cert": Mark = Detail::IsServers;
+    "host_cert": Mark = CertificateLineField::IsServers;
     /// as above
-    "client_cert": Mark = Detail::IsClients;
+    "client_cert": Mark = CertificateLineField::IsClients;
     /// why it isn't read, as in `cert_error`
     /// RFC: 5280, 4.1
     /// absent: it is read
-    "error": Text = Detail::Fault;
+    "error": Text = CertificateLineField::Fault;
 };

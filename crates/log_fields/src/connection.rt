@@ -1,12 +1,12 @@
 //! The values of a connection's fields.
 use crate::certificates::certified_cell;
-use crate::columns::Certified;
+use crate::columns::CertificateField;
+use crate::context::{FieldContext, Moment, SideContext};
 use crate::fields::{Carried, Course, End, FIELDS, Field, Named, Sent, rows};
-use crate::hellos::{other_names_cell, tell_answer, tell_chain, tell_offer};
+use crate::hellos::{compute_answer, compute_chain, compute_offer, other_names_cell};
 use crate::names::{REASONS, kind_name, outcome_name, reason_name, tunnel_name};
-use crate::prints::tell_print;
+use crate::prints::compute_print;
 use crate::summary::Summary;
-use crate::told::{Moment, Sender, Told};
 use connection_ids::{community_id, uid};
 use connections::{Dropped, Protocol};
 use log_formats::cell::{Cell, KeptCell, Row, Seconds, StopCell, TakesCell};
@@ -82,18 +82,18 @@ fn duration_cell<'a>(summary: &Summary<'_>) -> Option<Cell<'a>> {
 
 /// Passes a field to `to`: the ends and the time, of a connection's first packet or of a message
 /// completed later.
-fn tell_end<'a, T: TakesCell<'a>>(
+fn compute_end<'a, T: TakesCell<'a>>(
     moment: Moment<'_>,
     field: &End,
     to: &mut T,
 ) -> Result<(), AllocError> {
-    rows!(tells [End moment field to take_told])
+    rows!(computes [End moment field to take_result])
 }
 
 /// Returns a field as a cell: the ends and the time.
 pub fn end_cell(moment: Moment<'_>, field: &End) -> Result<Option<Cell<'static>>, AllocError> {
     let mut kept: KeptCell<'static> = KeptCell { cell: None };
-    tell_end(moment, field, &mut kept)?;
+    compute_end(moment, field, &mut kept)?;
     Ok(kept.cell)
 }
 
@@ -115,12 +115,12 @@ fn some_alert<'a>(alert: Option<TlsAlertDescription>) -> Option<Cell<'a>> {
 }
 
 /// Passes a field to `to`: what was chosen, asked for and sent, by name.
-fn tell_named<'a, T: TakesCell<'a>>(
-    told: &Told<'a>,
+fn compute_named<'a, T: TakesCell<'a>>(
+    context: &FieldContext<'a>,
     field: &Named,
     to: &mut T,
 ) -> Result<(), AllocError> {
-    rows!(tells [Named told field to take_told])
+    rows!(computes [Named context field to take_result])
 }
 
 /// Returns the letters of a connection's events; `None` if there are none.
@@ -132,12 +132,12 @@ fn history_cell(letters: &[u8]) -> Option<Cell<'_>> {
 }
 
 /// Passes a field to `to`: the course of a connection.
-fn tell_course<'a, T: TakesCell<'a>>(
-    told: &Told<'a>,
+fn compute_course<'a, T: TakesCell<'a>>(
+    context: &FieldContext<'a>,
     field: &Course,
     to: &mut T,
 ) -> Result<(), AllocError> {
-    rows!(tells [Course told field to take])
+    rows!(computes [Course context field to take])
 }
 
 /// Returns a count; `None` instead of 0.
@@ -163,7 +163,7 @@ fn reasons_cell<'a>(alloc: Global, dropped: &Dropped) -> Result<Option<Cell<'a>>
 }
 
 /// Returns how many bytes a side sent: over TCP by the sequence numbers of its segments.
-fn bytes_of(sender: Sender<'_>) -> u64 {
+fn bytes_of(sender: SideContext<'_>) -> u64 {
     match sender.protocol {
         Protocol::Tcp => sender.party.stream.length(),
         Protocol::Udp => sender.party.sent.bytes,
@@ -171,12 +171,12 @@ fn bytes_of(sender: Sender<'_>) -> u64 {
 }
 
 /// Passes a field to `to`: what a side sent.
-fn tell_sent<'a, T: TakesCell<'a>>(
-    sender: Sender<'_>,
+fn compute_sent<'a, T: TakesCell<'a>>(
+    sender: SideContext<'_>,
     field: &Sent,
     to: &mut T,
 ) -> Result<(), AllocError> {
-    rows!(tells [Sent sender field to take_told])
+    rows!(computes [Sent sender field to take_result])
 }
 
 /// Returns the tunnels around a connection; `None` if there are none.
@@ -202,19 +202,19 @@ fn tunnel_ids_cell<'a>(alloc: Global, tunnels: &[Tunnel]) -> Result<Option<Cell<
 }
 
 /// Passes a field to `to`: the tunnels around a connection.
-fn tell_carried<'a, T: TakesCell<'a>>(
-    told: &Told<'a>,
+fn compute_carried<'a, T: TakesCell<'a>>(
+    context: &FieldContext<'a>,
     field: &Carried,
     to: &mut T,
 ) -> Result<(), AllocError> {
-    rows!(tells [Carried told field to take_told])
+    rows!(computes [Carried context field to take_result])
 }
 
 /// Returns a field of a certificate, if there is one.
 fn own_cell<'a>(
     alloc: Global,
     certificate: Option<&Certificate<'_>>,
-    field: &Certified,
+    field: &CertificateField,
 ) -> Result<Option<Cell<'a>>, AllocError> {
     match certificate {
         Some(certificate) => certified_cell(alloc, certificate, field),
@@ -223,43 +223,46 @@ fn own_cell<'a>(
 }
 
 /// Computes a field of a connection and passes it to `to`.
-pub fn tell<'a, T: TakesCell<'a>>(
-    told: &mut Told<'a>,
+pub fn compute<'a, T: TakesCell<'a>>(
+    context: &mut FieldContext<'a>,
     field: &Field,
     to: &mut T,
 ) -> Result<(), AllocError> {
     match field {
-        Field::End(field) => tell_end(told.first_moment(), field, to),
-        Field::Named(field) => tell_named(told, field, to),
-        Field::Course(field) => tell_course(told, field, to),
-        Field::Offer(field) => tell_offer(told, field, to),
-        Field::Answer(field) => tell_answer(told, field, to),
-        Field::Chain(field) => tell_chain(told, field, to),
+        Field::End(field) => compute_end(context.first_moment(), field, to),
+        Field::Named(field) => compute_named(context, field, to),
+        Field::Course(field) => compute_course(context, field, to),
+        Field::Offer(field) => compute_offer(context, field, to),
+        Field::Answer(field) => compute_answer(context, field, to),
+        Field::Chain(field) => compute_chain(context, field, to),
         Field::ServerCertificate(field) => {
-            to.take_told(own_cell(told.alloc, told.server.certificate(), field))
+            to.take_result(own_cell(context.alloc, context.server.certificate(), field))
         }
         Field::ClientCertificate(field) => {
-            to.take_told(own_cell(told.alloc, told.client.certificate(), field))
+            to.take_result(own_cell(context.alloc, context.client.certificate(), field))
         }
-        Field::Print(field) => tell_print(told, field, to),
-        Field::Sent(side, field) => tell_sent(told.sender(*side), field, to),
-        Field::Carried(field) => tell_carried(told, field, to),
+        Field::Print(field) => compute_print(context, field, to),
+        Field::Sent(side, field) => compute_sent(context.sender(*side), field, to),
+        Field::Carried(field) => compute_carried(context, field, to),
     }
 }
 
 /// Returns the value of a connection's field; `None` if it is missing.
-pub fn cell_of<'a>(told: &mut Told<'a>, field: &Field) -> Result<Option<Cell<'a>>, AllocError> {
+pub fn cell_of<'a>(
+    context: &mut FieldContext<'a>,
+    field: &Field,
+) -> Result<Option<Cell<'a>>, AllocError> {
     let mut kept = KeptCell { cell: None };
-    tell(told, field, &mut kept)?;
+    compute(context, field, &mut kept)?;
     Ok(kept.cell)
 }
 
 /// Returns the line of a connection, with the fields at these places of [`FIELDS`].
-pub fn row_of<'a>(told: &mut Told<'a>, places: &[usize]) -> Result<Row<'a>, AllocError> {
-    let mut cells = Vec::with_capacity(told.alloc, places.len())?;
+pub fn row_of<'a>(context: &mut FieldContext<'a>, places: &[usize]) -> Result<Row<'a>, AllocError> {
+    let mut cells = Vec::with_capacity(context.alloc, places.len())?;
     for place in places {
         if let Some((name, _, field)) = FIELDS.get(*place) {
-            let cell = cell_of(told, field)?;
+            let cell = cell_of(context, field)?;
             cells.push((*name, cell))?;
         }
     }

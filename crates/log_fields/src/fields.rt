@@ -1,5 +1,5 @@
 //! The fields of a connection's line: their names, types and texts, and what computes them.
-use crate::columns::Certified;
+use crate::columns::CertificateField;
 use connections::Side;
 use log_formats::column::{Column, Type};
 
@@ -134,8 +134,8 @@ pub enum Field {
     Offer(Offer),
     Answer(Answer),
     Chain(Chain),
-    ServerCertificate(Certified),
-    ClientCertificate(Certified),
+    ServerCertificate(CertificateField),
+    ClientCertificate(CertificateField),
     Print(Print),
     Sent(Side, Sent),
     Carried(Carried),
@@ -191,78 +191,82 @@ macro_rules! rows {
                 /// RFC: 8446, 4.2.1
                 /// Zeek: `version`
                 /// absent: no ServerHello
-                "version": Text = Version => |told| Ok(some_version(told.handshake.version()));
+                "version": Text =
+                    Version => |context| Ok(some_version(context.handshake.version()));
                 /// the cipher suite that the server chose, by its name in IANA's registry, or else
                 /// its number
                 /// RFC: 8446, 4.1.3
                 /// Zeek: `cipher`
                 /// absent: no ServerHello
                 "cipher": Text =
-                    Cipher => |told| Ok(told.suites.some_text(told.handshake.cipher()));
+                    Cipher => |context| Ok(context.suites.some_text(context.handshake.cipher()));
                 /// the group of the key exchange, from the server's key share or its
                 /// ServerKeyExchange
                 /// RFC: 8446, 4.2.8; 8422, 5.4
                 /// Zeek: `curve`
                 /// absent: no such exchange
-                "curve": Text = Curve => |told| Ok(some_group(told.handshake.curve()));
+                "curve": Text = Curve => |context| Ok(some_group(context.handshake.curve()));
                 /// the host name that the client asked for: the first name of type host_name in its
                 /// server_name
                 /// RFC: 6066, 3
                 /// Zeek: `server_name`
                 /// absent: it asked for none
                 "server_name": Text =
-                    ServerName => |told| Ok(some_escaped(told.handshake.server_name()));
+                    ServerName => |context| Ok(some_escaped(context.handshake.server_name()));
                 /// the names of other types there, in order, each prefixed by the number of its
                 /// type: `["1:name"]`. No RFC defines such a type
                 /// RFC: 6066, 3
                 /// absent: there are none
                 "other_server_names": Texts =
-                    OtherServerNames => |told| other_names_cell(told.alloc, told.handshake);
+                    OtherServerNames => |context|
+                        other_names_cell(context.alloc, context.handshake);
                 /// the application protocol that the server chose
                 /// RFC: 7301, 3.2
                 /// Zeek: `next_protocol`
                 /// absent: none chosen; TLS 1.3
                 "next_protocol": Text =
-                    NextProtocol => |told| Ok(some_escaped(told.handshake.next_protocol()));
+                    NextProtocol => |context| Ok(some_escaped(context.handshake.next_protocol()));
             }
             Course {
                 /// `true`: an abbreviated handshake, or in TLS 1.3 a ServerHello with
                 /// pre_shared_key
                 /// RFC: 5246, 7.3; 8446, 2.2
                 /// Zeek: `resumed`
-                "resumed": Mark = Resumed => |told| Some(Cell::Mark(told.summary.is_resumed));
+                "resumed": Mark = Resumed => |context| Some(Cell::Mark(context.summary.is_resumed));
                 /// `true`: the readable part of the handshake is complete; in TLS 1.3 that is with
                 /// the ServerHello
                 /// Zeek: `established`, which in TLS 1.3 waits for data
                 "established": Mark =
-                    Established => |told| Some(Cell::Mark(told.summary.is_established));
+                    Established => |context| Some(Cell::Mark(context.summary.is_established));
             }
             Named {
                 /// the last unencrypted alert
                 /// RFC: 8446, 6
                 /// Zeek: `last_alert`
                 /// absent: there was none
-                "last_alert": Text = LastAlert => |told| Ok(some_alert(told.handshake.last_alert));
+                "last_alert": Text =
+                    LastAlert => |context| Ok(some_alert(context.handshake.last_alert));
             }
             Course {
                 /// the state of the handshake: `full`, `resumed`, `tls13`, `broken_off`, `waiting`,
                 /// `unknown`, `no_handshake` ("Outcomes", below)
                 "outcome": Text =
-                    Outcome => |told| Some(name_cell(outcome_name(told.summary.outcome)));
+                    Outcome => |context| Some(name_cell(outcome_name(context.summary.outcome)));
                 /// the message that ended the handshake without success: `message` (its kind),
                 /// `sender`, and `messages_before` (how many messages came before it)
                 /// absent: it didn't end so
-                "stop": Fields = Stop => |told| stop_cell(told.summary.stop);
+                "stop": Fields = Stop => |context| stop_cell(context.summary.stop);
                 /// the sides with missing bytes before others that were captured: `orig`, `resp`,
                 /// `both`; of a side that is no longer read, up to that point
                 /// Zeek: `missed_bytes` counts them
                 /// absent: no bytes are missing
-                "gap": Text = Gap => |told| some_name(told.summary.gap());
+                "gap": Text = Gap => |context| some_name(context.summary.gap());
                 /// `true`: memory ran short (`--memory`) when no other connection was longer
                 /// without a packet, so the line was printed then. What came later is another
                 /// connection
                 /// absent: it ended otherwise
-                "ended_early": Mark = EndedEarly => |told| some_mark(told.summary.is_ended_early);
+                "ended_early": Mark =
+                    EndedEarly => |context| some_mark(context.summary.is_ended_early);
                 /// a letter for each unencrypted message, alert and ChangeCipherSpec, and over TCP
                 /// each heartbeat and record of data, in order, the client's in upper case: `H`
                 /// hello_request, `C` client_hello, `S` server_hello, `V` hello_verify_request, `T`
@@ -276,7 +280,7 @@ macro_rules! rows {
                 /// RFC: 5246, 7.4; 8446, 4
                 /// Zeek: the same
                 /// absent: there was none
-                "ssl_history": Text = History => |told| history_cell(told.summary.history);
+                "ssl_history": Text = History => |context| history_cell(context.summary.history);
             }
             Sent {
                 /// the packets of each side that the other took, or had already, up to the
@@ -302,7 +306,7 @@ macro_rules! rows {
                 /// `true`: the server asked for another ClientHello
                 /// RFC: 8446, 4.1.4
                 /// absent: it didn't
-                "retried": Mark = Retried => |told| some_mark(told.handshake.is_retried);
+                "retried": Mark = Retried => |context| some_mark(context.handshake.is_retried);
             }
             Sent {
                 /// the retransmitted bytes: those at sequence numbers that were captured before, up
@@ -344,12 +348,13 @@ macro_rules! rows {
                 /// "Tunnels")
                 /// Zeek: `tunnel_parents` has ids
                 /// absent: it came in none
-                "tunnels": Texts = Tunnels => |told| tunnels_cell(told.alloc, told.summary.tunnels);
+                "tunnels": Texts =
+                    Tunnels => |context| tunnels_cell(context.alloc, context.summary.tunnels);
                 /// the number of each of these, 0 where it has none: key, session, label, service,
                 /// network or endpoint
                 /// absent: it came in none
                 "tunnel_ids": Counts =
-                    TunnelIds => |told| tunnel_ids_cell(told.alloc, told.summary.tunnels);
+                    TunnelIds => |context| tunnel_ids_cell(context.alloc, context.summary.tunnels);
             }
             Offer {
                 /// the version field of the ClientHello, `TLSv12` in TLS 1.3
@@ -357,105 +362,108 @@ macro_rules! rows {
                 /// Zeek: the same; with `--format zeek` a number, as there
                 /// absent: no ClientHello (as for all of the client's fields)
                 "client_version": Version =
-                    Version => |told| some_version(told.handshake.client_version());
+                    Version => |context| some_version(context.handshake.client_version());
                 /// the versions that it offers in supported_versions
                 /// RFC: 8446, 4.2.1
                 /// Zeek: the same
                 /// absent: no such extension
                 "client_supported_versions": Texts = Versions =>
-                    |told| some_texts(Texts::Versions(told.handshake.client_versions()));
+                    |context| some_texts(Texts::Versions(context.handshake.client_versions()));
                 /// the session id, in hexadecimal
                 /// RFC: 5246, 7.4.1.2
                 /// absent: it is empty
                 "client_session_id": Text =
-                    SessionId => |told| some_digits(told.handshake.client_session_id());
+                    SessionId => |context| some_digits(context.handshake.client_session_id());
                 /// the cipher suites that it offers, in its order, as `cipher`; of a hello in the
                 /// form of SSL 2.0 its CipherSpecs: those of TLS as these, others by 6 digits, as
                 /// `0x010080`
                 /// RFC: 8446, 4.1.2; 5246, E.2
                 /// Zeek: `client_ciphers`
                 "client_ciphers": Texts =
-                    Ciphers => |told| some_texts(client_suites(told.suites, told.handshake));
+                    Ciphers => |context|
+                        some_texts(client_suites(context.suites, context.handshake));
                 /// its compression methods, by number
                 /// RFC: 3749, 2
                 /// Zeek: the same; with `--format zeek` by name, as there
                 "client_comp_methods": Methods = Compressions =>
-                    |told| some_numbers(Numbers::Codes(told.handshake.client_compressions().bytes()));
+                    |context| some_numbers(Numbers::Codes(context.handshake.client_compressions().bytes()));
                 /// the types of its extensions, in order
                 /// RFC: 8446, 4.2
                 /// Zeek: the same
                 /// absent: it has none
                 "ssl_client_exts": Texts = ExtensionTypes =>
-                    |told| some_texts(Texts::Types(told.handshake.client_extension_types()));
+                    |context| some_texts(Texts::Types(context.handshake.client_extension_types()));
                 /// the groups that it offers
                 /// RFC: 8446, 4.2.7
                 /// Zeek: the same
                 /// absent: no such extension
                 "client_curves": Texts =
-                    Groups => |told| some_texts(Texts::Groups(told.handshake.client_groups()));
+                    Groups => |context|
+                        some_texts(Texts::Groups(context.handshake.client_groups()));
                 /// the point formats that it offers, by number: 0 is uncompressed
                 /// RFC: 8422, 5.1.2
                 /// Zeek: the same; with `--format zeek` by name, as there
                 /// absent: no such extension
                 "point_formats": PointFormats = PointFormats =>
-                    |told| some_numbers(Numbers::Codes(told.handshake.client_point_formats()));
+                    |context| some_numbers(Numbers::Codes(context.handshake.client_point_formats()));
                 /// the signature schemes that it offers
                 /// RFC: 8446, 4.2.3
                 /// Zeek: the second half of each
                 /// absent: no such extension
                 "sigalgs": Texts = SignatureAlgorithms =>
-                    |told| some_texts(Texts::Schemes(told.handshake.client_signature_algorithms()));
+                    |context| some_texts(Texts::Schemes(context.handshake.client_signature_algorithms()));
                 /// the application protocols that it offers
                 /// RFC: 7301, 3.1
                 /// Zeek: the same
                 /// absent: no such extension
                 "orig_alpn": Texts = Protocols =>
-                    |told| some_texts(Texts::Protocols(told.handshake.client_protocols()));
+                    |context| some_texts(Texts::Protocols(context.handshake.client_protocols()));
                 /// the groups of its key shares
                 /// RFC: 8446, 4.2.8
                 /// Zeek: the same
                 /// absent: it has none
                 "client_key_share_groups": Texts = KeyShareGroups =>
-                    |told| some_texts(Texts::Shares(told.handshake.client_key_shares().bytes()));
+                    |context| some_texts(Texts::Shares(context.handshake.client_key_shares().bytes()));
                 /// by number: 0 is psk_ke, 1 psk_dhe_ke
                 /// RFC: 8446, 4.2.9
                 /// Zeek: the same; with `--format zeek` by name, as there
                 /// absent: no such extension
                 "psk_key_exchange_modes": Modes = PskModes =>
-                    |told| some_numbers(Numbers::Codes(told.handshake.client_psk_modes()));
+                    |context| some_numbers(Numbers::Codes(context.handshake.client_psk_modes()));
                 /// `true`: it has the extension pre_shared_key, early_data
                 /// RFC: 8446, 4.2.11, 4.2.10
                 /// absent: it doesn't
                 "offers_psk": Mark =
-                    Psk => |told| some_mark(told.handshake.offers_pre_shared_key());
+                    Psk => |context| some_mark(context.handshake.offers_pre_shared_key());
                 /// as above
                 "offers_early_data": Mark =
-                    EarlyData => |told| some_mark(told.handshake.offers_early_data());
+                    EarlyData => |context| some_mark(context.handshake.offers_early_data());
                 /// `true`: its session_ticket holds a ticket
                 /// RFC: 5077, 3.2
                 /// absent: it doesn't
-                "offers_ticket": Mark = Ticket => |told| some_mark(told.handshake.offers_ticket());
+                "offers_ticket": Mark =
+                    Ticket => |context| some_mark(context.handshake.offers_ticket());
                 /// `true`: it has the extension cookie, as after a retry
                 /// RFC: 8446, 4.2.2
                 /// absent: it doesn't
-                "cookie": Mark = Cookie => |told| some_mark(told.handshake.has_cookie());
+                "cookie": Mark = Cookie => |context| some_mark(context.handshake.has_cookie());
                 /// `true`: it has the extension encrypted_client_hello
                 /// RFC: 9849, 5
                 /// absent: it doesn't
                 "ech": Mark =
-                    EncryptedClientHello => |told|
-                    some_mark(told.handshake.offers_encrypted_client_hello());
+                    EncryptedClientHello => |context|
+                    some_mark(context.handshake.offers_encrypted_client_hello());
                 /// `true`: it has the extension delegated_credential
                 /// RFC: 9345, 4.1.1
                 /// absent: it doesn't
                 "delegated_credential": Mark = DelegatedCredentials =>
-                    |told| some_mark(told.handshake.offers_delegated_credentials());
+                    |context| some_mark(context.handshake.offers_delegated_credentials());
                 /// `true`: the ClientHello has the form of SSL 2.0. It has no extensions, and
                 /// neither JA3 nor JA4
                 /// RFC: 5246, E.2
                 /// absent: it has another form
                 "ssl2_hello": Mark =
-                    Ssl2Hello => |told| some_mark(told.handshake.ssl2_cipher_specs.is_some());
+                    Ssl2Hello => |context| some_mark(context.handshake.ssl2_cipher_specs.is_some());
             }
             Answer {
                 /// the version field of the ServerHello
@@ -463,74 +471,74 @@ macro_rules! rows {
                 /// Zeek: the same; with `--format zeek` a number, as there
                 /// absent: no ServerHello (as for all of the server's fields)
                 "server_version": Version =
-                    Version => |told| some_version(told.handshake.server_version());
+                    Version => |context| some_version(context.handshake.server_version());
                 /// the session id, in hexadecimal
                 /// RFC: 5246, 7.4.1.3
                 /// absent: it is empty
                 "server_session_id": Text =
-                    SessionId => |told| some_digits(told.handshake.server_session_id());
+                    SessionId => |context| some_digits(context.handshake.server_session_id());
                 /// the compression method, by number
                 /// RFC: 3749, 2
                 /// Zeek: the same; with `--format zeek` by name, as there
-                "comp_method": Method = Compression => |told| compression(told.handshake);
+                "comp_method": Method = Compression => |context| compression(context.handshake);
                 /// the types of its extensions, in order
                 /// RFC: 8446, 4.2
                 /// Zeek: the same
                 /// absent: it has none
                 "ssl_server_exts": Texts = ExtensionTypes =>
-                    |told| some_texts(Texts::Types(told.handshake.server_extension_types()));
+                    |context| some_texts(Texts::Types(context.handshake.server_extension_types()));
                 /// the group of its key share
                 /// RFC: 8446, 4.2.8
                 /// Zeek: the same
                 /// absent: it has none
                 "server_key_share_group": Text =
-                    KeyShareGroup => |told| some_group(told.handshake.server_key_share());
+                    KeyShareGroup => |context| some_group(context.handshake.server_key_share());
                 /// the number of signed certificate timestamps in the ServerHello
                 /// RFC: 6962, 3.3.1
                 /// absent: none; TLS 1.3
-                "scts": Count = Timestamps => |told| timestamps(told.handshake);
+                "scts": Count = Timestamps => |context| timestamps(context.handshake);
                 /// `true`: the server sent a NewSessionTicket
                 /// RFC: 5077, 3.3
                 /// Zeek: `ticket_lifetime_hint`
                 /// absent: it didn't; TLS 1.3
-                "ticket_issued": Mark = Ticket => |told| some_mark(told.handshake.has_ticket);
+                "ticket_issued": Mark = Ticket => |context| some_mark(context.handshake.has_ticket);
                 /// `true`: the server sent a CertificateStatus
                 /// RFC: 6066, 8
                 /// absent: it didn't; TLS 1.3
-                "ocsp_stapled": Mark = Status => |told| some_mark(told.handshake.has_status);
+                "ocsp_stapled": Mark = Status => |context| some_mark(context.handshake.has_status);
             }
             Chain {
                 /// the number of certificates that the server sent
                 /// RFC: 5246, 7.4.2
                 /// absent: no Certificate; TLS 1.3
                 "cert_count": Count =
-                    ServerCount => |told| Ok(count_cell(&told.handshake.server_certificates));
+                    ServerCount => |context| Ok(count_cell(&context.handshake.server_certificates));
                 /// the length in bytes and the SHA-256 of each, the server's own first
                 /// Zeek: `cert_chain_fps`
                 /// absent: as above
                 "cert_lengths": Counts =
-                    ServerLengths => |told| lengths_cell(told.alloc, server_chain(told));
+                    ServerLengths => |context| lengths_cell(context.alloc, server_chain(context));
                 /// as above
                 "cert_chain_fps": Texts =
-                    ServerPrints => |told| prints_cell(told.alloc, server_chain(told));
+                    ServerPrints => |context| prints_cell(context.alloc, server_chain(context));
                 /// `true`: the server sent a CertificateRequest
                 /// RFC: 5246, 7.4.4
                 /// absent: it didn't; TLS 1.3
                 "client_cert_requested": Mark =
-                    Requested => |told| Ok(some_mark(told.handshake.requests_certificate));
+                    Requested => |context| Ok(some_mark(context.handshake.requests_certificate));
                 /// the number of certificates that the client sent; 0 if it was asked and has none
                 /// RFC: 5246, 7.4.6
                 /// absent: no Certificate; TLS 1.3
                 "client_cert_count": Count =
-                    ClientCount => |told| Ok(count_cell(&told.handshake.client_certificates));
+                    ClientCount => |context| Ok(count_cell(&context.handshake.client_certificates));
                 /// the length in bytes and the SHA-256 of each
                 /// Zeek: `client_cert_chain_fps`
                 /// absent: it sent none
                 "client_cert_lengths": Counts = ClientLengths =>
-                    |told| lengths_cell(told.alloc, client_chain(told));
+                    |context| lengths_cell(context.alloc, client_chain(context));
                 /// as above
                 "client_cert_chain_fps": Texts = ClientPrints =>
-                    |told| prints_cell(told.alloc, client_chain(told));
+                    |context| prints_cell(context.alloc, client_chain(context));
             }
             ServerCertificate {
                 /// the names of the server's own certificate, as RFC 4514 writes them ("What
@@ -587,7 +595,8 @@ macro_rules! rows {
                 /// Zeek: the same
                 /// absent: no `server_name`
                 "sni_matches_cert": Mark =
-                    NameMatches => |told| Ok(match_cell(told.handshake, told.server.certificate()));
+                    NameMatches => |context|
+                        Ok(match_cell(context.handshake, context.server.certificate()));
                 /// whether the server's chain is valid: `tlslog` validates no certificate, so this
                 /// is unset, for readers of Zeek's logs
                 /// Zeek: the same
@@ -598,7 +607,7 @@ macro_rules! rows {
                 /// RFC: 5280, 4.1
                 /// absent: all are read
                 "cert_error": Texts =
-                    ServerFaults => |told| faults_cell(told.alloc, server_chain(told));
+                    ServerFaults => |context| faults_cell(context.alloc, server_chain(context));
             }
             ClientCertificate {
                 /// the names of the client's own certificate
@@ -612,26 +621,26 @@ macro_rules! rows {
             Chain {
                 /// the same as `cert_error` of the client's
                 "client_cert_error": Texts =
-                    ClientFaults => |told| faults_cell(told.alloc, client_chain(told));
+                    ClientFaults => |context| faults_cell(context.alloc, client_chain(context));
             }
             Print {
                 /// the JA3 of the ClientHello, and the text of which it is the MD5 ("Fingerprints",
                 /// below)
                 /// Zeek: `ja3` of a package
                 /// absent: no ClientHello
-                "ja3": Text = Ja3 => |told| ja3_cell(told);
+                "ja3": Text = Ja3 => |context| ja3_cell(context);
                 /// as above
-                "ja3_string": Text = Ja3Text => |told| Ok(text_cell(ja3_text(told)?));
+                "ja3_string": Text = Ja3Text => |context| Ok(text_cell(ja3_text(context)?));
                 /// the JA3S of the ServerHello, and its text
                 /// Zeek: `ja3s` of a package
                 /// absent: no ServerHello
-                "ja3s": Text = Ja3s => |told| ja3s_cell(told);
+                "ja3s": Text = Ja3s => |context| ja3s_cell(context);
                 /// as above
-                "ja3s_string": Text = Ja3sText => |told| Ok(text_cell(ja3s_text(told)?));
+                "ja3s_string": Text = Ja3sText => |context| Ok(text_cell(ja3s_text(context)?));
                 /// the JA4 of the ClientHello, in three parts ("Fingerprints", below)
                 /// Zeek: `ja4` of a package
                 /// absent: no ClientHello
-                "ja4": Text = Ja4 => |told| ja4_cell(told);
+                "ja4": Text = Ja4 => |context| ja4_cell(context);
             }
         }
     };
@@ -643,10 +652,10 @@ macro_rules! field {
         Field::Sent(Side::$side, Sent::$variant)
     };
     (ServerCertificate $side:ident $variant:ident) => {
-        Field::ServerCertificate(Certified::$variant)
+        Field::ServerCertificate(CertificateField::$variant)
     };
     (ClientCertificate $side:ident $variant:ident) => {
-        Field::ClientCertificate(Certified::$variant)
+        Field::ClientCertificate(CertificateField::$variant)
     };
     ($group:ident $side:ident $variant:ident) => {
         Field::$group($group::$variant)
@@ -669,56 +678,56 @@ macro_rules! columns {
 
 /// Expands to a match on the variant `$field` of a group. The row's closure computes its value from
 /// `$given`, and the method `$take` of `$to` takes it.
-macro_rules! tells {
+macro_rules! computes {
     // gathers the rows of the group's blocks
     ([End $given:ident $field:ident $to:ident $take:ident $($row:tt)*] End { $($more:tt)* }
         $($rest:tt)*) => {
-        $crate::fields::tells!([End $given $field $to $take $($row)* $($more)*] $($rest)*)
+        $crate::fields::computes!([End $given $field $to $take $($row)* $($more)*] $($rest)*)
     };
     ([Named $given:ident $field:ident $to:ident $take:ident $($row:tt)*] Named { $($more:tt)* }
         $($rest:tt)*) => {
-        $crate::fields::tells!([Named $given $field $to $take $($row)* $($more)*] $($rest)*)
+        $crate::fields::computes!([Named $given $field $to $take $($row)* $($more)*] $($rest)*)
     };
     ([Course $given:ident $field:ident $to:ident $take:ident $($row:tt)*] Course { $($more:tt)* }
         $($rest:tt)*) => {
-        $crate::fields::tells!([Course $given $field $to $take $($row)* $($more)*] $($rest)*)
+        $crate::fields::computes!([Course $given $field $to $take $($row)* $($more)*] $($rest)*)
     };
     ([Offer $given:ident $field:ident $to:ident $take:ident $($row:tt)*] Offer { $($more:tt)* }
         $($rest:tt)*) => {
-        $crate::fields::tells!([Offer $given $field $to $take $($row)* $($more)*] $($rest)*)
+        $crate::fields::computes!([Offer $given $field $to $take $($row)* $($more)*] $($rest)*)
     };
     ([Answer $given:ident $field:ident $to:ident $take:ident $($row:tt)*] Answer { $($more:tt)* }
         $($rest:tt)*) => {
-        $crate::fields::tells!([Answer $given $field $to $take $($row)* $($more)*] $($rest)*)
+        $crate::fields::computes!([Answer $given $field $to $take $($row)* $($more)*] $($rest)*)
     };
     ([Chain $given:ident $field:ident $to:ident $take:ident $($row:tt)*] Chain { $($more:tt)* }
         $($rest:tt)*) => {
-        $crate::fields::tells!([Chain $given $field $to $take $($row)* $($more)*] $($rest)*)
+        $crate::fields::computes!([Chain $given $field $to $take $($row)* $($more)*] $($rest)*)
     };
     ([Print $given:ident $field:ident $to:ident $take:ident $($row:tt)*] Print { $($more:tt)* }
         $($rest:tt)*) => {
-        $crate::fields::tells!([Print $given $field $to $take $($row)* $($more)*] $($rest)*)
+        $crate::fields::computes!([Print $given $field $to $take $($row)* $($more)*] $($rest)*)
     };
     ([Sent $given:ident $field:ident $to:ident $take:ident $($row:tt)*] Sent { $($more:tt)* }
         $($rest:tt)*) => {
-        $crate::fields::tells!([Sent $given $field $to $take $($row)* $($more)*] $($rest)*)
+        $crate::fields::computes!([Sent $given $field $to $take $($row)* $($more)*] $($rest)*)
     };
     ([Carried $given:ident $field:ident $to:ident $take:ident $($row:tt)*] Carried { $($more:tt)* }
         $($rest:tt)*) => {
-        $crate::fields::tells!([Carried $given $field $to $take $($row)* $($more)*] $($rest)*)
+        $crate::fields::computes!([Carried $given $field $to $take $($row)* $($more)*] $($rest)*)
     };
     ([$($gathered:tt)*] $other:ident $block:tt $($rest:tt)*) => {
-        $crate::fields::tells!([$($gathered)*] $($rest)*)
+        $crate::fields::computes!([$($gathered)*] $($rest)*)
     };
     // no block is left
     ([$group:ident $given:ident $field:ident $to:ident $take:ident $(
         $(#[doc = $text:literal])+
         $name:literal $(, $responders:literal)?: $kind:ident =
-            $variant:ident => |$told:ident| $cell:expr;
+            $variant:ident => |$context:ident| $cell:expr;
     )*]) => {
         match $field {
             $($crate::fields::$group::$variant => {
-                let $told = $given;
+                let $context = $given;
                 $to.$take($cell)
             })*
         }
@@ -726,8 +735,8 @@ macro_rules! tells {
 }
 
 pub(crate) use columns;
+pub(crate) use computes;
 pub(crate) use rows;
-pub(crate) use tells;
 
 /// The fields of a connection's line, in their order.
 pub static FIELDS: &[Column<Field>] = rows!(columns);

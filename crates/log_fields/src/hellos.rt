@@ -1,7 +1,7 @@
 //! The fields of hellos and of certificate chains.
 use crate::certificates::fault_name;
+use crate::context::FieldContext;
 use crate::fields::{Answer, Chain, Offer, rows};
-use crate::told::Told;
 use log_formats::cell::{Cell, TakesCell};
 use log_formats::lists::{Numbers, Texts, some_numbers, some_texts};
 use log_formats::suites::Suites;
@@ -33,12 +33,12 @@ fn client_suites<'a>(suites: &'a Suites, handshake: &'a HandshakeSummary) -> Tex
 }
 
 /// Passes a field to `to`: what the client offers.
-pub fn tell_offer<'a, T: TakesCell<'a>>(
-    told: &Told<'a>,
+pub fn compute_offer<'a, T: TakesCell<'a>>(
+    context: &FieldContext<'a>,
     field: &Offer,
     to: &mut T,
 ) -> Result<(), AllocError> {
-    rows!(tells [Offer told field to take])
+    rows!(computes [Offer context field to take])
 }
 
 /// Returns the code of the compression method that the server chose.
@@ -62,12 +62,12 @@ fn timestamps<'a>(handshake: &HandshakeSummary) -> Option<Cell<'a>> {
 }
 
 /// Passes a field to `to`: what the server answers.
-pub fn tell_answer<'a, T: TakesCell<'a>>(
-    told: &Told<'a>,
+pub fn compute_answer<'a, T: TakesCell<'a>>(
+    context: &FieldContext<'a>,
     field: &Answer,
     to: &mut T,
 ) -> Result<(), AllocError> {
-    rows!(tells [Answer told field to take])
+    rows!(computes [Answer context field to take])
 }
 
 /// Returns the number of certificates in a chain; `None` without a chain.
@@ -87,13 +87,13 @@ fn certificates(chain: &Option<Vec<CertificateSummary>>) -> &[CertificateSummary
 }
 
 /// Returns the certificates that the server sent.
-fn server_chain<'a>(told: &Told<'a>) -> &'a [CertificateSummary] {
-    certificates(&told.handshake.server_certificates)
+fn server_chain<'a>(context: &FieldContext<'a>) -> &'a [CertificateSummary] {
+    certificates(&context.handshake.server_certificates)
 }
 
 /// Returns the certificates that the client sent.
-fn client_chain<'a>(told: &Told<'a>) -> &'a [CertificateSummary] {
-    certificates(&told.handshake.client_certificates)
+fn client_chain<'a>(context: &FieldContext<'a>) -> &'a [CertificateSummary] {
+    certificates(&context.handshake.client_certificates)
 }
 
 /// Returns the lengths of a chain's certificates; `None` if there are none.
@@ -150,10 +150,10 @@ fn match_cell<'a>(
 
 /// Passes a field to `to`: the certificates of both sides. An empty chain has no lengths and no
 /// fingerprints.
-pub fn tell_chain<'a, T: TakesCell<'a>>(
-    told: &mut Told<'a>,
+pub fn compute_chain<'a, T: TakesCell<'a>>(
+    context: &mut FieldContext<'a>,
     field: &Chain,
     to: &mut T,
 ) -> Result<(), AllocError> {
-    rows!(tells [Chain told field to take_told])
+    rows!(computes [Chain context field to take_result])
 }

@@ -1,9 +1,9 @@
 //! The fields of a log of TLS connections, and how each is computed.
 //!
-//! [`FIELDS`](fields::FIELDS) are those of a connection: [`tell`](connection::tell) computes them
-//! from its [`Summary`](summary::Summary). [`PARTS`](columns::PARTS) are those of a message, and
-//! [`DETAILS`](columns::DETAILS) those of a certificate. Fields have the names in Zeek's logs where
-//! these have them.
+//! [`FIELDS`](fields::FIELDS) are those of a connection: [`compute`](connection::tell) computes
+//! them from its [`Summary`](summary::Summary). [`PARTS`](columns::PARTS) are those of a message,
+//! and [`DETAILS`](columns::DETAILS) those of a certificate. Fields have the names in Zeek's logs
+//! where these have them.
 //!
 //! This crate has no clauses, only tests.
 #![tactic(auto)]
@@ -11,6 +11,7 @@
 pub mod certificates;
 pub mod columns;
 pub mod connection;
+pub mod context;
 pub mod fields;
 mod hellos;
 pub mod listed;
@@ -18,4 +19,3 @@ pub mod names;
 mod prints;
 pub mod stamps;
 pub mod summary;
-pub mod told;

@@ -1,14 +1,18 @@
 //! Several lists of a line joined into one.
 use crate::connection::cell_of;
+use crate::context::FieldContext;
 use crate::fields::Field;
-use crate::told::Told;
 use log_formats::cell::Cell;
 use log_formats::lists::{Texts, some_texts};
 use std::alloc::AllocError;
 
 /// Appends the texts of a field that is a list.
-fn add_listed(told: &mut Told<'_>, field: &Field, all: &mut Vec<String>) -> Result<(), AllocError> {
-    if let Some(Cell::Texts(Texts::Owned(texts))) = cell_of(told, field)? {
+fn add_listed(
+    context: &mut FieldContext<'_>,
+    field: &Field,
+    all: &mut Vec<String>,
+) -> Result<(), AllocError> {
+    if let Some(Cell::Texts(Texts::Owned(texts))) = cell_of(context, field)? {
         'texts: for text in texts {
             all.push(text)?;
         }
@@ -18,12 +22,12 @@ fn add_listed(told: &mut Told<'_>, field: &Field, all: &mut Vec<String>) -> Resu
 
 /// Returns the texts of several list fields as one list; `None` if there are none.
 pub fn listed_cell<'a>(
-    told: &mut Told<'_>,
+    context: &mut FieldContext<'_>,
     fields: &[Field],
 ) -> Result<Option<Cell<'a>>, AllocError> {
-    let mut all = Vec::new(told.alloc);
+    let mut all = Vec::new(context.alloc);
     for field in fields {
-        add_listed(told, field, &mut all)?;
+        add_listed(context, field, &mut all)?;
     }
     Ok(some_texts(Texts::Owned(all)))
 }

@@ -1,5 +1,5 @@
 //! The names that are printed.
-use connections::Reason;
+use connections::DropReason;
 use tls_flow::{Direction, Kind, Outcome};
 use tunnels::TunnelKind;
 
@@ -66,29 +66,29 @@ pub fn tunnel_name(kind: TunnelKind) -> &'static str {
 }
 
 /// Why a receiver drops a packet, in the order in which the reasons are printed.
-pub static REASONS: [Reason; 9] = [
-    Reason::Checksum,
-    Reason::NoAck,
-    Reason::Acknowledgment,
-    Reason::Window,
-    Reason::Clock,
-    Reason::Signature,
-    Reason::Syn,
-    Reason::Reset,
-    Reason::Fin,
+pub static REASONS: [DropReason; 9] = [
+    DropReason::Checksum,
+    DropReason::NoAck,
+    DropReason::Acknowledgment,
+    DropReason::Window,
+    DropReason::Clock,
+    DropReason::Signature,
+    DropReason::Syn,
+    DropReason::Reset,
+    DropReason::Fin,
 ];
 
 /// Returns the name of a reason.
-pub fn reason_name(reason: Reason) -> &'static str {
+pub fn reason_name(reason: DropReason) -> &'static str {
     match reason {
-        Reason::Checksum => "checksum",
-        Reason::NoAck => "no_ack",
-        Reason::Acknowledgment => "ack",
-        Reason::Window => "window",
-        Reason::Clock => "paws",
-        Reason::Signature => "signature",
-        Reason::Syn => "syn",
-        Reason::Reset => "rst",
-        Reason::Fin => "fin",
+        DropReason::Checksum => "checksum",
+        DropReason::NoAck => "no_ack",
+        DropReason::Acknowledgment => "ack",
+        DropReason::Window => "window",
+        DropReason::Clock => "paws",
+        DropReason::Signature => "signature",
+        DropReason::Syn => "syn",
+        DropReason::Reset => "rst",
+        DropReason::Fin => "fin",
     }
 }

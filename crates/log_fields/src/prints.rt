@@ -1,6 +1,6 @@
 //! The fingerprints of hellos.
+use crate::context::FieldContext;
 use crate::fields::{Print, rows};
-use crate::told::Told;
 use connections::Protocol;
 use layouts::Items;
 use log_formats::cell::{Cell, TakesCell};
@@ -52,53 +52,53 @@ fn transport(protocol: Protocol) -> Transport {
 }
 
 /// Returns the text of JA3; `None` without a ClientHello.
-fn ja3_text(told: &Told<'_>) -> Result<Option<String>, AllocError> {
-    let Some(client) = client_parts(told.handshake) else {
+fn ja3_text(context: &FieldContext<'_>) -> Result<Option<String>, AllocError> {
+    let Some(client) = client_parts(context.handshake) else {
         return Ok(None);
     };
-    match told.digests.try_borrow_mut() {
-        Ok(mut known) => Ok(Some(client.ja3_text_with(told.alloc, &mut known)?)),
-        Err(_) => Ok(Some(client.ja3_text(told.alloc)?)),
+    match context.digests.try_borrow_mut() {
+        Ok(mut known) => Ok(Some(client.ja3_text_with(context.alloc, &mut known)?)),
+        Err(_) => Ok(Some(client.ja3_text(context.alloc)?)),
     }
 }
 
 /// Returns the text of JA3S, which may be kept from the field before; `None` without a ServerHello.
-fn ja3s_text(told: &mut Told<'_>) -> Result<Option<String>, AllocError> {
-    if told.kept.ja3s.is_some() {
-        return Ok(told.kept.ja3s.take());
+fn ja3s_text(context: &mut FieldContext<'_>) -> Result<Option<String>, AllocError> {
+    if context.kept.ja3s.is_some() {
+        return Ok(context.kept.ja3s.take());
     }
-    match server_parts(told.handshake) {
-        Some(server) => Ok(Some(server.ja3s_text(told.alloc)?)),
+    match server_parts(context.handshake) {
+        Some(server) => Ok(Some(server.ja3s_text(context.alloc)?)),
         None => Ok(None),
     }
 }
 
 /// Returns the digest of a JA3S text.
-fn digest_of(told: &Told<'_>, text: &str) -> Result<String, AllocError> {
-    match told.digests.try_borrow_mut() {
-        Ok(mut known) => known.ja3_digest(told.alloc, text),
-        Err(_) => ja3_digest(told.alloc, text),
+fn digest_of(context: &FieldContext<'_>, text: &str) -> Result<String, AllocError> {
+    match context.digests.try_borrow_mut() {
+        Ok(mut known) => known.ja3_digest(context.alloc, text),
+        Err(_) => ja3_digest(context.alloc, text),
     }
 }
 
 /// Returns JA3; `None` without a ClientHello.
-fn ja3_cell<'a>(told: &Told<'_>) -> Result<Option<Cell<'a>>, AllocError> {
-    let Some(client) = client_parts(told.handshake) else {
+fn ja3_cell<'a>(context: &FieldContext<'_>) -> Result<Option<Cell<'a>>, AllocError> {
+    let Some(client) = client_parts(context.handshake) else {
         return Ok(None);
     };
-    match told.digests.try_borrow_mut() {
-        Ok(mut known) => some_text(client.ja3_with(told.alloc, &mut known)),
-        Err(_) => some_text(client.ja3(told.alloc)),
+    match context.digests.try_borrow_mut() {
+        Ok(mut known) => some_text(client.ja3_with(context.alloc, &mut known)),
+        Err(_) => some_text(client.ja3(context.alloc)),
     }
 }
 
 /// Returns JA3S, and keeps its text for the next field; `None` without a ServerHello.
-fn ja3s_cell<'a>(told: &mut Told<'a>) -> Result<Option<Cell<'a>>, AllocError> {
-    let Some(text) = ja3s_text(told)? else {
+fn ja3s_cell<'a>(context: &mut FieldContext<'a>) -> Result<Option<Cell<'a>>, AllocError> {
+    let Some(text) = ja3s_text(context)? else {
         return Ok(None);
     };
-    let digest = digest_of(told, text.as_str());
-    told.kept.ja3s = Some(text);
+    let digest = digest_of(context, text.as_str());
+    context.kept.ja3s = Some(text);
     some_text(digest)
 }
 
@@ -108,22 +108,22 @@ fn text_cell<'a>(text: Option<String>) -> Option<Cell<'a>> {
 }
 
 /// Returns JA4; `None` without a ClientHello.
-fn ja4_cell<'a>(told: &Told<'_>) -> Result<Option<Cell<'a>>, AllocError> {
-    let transport = transport(told.summary.protocol);
-    let Some(client) = client_parts(told.handshake) else {
+fn ja4_cell<'a>(context: &FieldContext<'_>) -> Result<Option<Cell<'a>>, AllocError> {
+    let transport = transport(context.summary.protocol);
+    let Some(client) = client_parts(context.handshake) else {
         return Ok(None);
     };
-    match told.digests.try_borrow_mut() {
-        Ok(mut known) => some_text(client.ja4_with(told.alloc, transport, &mut known)),
-        Err(_) => some_text(client.ja4(told.alloc, transport)),
+    match context.digests.try_borrow_mut() {
+        Ok(mut known) => some_text(client.ja4_with(context.alloc, transport, &mut known)),
+        Err(_) => some_text(client.ja4(context.alloc, transport)),
     }
 }
 
 /// Passes a fingerprint to `to`; it is missing without the hello.
-pub fn tell_print<'a, T: TakesCell<'a>>(
-    told: &mut Told<'a>,
+pub fn compute_print<'a, T: TakesCell<'a>>(
+    context: &mut FieldContext<'a>,
     field: &Print,
     to: &mut T,
 ) -> Result<(), AllocError> {
-    rows!(tells [Print told field to take_told])
+    rows!(computes [Print context field to take_result])
 }

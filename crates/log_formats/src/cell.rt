@@ -89,7 +89,7 @@ pub trait TakesCell<'a> {
     fn take(&mut self, cell: Option<Cell<'a>>) -> Result<(), AllocError>;
 
     /// Takes the value, or returns the error of computing it.
-    fn take_told(&mut self, cell: Result<Option<Cell<'a>>, AllocError>) -> Result<(), AllocError>;
+    fn take_result(&mut self, cell: Result<Option<Cell<'a>>, AllocError>) -> Result<(), AllocError>;
 }
 
 /// A consumer that keeps the value.
@@ -105,7 +105,10 @@ impl<'a> TakesCell<'a> for KeptCell<'a> {
         Ok(())
     }
 
-    fn take_told(&mut self, cell: Result<Option<Cell<'a>>, AllocError>) -> Result<(), AllocError> {
+    fn take_result(
+        &mut self,
+        cell: Result<Option<Cell<'a>>, AllocError>,
+    ) -> Result<(), AllocError> {
         self.cell = cell?;
         Ok(())
     }

@@ -1,5 +1,5 @@
 //! The captures that the command line names.
-use crate::progress::{STANDARD_INPUT, Source, Watched};
+use crate::progress::{ProgressReader, STANDARD_INPUT, Source};
 use std::fs;
 use std::io::{self, ErrorKind, Read};
 use std::rt::Runtime;
@@ -32,7 +32,7 @@ pub struct Files<'a, R> {
 }
 
 impl<'a, R: Runtime> Opener for Files<'a, R> {
-    type Opened = Watched<'a, R, R::File>;
+    type Opened = ProgressReader<'a, R, R::File>;
 
     fn name(&self, number: usize) -> Option<&str> {
         match self.paths.get(number) {
@@ -42,12 +42,12 @@ impl<'a, R: Runtime> Opener for Files<'a, R> {
         }
     }
 
-    fn open(&self, number: usize) -> io::Result<Watched<'a, R, R::File>> {
+    fn open(&self, number: usize) -> io::Result<ProgressReader<'a, R, R::File>> {
         let Some(path) = self.paths.get(number) else {
             return Err(io::Error::from(ErrorKind::NotFound));
         };
         let place = if *path == DASH { STANDARD_INPUT } else { path };
         let file = fs::open(self.rt, place)?;
-        Ok(Watched::new(self.rt, path, place, file))
+        Ok(ProgressReader::new(self.rt, path, place, file))
     }
 }

@@ -3,7 +3,7 @@ ghost use Rattle.std.specs.Prelude.{◌≡◌};
 ghost use Rattle.log_io.specs.Exit.{worse};
 ghost use Rattle.log_io.specs.Run.{ExitsBy, IsSameCause};
 
-use crate::front::{Fault, Front};
+use crate::front::{CaptureFault, FirstBytes};
 use crate::output::{LineError, WriteError};
 use packets::{CaptureError, VisitError};
 use std::alloc::AllocError;
@@ -59,7 +59,7 @@ impl Exit {
 #[derive(Clone, Copy)]
 pub enum Failure {
     /// The source is no capture, or is truncated.
-    Capture(Fault),
+    Capture(CaptureFault),
     /// Memory ran out.
     OutOfMemory,
     /// The file couldn't be opened.
@@ -76,7 +76,7 @@ pub enum Failure {
 
 impl Failure {
     /// Returns the failure, explained by the first bytes of its source if that is no capture.
-    pub fn of_source(self, front: Front) -> Failure
+    pub fn of_source(self, front: FirstBytes) -> Failure
         ensures { IsSameCause self result }
     {
         match self {
@@ -88,9 +88,9 @@ impl Failure {
 
 /// Displays a system error, by words that users know if it has no message.
 #[derive(Drop)]
-pub struct Reason<'a>(pub &'a io::Error);
+pub struct ErrorText<'a>(pub &'a io::Error);
 
-impl Display for Reason<'_> {
+impl Display for ErrorText<'_> {
     fn fmt<W: fmt::Write>(&self, f: &mut Formatter<W>) -> fmt::Result {
         match self.0.kind() {
             ErrorKind::NotFound => f.write_str("no such file"),
@@ -106,11 +106,11 @@ impl Display for Failure {
         match self {
             Failure::Capture(fault) => Display::fmt(fault, f),
             Failure::OutOfMemory => f.write_str("out of memory"),
-            Failure::Opening(e) => write!(f, "cannot open: {}", Reason(e)),
-            Failure::Reading(e) => write!(f, "cannot read: {}", Reason(e)),
+            Failure::Opening(e) => write!(f, "cannot open: {}", ErrorText(e)),
+            Failure::Reading(e) => write!(f, "cannot read: {}", ErrorText(e)),
             Failure::Endless => f.write_str("cannot read: the input never ends"),
             Failure::Closed => f.write_str("cannot write: the reader closed the output"),
-            Failure::Writing(e) => write!(f, "cannot write: {}", Reason(&e.error())),
+            Failure::Writing(e) => write!(f, "cannot write: {}", ErrorText(&e.error())),
         }
     }
 }
@@ -142,10 +142,12 @@ impl From<VisitError<LineError>> for Failure {
 
     fn from(e: VisitError<LineError>) -> Failure {
         match e {
-            VisitError::Capture(CaptureError::NoCapture) => Failure::Capture(Fault::NoCapture),
-            VisitError::Capture(CaptureError::Broken) => Failure::Capture(Fault::Broken),
+            VisitError::Capture(CaptureError::NoCapture) => Failure::Capture(
+                CaptureFault::NoCapture,
+            ),
+            VisitError::Capture(CaptureError::Broken) => Failure::Capture(CaptureFault::Broken),
             VisitError::Capture(CaptureError::OutOfMemory) => Failure::OutOfMemory,
-            VisitError::BrokenOff => Failure::Capture(Fault::BrokenOff),
+            VisitError::BrokenOff => Failure::Capture(CaptureFault::BrokenOff),
             VisitError::Reading(e) => Failure::Reading(e),
             VisitError::Endless => Failure::Endless,
             VisitError::Visitor(e) => Failure::from(e),
@@ -155,7 +157,7 @@ impl From<VisitError<LineError>> for Failure {
 
 /// Prints why a run ended early, after so many packets, and returns how it exits. Prints nothing
 /// if the output was closed.
-pub fn tell<R: Runtime>(rt: &R, name: &str, failure: Failure, packets: u64) -> Exit
+pub fn report<R: Runtime>(rt: &R, name: &str, failure: Failure, packets: u64) -> Exit
     ensures { ExitsBy failure result }
 {
     let (exit, name) = match failure {

@@ -28,7 +28,7 @@ static COMPRESSIONS: [(&[u8], &str); 3] = [
 
 /// Why a source is no capture, or not a whole one.
 #[derive(Clone, Copy)]
-pub enum Fault {
+pub enum CaptureFault {
     /// It doesn't begin as a capture.
     NoCapture,
     /// It has no bytes.
@@ -55,35 +55,35 @@ fn write_digits<W: fmt::Write>(f: &mut Formatter<W>, bytes: &[u8]) -> fmt::Resul
     Ok(())
 }
 
-impl Display for Fault {
+impl Display for CaptureFault {
     fn fmt<W: fmt::Write>(&self, f: &mut Formatter<W>) -> fmt::Result {
         match self {
-            Fault::NoCapture => f.write_str("not a capture"),
-            Fault::Empty => f.write_str("not a capture: it is empty"),
-            Fault::CutHeader => f.write_str("not a capture: its header is truncated"),
-            Fault::OtherForm(bytes, len) => {
+            CaptureFault::NoCapture => f.write_str("not a capture"),
+            CaptureFault::Empty => f.write_str("not a capture: it is empty"),
+            CaptureFault::CutHeader => f.write_str("not a capture: its header is truncated"),
+            CaptureFault::OtherForm(bytes, len) => {
                 f.write_str("not a capture: neither pcap nor pcapng, begins with ")?;
                 write_digits(f, bytes.get(..*len).unwrap_or(&[]))
             }
-            Fault::OtherVersion => f.write_str("unsupported pcap version: only 2 is read"),
-            Fault::Compressed(hint) => f.write_str(hint),
-            Fault::Broken => f.write_str("malformed header or block"),
-            Fault::BrokenOff => f.write_str("the capture is truncated"),
+            CaptureFault::OtherVersion => f.write_str("unsupported pcap version: only 2 is read"),
+            CaptureFault::Compressed(hint) => f.write_str(hint),
+            CaptureFault::Broken => f.write_str("malformed header or block"),
+            CaptureFault::BrokenOff => f.write_str("the capture is truncated"),
         }
     }
 }
 
 /// The first bytes of a source, and how many were read in all.
 #[derive(Clone, Copy)]
-pub struct Front {
+pub struct FirstBytes {
     bytes: [u8; KEPT],
     read: u64,
 }
 
-impl Front {
+impl FirstBytes {
     /// Returns the front of a source from which nothing was read.
-    pub fn new() -> Front {
-        Front {
+    pub fn new() -> FirstBytes {
+        FirstBytes {
             bytes: [0; KEPT],
             read: 0,
         }
@@ -131,14 +131,14 @@ impl Front {
     }
 
     /// Returns why a source of these first bytes is no capture.
-    fn fault(&self) -> Fault {
+    fn fault(&self) -> CaptureFault {
         if self.read == 0 {
-            return Fault::Empty;
+            return CaptureFault::Empty;
         }
         match self.header() {
-            None => Fault::OtherForm(self.bytes, self.kept().min(FORM)),
-            Some(header) if self.read < header => Fault::CutHeader,
-            Some(_) => Fault::OtherVersion,
+            None => CaptureFault::OtherForm(self.bytes, self.kept().min(FORM)),
+            Some(header) if self.read < header => CaptureFault::CutHeader,
+            Some(_) => CaptureFault::OtherVersion,
         }
     }
 
@@ -151,13 +151,13 @@ impl Front {
     }
 
     /// Returns the reader's fault, made more precise by the first bytes.
-    pub fn explain(&self, fault: Fault) -> Fault {
+    pub fn explain(&self, fault: CaptureFault) -> CaptureFault {
         if let Some(hint) = self.compression() {
-            return Fault::Compressed(hint);
+            return CaptureFault::Compressed(hint);
         }
         match fault {
-            Fault::NoCapture => self.fault(),
-            Fault::BrokenOff if self.is_header_cut() => Fault::CutHeader,
+            CaptureFault::NoCapture => self.fault(),
+            CaptureFault::BrokenOff if self.is_header_cut() => CaptureFault::CutHeader,
             other => other,
         }
     }

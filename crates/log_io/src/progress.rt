@@ -1,5 +1,5 @@
 //! Sources that show their progress and keep their first bytes.
-use crate::front::Front;
+use crate::front::FirstBytes;
 use std::fs;
 use std::io::{self, Read};
 use std::os::unix::fs::FileTypeExt;
@@ -27,7 +27,7 @@ const PAUSE: u64 = 2_000;
 /// A source of a capture.
 pub trait Source {
     /// Returns its first bytes, and how many were read.
-    fn front(&self) -> Front;
+    fn front(&self) -> FirstBytes;
 }
 
 /// Whether standard error is a terminal, or another character device.
@@ -108,23 +108,23 @@ fn rate_of(read: u64, milliseconds: u64) -> u64 {
 
 /// A source that shows its progress on standard error and keeps its first bytes.
 #[derive(Drop)]
-pub struct Watched<'a, R, I> {
+pub struct ProgressReader<'a, R, I> {
     rt: &'a R,
     name: &'a str,
     source: I,
     progress: Option<Progress>,
-    front: Front,
+    front: FirstBytes,
 }
 
-impl<'a, R: Runtime, I: Read> Watched<'a, R, I> {
+impl<'a, R: Runtime, I: Read> ProgressReader<'a, R, I> {
     /// Wraps a source with its name in messages and the path where it lies.
-    pub fn new(rt: &'a R, name: &'a str, path: &str, source: I) -> Watched<'a, R, I> {
-        Watched {
+    pub fn new(rt: &'a R, name: &'a str, path: &str, source: I) -> ProgressReader<'a, R, I> {
+        ProgressReader {
             rt,
             name,
             source,
             progress: Progress::begin(rt, path),
-            front: Front::new(),
+            front: FirstBytes::new(),
         }
     }
 
@@ -150,7 +150,7 @@ impl<'a, R: Runtime, I: Read> Watched<'a, R, I> {
     }
 }
 
-impl<'a, R: Runtime, I: Read> Read for Watched<'a, R, I> {
+impl<'a, R: Runtime, I: Read> Read for ProgressReader<'a, R, I> {
     fn read(&mut self, buf: &mut [u8]) -> io::Result<usize> {
         let n = self.source.read(buf)?;
         self.front.add(&buf[..n]);
@@ -159,8 +159,8 @@ impl<'a, R: Runtime, I: Read> Read for Watched<'a, R, I> {
     }
 }
 
-impl<'a, R, I> Source for Watched<'a, R, I> {
-    fn front(&self) -> Front {
+impl<'a, R, I> Source for ProgressReader<'a, R, I> {
+    fn front(&self) -> FirstBytes {
         self.front
     }
 }

@@ -1,14 +1,14 @@
 //! The line of a connection as a JSON object. Each field is written as soon as it is computed. The
 //! text of a list or certificate that was written before is copied from a cache.
 use crate::style::Style;
-use log_fields::connection::tell;
+use log_fields::connection::compute;
+use log_fields::context::FieldContext;
 use log_fields::fields::{FIELDS, Field};
 use log_fields::summary::Summary;
-use log_fields::told::Told;
 use log_formats::cell::{Cell, TakesCell};
-use log_formats::known_texts::KnownTexts;
 use log_formats::lists::{Numbers, Texts};
 use log_formats::objects::{LINE_LEN, Object};
+use log_formats::text_cache::TextCache;
 use serde::Serialize;
 use std::alloc::{AllocError, Global};
 use std::cell::RefCell;
@@ -23,7 +23,7 @@ struct Adds<'o> {
     line: &'o mut Object,
     place: usize,
     name: &'static str,
-    known: &'o RefCell<KnownTexts>,
+    known: &'o RefCell<TextCache>,
 }
 
 impl Adds<'_> {
@@ -48,7 +48,7 @@ impl Adds<'_> {
         self.line.add_fields(self.alloc, text.as_slice())?;
         // (without memory for the cache the line is complete all the same)
         if let Ok(mut known) = self.known.try_borrow_mut() {
-            let _kept = known.keep_list(self.alloc, self.place, texts, text.as_slice());
+            let _kept = known.cache_list(self.alloc, self.place, texts, text.as_slice());
         }
         Ok(())
     }
@@ -63,7 +63,7 @@ impl Adds<'_> {
         let text = self.written(&Numbers::Codes(codes))?;
         self.line.add_fields(self.alloc, text.as_slice())?;
         if let Ok(mut known) = self.known.try_borrow_mut() {
-            let _kept = known.keep_codes(self.alloc, self.place, codes, text.as_slice());
+            let _kept = known.cache_codes(self.alloc, self.place, codes, text.as_slice());
         }
         Ok(())
     }
@@ -81,7 +81,10 @@ impl<'a> TakesCell<'a> for Adds<'_> {
     }
 
     #[inline(always)]
-    fn take_told(&mut self, cell: Result<Option<Cell<'a>>, AllocError>) -> Result<(), AllocError> {
+    fn take_result(
+        &mut self,
+        cell: Result<Option<Cell<'a>>, AllocError>,
+    ) -> Result<(), AllocError> {
         self.take(cell?)
     }
 }
@@ -89,28 +92,28 @@ impl<'a> TakesCell<'a> for Adds<'_> {
 /// Adds the field of this name and place.
 #[inline(always)]
 fn add_field<'a>(
-    told: &mut Told<'a>,
-    known: &RefCell<KnownTexts>,
+    context: &mut FieldContext<'a>,
+    known: &RefCell<TextCache>,
     place: usize,
     name: &'static str,
     field: &Field,
     line: &mut Object,
 ) -> Result<(), AllocError> {
     let mut adds = Adds {
-        alloc: told.alloc,
+        alloc: context.alloc,
         line,
         place,
         name,
         known,
     };
-    tell(told, field, &mut adds)
+    compute(context, field, &mut adds)
 }
 
 /// Returns the certificate that a field describes, if it was sent.
-fn certificate_of_field<'a>(told: &Told<'a>, field: &Field) -> Option<&'a [u8]> {
+fn certificate_of_field<'a>(context: &FieldContext<'a>, field: &Field) -> Option<&'a [u8]> {
     match field {
-        Field::ServerCertificate(_) => told.handshake.server_certificate.as_deref(),
-        Field::ClientCertificate(_) => told.handshake.client_certificate.as_deref(),
+        Field::ServerCertificate(_) => context.handshake.server_certificate.as_deref(),
+        Field::ClientCertificate(_) => context.handshake.client_certificate.as_deref(),
         _ => None,
     }
 }
@@ -136,13 +139,13 @@ fn places_beside<'p>(field: &Field, places: &'p [usize]) -> &'p [usize] {
 
 /// Adds the fields of a certificate at these places: their cached text if there is one.
 fn add_certificate<'a>(
-    told: &mut Told<'a>,
-    known: &RefCell<KnownTexts>,
+    context: &mut FieldContext<'a>,
+    known: &RefCell<TextCache>,
     places: &[usize],
     certificate: &[u8],
     line: &mut Object,
 ) -> Result<(), AllocError> {
-    let alloc = told.alloc;
+    let alloc = context.alloc;
     if let Ok(known) = known.try_borrow() {
         if let Some(text) = known.certificate(places, certificate) {
             return line.add_fields(alloc, text);
@@ -151,13 +154,13 @@ fn add_certificate<'a>(
     let mut part = Object::over(alloc, Vec::new(alloc), PART_LEN)?;
     for place in places {
         if let Some((name, _, field)) = FIELDS.get(*place) {
-            add_field(told, known, *place, *name, field, &mut part)?;
+            add_field(context, known, *place, *name, field, &mut part)?;
         }
     }
     let text = part.into_fields();
     line.add_fields(alloc, text.as_slice())?;
     if let Ok(mut known) = known.try_borrow_mut() {
-        let _kept = known.keep_certificate(alloc, places, certificate, text.as_slice());
+        let _kept = known.cache_certificate(alloc, places, certificate, text.as_slice());
     }
     Ok(())
 }
@@ -171,7 +174,7 @@ pub fn json_line<'a>(
     summary: &'a Summary<'a>,
     room: Vec<u8>,
 ) -> Result<Vec<u8>, AllocError> {
-    let mut told = style.told(alloc, summary);
+    let mut context = style.context(alloc, summary);
     let mut line = Object::over(alloc, room, LINE_LEN)?;
     // (how many of the places are done)
     let mut count = 0;
@@ -182,13 +185,13 @@ pub fn json_line<'a>(
         if at < count {
             continue;
         }
-        match certificate_of_field(&told, field) {
+        match certificate_of_field(&context, field) {
             Some(certificate) => {
                 let part = places_beside(field, places.get(at..).unwrap_or(&[]));
                 count = at.saturating_add(part.len());
-                add_certificate(&mut told, &style.texts, part, certificate, &mut line)?;
+                add_certificate(&mut context, &style.texts, part, certificate, &mut line)?;
             }
-            None => add_field(&mut told, &style.texts, *place, *name, field, &mut line)?,
+            None => add_field(&mut context, &style.texts, *place, *name, field, &mut line)?,
         }
     }
     line.into_bytes()

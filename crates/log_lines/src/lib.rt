@@ -8,10 +8,10 @@
 //! This crate has no clauses, only tests.
 #![tactic(auto)]
 
+mod certificate_line;
 mod format;
 mod json_line;
-mod presented;
-mod spoken;
+mod message_line;
 mod style;
 
 pub use format::{DEFAULT_FORMAT, FORMAT_NAMES, Format};

@@ -1,26 +1,26 @@
 //! Which lines a log has, and how they are written.
+use crate::certificate_line::certificate_row;
 use crate::format::Format;
 use crate::json_line::json_line;
-use crate::presented::certificate_row;
-use crate::spoken::message_row;
+use crate::message_line::message_row;
 use log_fields::columns::{DETAILS, PARTS};
 use log_fields::connection::row_of;
+use log_fields::context::FieldContext;
 use log_fields::fields::FIELDS;
 use log_fields::summary::Summary;
-use log_fields::told::Told;
 use log_formats::cell::Row;
 use log_formats::column::Column;
 use log_formats::comma::Formulas;
-use log_formats::known_texts::KnownTexts;
 use log_formats::nearest::nearest;
 use log_formats::objects::json_row;
 use log_formats::suites::Suites;
+use log_formats::text_cache::TextCache;
 use log_formats::{comma, zeek};
-use log_messages::{Presented, Spoken};
+use log_messages::{SentCertificate, SentMessage};
 use std::alloc::{AllocError, Global};
 use std::cell::RefCell;
 use std::fmt::{self, Display, Formatter};
-use tls_fingerprints::KnownDigests;
+use tls_fingerprints::DigestCache;
 
 /// What gets a line.
 #[derive(Clone, Copy, Debug, PartialEq, Eq)]
@@ -56,9 +56,9 @@ pub struct Style {
     /// The names of cipher suites.
     pub suites: Suites,
     /// A cache of the digests of fingerprints. It is borrowed while a line computes one.
-    pub digests: RefCell<KnownDigests>,
+    pub digests: RefCell<DigestCache>,
     /// A cache of the text of lists, with these names of suites, and of certificates in JSON lines.
-    pub(crate) texts: RefCell<KnownTexts>,
+    pub(crate) texts: RefCell<TextCache>,
 }
 
 /// Why a style isn't possible.
@@ -253,8 +253,8 @@ impl Style {
             formulas,
             lines: Lines::new(alloc, kind, names)?,
             suites,
-            digests: RefCell::new(KnownDigests::new(alloc)),
-            texts: RefCell::new(KnownTexts::new(alloc)),
+            digests: RefCell::new(DigestCache::new(alloc)),
+            texts: RefCell::new(TextCache::new(alloc)),
         })
     }
 
@@ -284,8 +284,12 @@ impl Style {
     }
 
     /// Returns a connection with this style's names and caches.
-    pub(crate) fn told<'a>(&'a self, alloc: Global, summary: &'a Summary<'a>) -> Told<'a> {
-        Told::new(alloc, &self.suites, &self.digests, summary)
+    pub(crate) fn context<'a>(
+        &'a self,
+        alloc: Global,
+        summary: &'a Summary<'a>,
+    ) -> FieldContext<'a> {
+        FieldContext::new(alloc, &self.suites, &self.digests, summary)
     }
 
     /// Returns a line, without its line break.
@@ -307,12 +311,12 @@ impl Style {
         room: Vec<u8>,
     ) -> Result<Vec<u8>, AllocError> {
         match self.format {
-            Format::Text => log_text::line(self.told(alloc, summary)),
-            Format::Suricata => log_suricata::line(self.told(alloc, summary)),
-            Format::Ecs => log_ecs::line(self.told(alloc, summary)),
+            Format::Text => log_text::line(self.context(alloc, summary)),
+            Format::Suricata => log_suricata::line(self.context(alloc, summary)),
+            Format::Ecs => log_ecs::line(self.context(alloc, summary)),
             Format::Json => json_line(alloc, self, places, summary, room),
             Format::Csv | Format::Zeek => {
-                let row = row_of(&mut self.told(alloc, summary), places)?;
+                let row = row_of(&mut self.context(alloc, summary), places)?;
                 self.line(alloc, &row)
             }
         }
@@ -326,7 +330,7 @@ impl Style {
         places: &[usize],
         summary: &Summary<'_>,
         time: u64,
-        spoken: Spoken,
+        spoken: SentMessage,
     ) -> Result<Vec<u8>, AllocError> {
         let row = message_row(alloc, places, summary, time, spoken)?;
         self.line(alloc, &row)
@@ -340,7 +344,7 @@ impl Style {
         places: &[usize],
         summary: &Summary<'_>,
         time: u64,
-        presented: &Presented,
+        presented: &SentCertificate,
     ) -> Result<Vec<u8>, AllocError> {
         let row = certificate_row(alloc, places, summary, time, presented)?;
         self.line(alloc, &row)

@@ -24,7 +24,7 @@ impl CertificateLists {
 
     /// Keeps the list of a message in place of its sender's earlier one, if the message is a
     /// Certificate. If memory is refused, the sender has no list: a connection doesn't end for it.
-    pub fn hear(&mut self, direction: Direction, message: Option<&HandshakeMessage<'_>>) {
+    pub fn add_message(&mut self, direction: Direction, message: Option<&HandshakeMessage<'_>>) {
         let Some(message) = message else {
             return;
         };

@@ -1,13 +1,13 @@
 //! The unencrypted messages and certificates of a connection, kept until they are logged:
-//! [`Speech`] has messages, [`Chains`] certificates for lines of their own, [`CertificateLists`]
-//! those for the connection's line.
+//! [`MessageCollector`] has messages, [`CertificateCollector`] certificates for lines of their own,
+//! [`CertificateLists`] those for the connection's line.
 #![tactic(auto)]
 
+mod certificate_collector;
 mod certificate_lists;
-mod chains;
-mod speech;
+mod message_collector;
 
+pub use certificate_collector::{CertificateCollector, SentCertificate};
 pub use certificate_lists::CertificateLists;
-pub use chains::{Chains, Presented};
-pub use speech::{Body, Speech, Spoken, Word};
+pub use message_collector::{Body, MessageCollector, NamedMessage, SentMessage};
 pub use tls_json::SuiteText;

@@ -1,5 +1,5 @@
 //! Why the value of an option is refused.
-use log_io::Reason;
+use log_io::ErrorText;
 use std::alloc::AllocError;
 use std::fmt::{self, Display, Formatter};
 use std::io;
@@ -37,7 +37,7 @@ impl Display for OptionError<'_> {
                 f,
                 "--memory {text}: expected at least 64M, like 512M or 2G, or none"
             ),
-            OptionError::Reading(path, e) => write!(f, "{path}: cannot read: {}", Reason(e)),
+            OptionError::Reading(path, e) => write!(f, "{path}: cannot read: {}", ErrorText(e)),
             OptionError::OutOfMemory => f.write_str("out of memory"),
         }
     }

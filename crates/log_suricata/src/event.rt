@@ -4,13 +4,13 @@ use base64::engine::general_purpose::STANDARD;
 use connection_ids::flow_id;
 use connections::{Protocol, Side};
 use layouts::Items;
-use log_fields::columns::Certified;
+use log_fields::columns::CertificateField;
 use log_fields::connection::{cell_of, end_cell, microseconds};
+use log_fields::context::{FieldContext, Moment, OwnCertificate};
 use log_fields::fields::{End, Field, Named, Offer, Print};
 use log_fields::listed::listed_cell;
 use log_fields::stamps::stamp_cell;
 use log_fields::summary::Summary;
-use log_fields::told::{Moment, Own, Told};
 use log_formats::cell::{Cell, PrintCell, Row};
 use log_formats::lists::Texts;
 use log_formats::objects::{LINE_LEN, json_bytes};
@@ -196,7 +196,7 @@ fn forward_name(alloc: Global, text: &[u8]) -> Result<String, AllocError> {
 }
 
 /// Returns the log's field for a side's certificate.
-fn field_of(side: Side, field: Certified) -> Field {
+fn field_of(side: Side, field: CertificateField) -> Field {
     match side {
         Side::Originator => Field::ClientCertificate(field),
         Side::Responder => Field::ServerCertificate(field),
@@ -214,11 +214,11 @@ fn own_bytes<'a>(handshake: &'a HandshakeSummary, side: Side) -> Option<&'a [u8]
 /// Writes a name of a side's certificate.
 fn name_cell_of<'a>(
     alloc: Global,
-    told: &mut Told<'_>,
+    context: &mut FieldContext<'_>,
     side: Side,
-    field: Certified,
+    field: CertificateField,
 ) -> Result<Option<Cell<'a>>, AllocError> {
-    match cell_of(told, &field_of(side, field))? {
+    match cell_of(context, &field_of(side, field))? {
         Some(Cell::Text(Text::Owned(name))) => some_text(forward_name(alloc, name.as_bytes())),
         _ => Ok(None),
     }
@@ -226,12 +226,15 @@ fn name_cell_of<'a>(
 
 /// The fields that make up `subjectaltname`: the server's DNS names, then its addresses.
 static NAMES: [Field; 2] = [
-    Field::ServerCertificate(Certified::DnsNames),
-    Field::ServerCertificate(Certified::Addresses),
+    Field::ServerCertificate(CertificateField::DnsNames),
+    Field::ServerCertificate(CertificateField::Addresses),
 ];
 
 /// Writes the bytes of a certificate's serial number.
-fn serial_cell<'a>(alloc: Global, own: &mut Own<'_>) -> Result<Option<Cell<'a>>, AllocError> {
+fn serial_cell<'a>(
+    alloc: Global,
+    own: &mut OwnCertificate<'_>,
+) -> Result<Option<Cell<'a>>, AllocError> {
     match own.certificate() {
         Some(certificate) => {
             let digits = hex::encode_upper(alloc, certificate.tbs_certificate.serial_number)?;
@@ -257,11 +260,11 @@ fn fingerprint_cell<'a>(
 
 /// Writes a time of a side's certificate, without its time zone, which is UTC.
 fn date_cell<'a>(
-    told: &mut Told<'_>,
+    context: &mut FieldContext<'_>,
     side: Side,
-    field: Certified,
+    field: CertificateField,
 ) -> Result<Option<Cell<'a>>, AllocError> {
-    match cell_of(told, &field_of(side, field))? {
+    match cell_of(context, &field_of(side, field))? {
         Some(Cell::Text(Text::Owned(mut text))) => {
             text.pop();
             Ok(Some(Cell::Text(Text::Owned(text))))
@@ -308,32 +311,32 @@ fn chain_bytes<'a>(summary: &Summary<'a>, side: Side) -> &'a [u8] {
 /// Writes a field of a side's own certificate.
 fn own_cell<'a>(
     alloc: Global,
-    told: &mut Told<'_>,
+    context: &mut FieldContext<'_>,
     side: Side,
     field: OwnField,
 ) -> Result<Option<Cell<'a>>, AllocError> {
     match field {
-        OwnField::Subject => name_cell_of(alloc, told, side, Certified::Subject),
-        OwnField::Issuer => name_cell_of(alloc, told, side, Certified::Issuer),
+        OwnField::Subject => name_cell_of(alloc, context, side, CertificateField::Subject),
+        OwnField::Issuer => name_cell_of(alloc, context, side, CertificateField::Issuer),
         OwnField::Serial => match side {
-            Side::Originator => serial_cell(alloc, &mut told.client),
-            Side::Responder => serial_cell(alloc, &mut told.server),
+            Side::Originator => serial_cell(alloc, &mut context.client),
+            Side::Responder => serial_cell(alloc, &mut context.server),
         },
-        OwnField::Fingerprint => fingerprint_cell(alloc, own_bytes(told.handshake, side)),
-        OwnField::NotBefore => date_cell(told, side, Certified::NotBefore),
-        OwnField::NotAfter => date_cell(told, side, Certified::NotAfter),
+        OwnField::Fingerprint => fingerprint_cell(alloc, own_bytes(context.handshake, side)),
+        OwnField::NotBefore => date_cell(context, side, CertificateField::NotBefore),
+        OwnField::NotAfter => date_cell(context, side, CertificateField::NotAfter),
     }
 }
 
 /// Writes a fingerprint and the text that it is the digest of.
 fn print_cell<'a>(
     alloc: Global,
-    told: &mut Told<'_>,
+    context: &mut FieldContext<'_>,
     hash: Print,
     string: Print,
 ) -> Result<Option<Cell<'a>>, AllocError> {
-    let hash = cell_of(told, &Field::Print(hash))?;
-    let string = cell_of(told, &Field::Print(string))?;
+    let hash = cell_of(context, &Field::Print(hash))?;
+    let string = cell_of(context, &Field::Print(string))?;
     match (hash, string) {
         (Some(Cell::Text(Text::Owned(hash))), Some(Cell::Text(Text::Owned(string)))) => {
             let print = Box::new(alloc, PrintCell { hash, string })?;
@@ -359,22 +362,22 @@ fn chosen_cell<'a>(
 /// Writes a field of the object `tls`.
 fn said_cell<'a>(
     alloc: Global,
-    told: &mut Told<'a>,
+    context: &mut FieldContext<'a>,
     said: &Said,
 ) -> Result<Option<Cell<'a>>, AllocError> {
-    let summary = told.summary;
+    let summary = context.summary;
     match said {
-        Said::Same(field) => cell_of(told, field),
-        Said::Own(side, field) => own_cell(alloc, told, *side, *field),
+        Said::Same(field) => cell_of(context, field),
+        Said::Own(side, field) => own_cell(alloc, context, *side, *field),
         Said::Certificate(side) => {
             Ok(certificate_cell(alloc, own_bytes(summary.handshake, *side)))
         }
         Said::Chain(side) => Ok(chain_cell(alloc, chain_bytes(summary, *side))),
-        Said::AlternativeNames => listed_cell(told, &NAMES),
+        Said::AlternativeNames => listed_cell(context, &NAMES),
         Said::Version => Ok(version_cell(summary.handshake)),
         Said::Resumed => Ok(some_mark(summary.is_resumed)),
-        Said::Ja3 => print_cell(alloc, told, Print::Ja3, Print::Ja3Text),
-        Said::Ja3s => print_cell(alloc, told, Print::Ja3s, Print::Ja3sText),
+        Said::Ja3 => print_cell(alloc, context, Print::Ja3, Print::Ja3Text),
+        Said::Ja3s => print_cell(alloc, context, Print::Ja3s, Print::Ja3sText),
         Said::Chosen => chosen_cell(alloc, summary.handshake),
     }
 }
@@ -428,22 +431,25 @@ static FRONT: &[(&str, End)] = &[
 /// Writes these fields of the object `tls` or `client`.
 fn tls_row<'a>(
     alloc: Global,
-    told: &mut Told<'a>,
+    context: &mut FieldContext<'a>,
     fields: &'static [(&'static str, Said)],
 ) -> Result<Row<'a>, AllocError> {
     let mut cells = Vec::with_capacity(alloc, fields.len())?;
     for (name, said) in fields {
-        cells.push((*name, said_cell(alloc, told, said)?))?;
+        cells.push((*name, said_cell(alloc, context, said)?))?;
     }
     Ok(Row { cells })
 }
 
 /// Writes the object `client`, if the client sent a certificate.
-fn client_row<'a>(alloc: Global, told: &mut Told<'a>) -> Result<Option<Row<'a>>, AllocError> {
-    if own_bytes(told.handshake, Side::Originator).is_none() {
+fn client_row<'a>(
+    alloc: Global,
+    context: &mut FieldContext<'a>,
+) -> Result<Option<Row<'a>>, AllocError> {
+    if own_bytes(context.handshake, Side::Originator).is_none() {
         return Ok(None);
     }
-    Ok(Some(tls_row(alloc, told, CLIENT)?))
+    Ok(Some(tls_row(alloc, context, CLIENT)?))
 }
 
 /// Removes whole certificates from a row.
@@ -468,14 +474,14 @@ fn event_bytes(alloc: Global, event: &mut Event<'_>) -> Result<Vec<u8>, AllocErr
 }
 
 /// Returns the event of a connection, without a line break.
-pub fn line(told: Told<'_>) -> Result<Vec<u8>, AllocError> {
-    let (alloc, summary) = (told.alloc, told.summary);
-    let mut told = told;
+pub fn line(context: FieldContext<'_>) -> Result<Vec<u8>, AllocError> {
+    let (alloc, summary) = (context.alloc, context.summary);
+    let mut context = context;
     let mut event = Event {
         front: front_row(alloc, summary)?,
-        tls: tls_row(alloc, &mut told, TLS)?,
-        client: client_row(alloc, &mut told)?,
-        protocols: tls_row(alloc, &mut told, PROTOCOLS)?,
+        tls: tls_row(alloc, &mut context, TLS)?,
+        client: client_row(alloc, &mut context)?,
+        protocols: tls_row(alloc, &mut context, PROTOCOLS)?,
     };
     event_bytes(alloc, &mut event)
 }

@@ -2,9 +2,9 @@
 //! longer than their column are truncated.
 use connections::End;
 use log_fields::connection::{cell_of, microseconds};
+use log_fields::context::FieldContext;
 use log_fields::fields::{Course, Field, Named, Print};
 use log_fields::summary::Summary;
-use log_fields::told::Told;
 use log_formats::cell::Cell;
 use log_formats::objects::json_text;
 use std::alloc::{AllocError, Global};
@@ -127,8 +127,8 @@ fn duration_text(alloc: Global, summary: &Summary<'_>) -> Result<String, AllocEr
 }
 
 /// Returns the cipher suite without its `TLS_` prefix.
-fn suite_text(alloc: Global, told: &mut Told<'_>) -> Result<String, AllocError> {
-    let text = cell_text(alloc, cell_of(told, &Field::Named(Named::Cipher))?)?;
+fn suite_text(alloc: Global, context: &mut FieldContext<'_>) -> Result<String, AllocError> {
+    let text = cell_text(alloc, cell_of(context, &Field::Named(Named::Cipher))?)?;
     match text.as_str().strip_prefix("TLS_") {
         Some(name) => String::from_str(alloc, name),
         None => Ok(text),
@@ -136,14 +136,18 @@ fn suite_text(alloc: Global, told: &mut Told<'_>) -> Result<String, AllocError> 
 }
 
 /// Returns the text of a column for a connection.
-fn shown_text(alloc: Global, told: &mut Told<'_>, shown: Shown) -> Result<String, AllocError> {
-    let summary = told.summary;
+fn shown_text(
+    alloc: Global,
+    context: &mut FieldContext<'_>,
+    shown: Shown,
+) -> Result<String, AllocError> {
+    let summary = context.summary;
     match shown {
-        Shown::Same(field) => cell_text(alloc, cell_of(told, &field)?),
+        Shown::Same(field) => cell_text(alloc, cell_of(context, &field)?),
         Shown::Time => time_of(alloc, summary),
         Shown::Client => format!(in alloc; "{}", summary.originator.end.address),
         Shown::Server => end_text(alloc, summary.responder.end),
-        Shown::Suite => suite_text(alloc, told),
+        Shown::Suite => suite_text(alloc, context),
         Shown::Duration => duration_text(alloc, summary),
     }
 }
@@ -230,12 +234,12 @@ pub fn header(alloc: Global) -> Result<Vec<u8>, AllocError> {
 }
 
 /// Returns the line of a connection, without a line break.
-pub fn line(told: Told<'_>) -> Result<Vec<u8>, AllocError> {
-    let alloc = told.alloc;
-    let mut told = told;
+pub fn line(context: FieldContext<'_>) -> Result<Vec<u8>, AllocError> {
+    let alloc = context.alloc;
+    let mut context = context;
     let mut line = String::new(alloc);
     for (_name, width, left, shown) in &COLUMNS {
-        let text = shown_text(alloc, &mut told, *shown)?;
+        let text = shown_text(alloc, &mut context, *shown)?;
         add_column(alloc, &mut line, text.as_str(), *width, *left)?;
     }
     Ok(without_end(line))

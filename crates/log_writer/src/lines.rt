@@ -5,7 +5,7 @@ ghost use Rattle.log_io.specs.Output.{Tells};
 use log_fields::summary::Summary;
 use log_io::{LineError, Output};
 use log_lines::Style;
-use log_messages::{Presented, Spoken};
+use log_messages::{SentCertificate, SentMessage};
 use std::alloc::Global;
 use std::io::Write;
 
@@ -60,7 +60,7 @@ pub fn print_message<W: Write>(
     places: &[usize],
     summary: &Summary<'_>,
     time: u64,
-    spoken: Spoken,
+    spoken: SentMessage,
     out: &mut Output<W>,
 ) -> Result<(), LineError>
     ensures { Tells out.old.has_failed out.new.has_failed result }
@@ -75,7 +75,7 @@ pub fn print_certificate<W: Write>(
     places: &[usize],
     summary: &Summary<'_>,
     time: u64,
-    presented: &Presented,
+    presented: &SentCertificate,
     out: &mut Output<W>,
 ) -> Result<(), LineError>
     ensures { Tells out.old.has_failed out.new.has_failed result }

@@ -3,7 +3,7 @@ use Rattle.std.specs.Prelude.{◌≡◌, ⊤, List, map}
 use Rattle.std.specs.Global.{Vec}
 use Rattle.packets.specs.Section.{Packet}
 use Rattle.packets.specs.Packets.{Packets, BrokenOff, Refused}
-use Rattle.packets.specs.declared.kept.KeptPacket as stored
+use Rattle.packets.specs.declared.owned_packet.OwnedPacket as stored
 use Rattle.packets.specs.declared.reader.CaptureError.TheVariants as error
 use Rattle.packets.specs.declared.visit.VisitError.{VisitError}
 use Rattle.packets.specs.declared.visit.VisitError.TheVariants as visit

@@ -11,13 +11,13 @@
 #![tactic(auto)]
 
 mod buffer;
-mod kept;
 pub mod laws;
+mod owned_packet;
 mod reader;
 mod section;
 mod visit;
 
 pub use buffer::Buffer;
-pub use kept::{KeptPacket, read_packets};
+pub use owned_packet::{OwnedPacket, read_packets};
 pub use reader::{Capture, CaptureError, Packet, Step};
 pub use visit::{PacketVisitor, VisitError, visit_packets};

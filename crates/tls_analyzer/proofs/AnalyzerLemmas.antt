@@ -46,9 +46,9 @@ use Rattle.tls_analyzer.specs.Analyzers.{
   sealed_if,
   with_hearing,
 }
-use Rattle.tls_analyzer.specs.declared.hearer.Hearer.{Hearer}
-use Rattle.tls_analyzer.specs.declared.analyzer.Hearing.{Hearing}
-use Rattle.tls_analyzer.specs.declared.analyzer.Hearing.TheVariants.{Unknown, Clear, Encrypted, Other}
+use Rattle.tls_analyzer.specs.declared.conversation_state.ConversationState.{ConversationState}
+use Rattle.tls_analyzer.specs.declared.analyzer.SideState.{SideState}
+use Rattle.tls_analyzer.specs.declared.analyzer.SideState.TheVariants.{Unknown, Clear, Encrypted, Other}
 use Rattle.tls_analyzer.specs.declared.analyzer.Analyzer.{Analyzer}
 use Rattle.tls_analyzer.proofs.KnownLemmas.{known_on}
 use Rattle.tls_analyzer.proofs.CutLemmas.{
@@ -61,47 +61,48 @@ use Rattle.tls_analyzer.proofs.CutLemmas.{
   sealed_on,
 }
 
-pub sealed_twice : (a b : Bool) (h : Hearing) → sealed_if b (sealed_if a h) ≡ sealed_if (a || b) h
+pub sealed_twice : (a b : Bool) (h : SideState) → sealed_if b (sealed_if a h) ≡ sealed_if (a || b) h
 sealed_twice true true h = refl
 sealed_twice true false h = refl
 sealed_twice false b h = refl
 
-hearing_on : (h : Hearing) (vs ws : List Said)
+hearing_on : (h : SideState) (vs ws : List Said)
     → hearing_behind (hearing_behind h vs) ws ≡ hearing_behind h (ws ++ vs)
 hearing_on h vs ws = sealed_twice (has_sealed vs) (has_sealed ws) h
     ∙ ap (λ b. sealed_if b h) (sym (sealed_on vs ws))
 
-over_on : (h : Hearing) (s : Side) (k : Known) (vs ws : List Said)
+over_on : (h : SideState) (s : Side) (k : Known) (vs ws : List Said)
     → over_behind (hearing_behind h vs) s (known s k vs) ws ≡ over_behind h s k (ws ++ vs)
 over_on h s k vs ws =
     ap (λ x. over_by x (outcome_at (known s (known s k vs) ws).flow.state)) (hearing_on h vs ws)
     ∙ ap (λ (x : Known). over_by (hearing_behind h (ws ++ vs)) (outcome_at x.flow.state))
     (known_on s k vs ws)
 
-heard_on : (h : Hearing) (s : Side) (k : Known) (vs ws : List Said) → AreHeard h s k vs
+heard_on : (h : SideState) (s : Side) (k : Known) (vs ws : List Said) → AreHeard h s k vs
     → AreHeard (hearing_behind h vs) s (known s k vs) ws → AreHeard h s k (ws ++ vs)
 heard_on h s k vs [] first last = first
 heard_on h s k vs (w ∷ ws) first last =
     (sym (over_on h s k vs ws) ∙ last.0, heard_on h s k vs ws first last.1)
 
 -- The parts of an analyzer besides what is known of a side, and that.
-pub hearing_with : (t : Analyzer) (s : Side) (h : Hearing) → hearing (with_hearing t s h) s ≡ h
+pub hearing_with : (t : Analyzer) (s : Side) (h : SideState) → hearing (with_hearing t s h) s ≡ h
 hearing_with t ToServer h = refl
 hearing_with t FromServer h = refl
 
-pub with_again : (t : Analyzer) (s : Side) (a b : Hearer) (h g : Hearing)
-    → with_hearing (record (with_hearing (record t { hearer = a }) s h) { hearer = b }) s
+pub with_again : (t : Analyzer) (s : Side) (a b : ConversationState) (h g : SideState)
+    → with_hearing
+    (record (with_hearing (record t { conversation_state = a }) s h) { conversation_state = b }) s
     g ≡ with_hearing (record t {
-      hearer = b;
+      conversation_state = b;
     }) s g
 with_again t ToServer a b h g = refl
 with_again t FromServer a b h g = refl
 
-pub hearing_is : (t u : Analyzer) (s : Side) (h : Hearing)
-    → u ≡ with_hearing (record t { hearer = u.hearer }) s h
+pub hearing_is : (t u : Analyzer) (s : Side) (h : SideState)
+    → u ≡ with_hearing (record t { conversation_state = u.conversation_state }) s h
     → hearing u s ≡ h
 hearing_is t u s h same = ap (λ x. hearing x s) same
-    ∙ hearing_with (record t { hearer = u.hearer }) s h
+    ∙ hearing_with (record t { conversation_state = u.conversation_state }) s h
 
 -- What is known of a side after a piece follows from its events.
 hearing_of : (t u : Analyzer) (s : Side) (p : Bytes) (heard : IsFollowed t s p u)
@@ -109,9 +110,9 @@ hearing_of : (t u : Analyzer) (s : Side) (p : Bytes) (heard : IsFollowed t s p u
 hearing_of t u s p heard = hearing_is t u s (hearing_behind (hearing t s) heard.said) heard.same
 
 over_of : (t u : Analyzer) (s : Side) (p : Bytes) (heard : IsFollowed t s p u)
-    → is_over u s ≡ over_behind (hearing t s) s (known_of t.hearer) heard.said
+    → is_over u s ≡ over_behind (hearing t s) s (known_of t.conversation_state) heard.said
 over_of t u s p heard =
-    ap (λ h. over_by h (outcome_at u.hearer.flow.state)) (hearing_of t u s p heard)
+    ap (λ h. over_by h (outcome_at u.conversation_state.flow.state)) (hearing_of t u s p heard)
     ∙ ap (λ (k : Known). over_by (hearing_behind (hearing t s) heard.said)
     (outcome_at k.flow.state)) heard.known
 
@@ -128,30 +129,36 @@ left_longer false s vs ws c d (same, inr few) = (same, inr (longer vs ws (2 ^ 64
 
 -- After the event that ends the side nothing more is read.
 over_still : (t m : Analyzer) (s : Side) (p q : Bytes) (first : IsFollowed t s p m)
-    → over_behind (hearing t s) s (known_of t.hearer) first.said ≡ true → IsFollowed t s (p ++ q) m
+    → over_behind (hearing t s) s (known_of t.conversation_state) first.said ≡ true
+    → IsFollowed t s (p ++ q) m
 over_still t m s p q first over = record {
   begun = further first.begun s q;
   behind = further first.behind s q;
   said = first.said;
-  fed = fed_further t.hearer.conversation first.begun s p q first.fed;
+  fed = fed_further t.conversation_state.conversation first.begun s p q first.fed;
   past = past_further first.begun first.behind s first.said q first.past;
   heard = first.heard;
-  left = subst (λ b. IsLeft b s first.said (further first.behind s q) m.hearer.conversation)
+  left = subst
+      (λ b. IsLeft b s first.said (further first.behind s q) m.conversation_state.conversation)
       (sym over)
-      (left_further s first.said q first.behind m.hearer.conversation
-      (subst (λ b. IsLeft b s first.said first.behind m.hearer.conversation) over first.left));
+      (left_further s first.said q first.behind m.conversation_state.conversation
+      (subst (λ b. IsLeft b s first.said first.behind m.conversation_state.conversation) over
+      first.left));
   known = first.known;
   history = first.history;
   same = first.same;
 }
 
 both_followed : (t m u : Analyzer) (s : Side) (p q : Bytes) (first : IsFollowed t s p m)
-    → over_behind (hearing t s) s (known_of t.hearer) first.said ≡ false → IsFollowed m s q u
+    → over_behind (hearing t s) s (known_of t.conversation_state) first.said ≡ false
+    → IsFollowed m s q u
     → IsFollowed t s (p ++ q) u
 both_followed t m u s p q first over last =
-    let left : IsLeft false s first.said first.behind m.hearer.conversation =
-    subst (λ b. IsLeft b s first.said first.behind m.hearer.conversation) over first.left in
-    let whole = joined t.hearer.conversation first.begun m.hearer.conversation last.begun
+    let left : IsLeft false s first.said first.behind m.conversation_state.conversation =
+    subst (λ b. IsLeft b s first.said first.behind m.conversation_state.conversation) over
+    first.left in
+    let whole = joined t.conversation_state.conversation first.begun
+    m.conversation_state.conversation last.begun
     last.behind s p q first.said
     last.said first.fed
     (subst (λ c. IsPast first.begun s first.said c) (sym left.0) first.past) last.fed last.past in
@@ -163,40 +170,48 @@ both_followed t m u s p q first over last =
       said = last.said ++ first.said;
       fed = whole.fed;
       past = whole.past;
-      heard = heard_on (hearing t s) s (known_of t.hearer) first.said last.said first.heard
-          (subst (λ h. AreHeard h s (known s (known_of t.hearer) first.said) last.said) at_hearing
+      heard = heard_on (hearing t s) s (known_of t.conversation_state) first.said last.said
+          first.heard
+          (subst (λ h. AreHeard h s (known s (known_of t.conversation_state) first.said) last.said)
+          at_hearing
           (subst (λ k. AreHeard (hearing m s) s k last.said) first.known last.heard));
-      left = left_longer (over_behind (hearing t s) s (known_of t.hearer) (last.said ++ first.said))
+      left = left_longer
+          (over_behind (hearing t s) s (known_of t.conversation_state) (last.said ++ first.said))
           s first.said
           last.said last.behind
-          u.hearer.conversation (subst (λ b. IsLeft b s last.said last.behind u.hearer.conversation)
-          (ap (λ h. over_behind h s (known_of m.hearer) last.said) at_hearing
+          u.conversation_state.conversation
+          (subst (λ b. IsLeft b s last.said last.behind u.conversation_state.conversation)
+          (ap (λ h. over_behind h s (known_of m.conversation_state) last.said) at_hearing
           ∙ ap (λ k. over_behind (hearing_behind (hearing t s) first.said) s k last.said)
           first.known
-          ∙ over_on (hearing t s) s (known_of t.hearer) first.said last.said) last.left);
+          ∙ over_on (hearing t s) s (known_of t.conversation_state) first.said
+          last.said) last.left);
       known = last.known ∙ ap (λ k. known s k last.said) first.known
-          ∙ known_on s (known_of t.hearer) first.said last.said;
+          ∙ known_on s (known_of t.conversation_state) first.said last.said;
       history = last.history ∙ ap (λ h. history s h last.said) first.history
-          ∙ history_on s t.hearer.history.items first.said last.said;
+          ∙ history_on s t.conversation_state.history.items first.said last.said;
       same = last.same
-          ∙ ap (λ x. with_hearing (record x { hearer = u.hearer }) s (hearing_behind (hearing m s)
+          ∙ ap (λ x. with_hearing (record x { conversation_state = u.conversation_state }) s
+          (hearing_behind (hearing m s)
           last.said)) first.same
-          ∙ with_again t s m.hearer u.hearer (hearing_behind (hearing t s) first.said)
+          ∙ with_again t s m.conversation_state u.conversation_state
+          (hearing_behind (hearing t s) first.said)
           (hearing_behind (hearing m s)
           last.said)
-          ∙ ap (λ h. with_hearing (record t { hearer = u.hearer }) s (hearing_behind h last.said))
+          ∙ ap (λ h. with_hearing (record t { conversation_state = u.conversation_state }) s
+          (hearing_behind h last.said))
           at_hearing
-          ∙ ap (λ h. with_hearing (record t { hearer = u.hearer }) s h)
+          ∙ ap (λ h. with_hearing (record t { conversation_state = u.conversation_state }) s h)
           (hearing_on (hearing t s) first.said last.said);
     }
 
 pub followed_on : (t m u : Analyzer) (s : Side) (p q : Bytes) → IsFollowed t s p m → IsNext m s q u
     → IsFollowed t s (p ++ q) u
 followed_on t m u s p q first last =
-    go (over_behind (hearing t s) s (known_of t.hearer) first.said) refl
+    go (over_behind (hearing t s) s (known_of t.conversation_state) first.said) refl
     (subst (λ b. IsNextBy b m s q u) (over_of t m s p first) last)
   where
-    go : (b : Bool) → over_behind (hearing t s) s (known_of t.hearer) first.said ≡ b
+    go : (b : Bool) → over_behind (hearing t s) s (known_of t.conversation_state) first.said ≡ b
         → IsNextBy b m s q u
         → IsFollowed t s (p ++ q) u
     go true over next =
@@ -212,10 +227,10 @@ next_on t m u s p q first last = go (is_over t s) refl first
     go false over next = followed_on t m u s p q next last
 
 -- Whether it is known if a side is TLS.
-abbrev pub IsKnown : Hearing → Type 0
+abbrev pub IsKnown : SideState → Type 0
 IsKnown h = h ≡ Unknown → ⊥
 
-known_behind : (h : Hearing) (b : Bool) → IsKnown h → IsKnown (sealed_if b h)
+known_behind : (h : SideState) (b : Bool) → IsKnown h → IsKnown (sealed_if b h)
 known_behind h true known = λ e. absurd cc
 known_behind h false known = known
 
@@ -228,14 +243,14 @@ known_next t u s p known next = go (is_over t s) next
     go false followed = subst IsKnown (sym (hearing_of t u s p followed))
         (known_behind (hearing t s) (has_sealed followed.said) known)
 
-pub heard_next : (t u : Analyzer) (s : Side) (b : Bytes) (h : Hearing) → IsKnown h
+pub heard_next : (t u : Analyzer) (s : Side) (b : Bytes) (h : SideState) → IsKnown h
     → IsHeardBy h t s b u → IsNext t s b u
 heard_next t u s b Unknown known heard = absurd (known refl)
 heard_next t u s b Clear known heard = heard
 heard_next t u s b Encrypted known heard = heard
 heard_next t u s b Other known heard = heard
 
-next_heard : (t u : Analyzer) (s : Side) (b : Bytes) (h : Hearing) → IsKnown h → IsNext t s b u
+next_heard : (t u : Analyzer) (s : Side) (b : Bytes) (h : SideState) → IsKnown h → IsNext t s b u
     → IsHeardBy h t s b u
 next_heard t u s b Unknown known heard = absurd (known refl)
 next_heard t u s b Clear known heard = heard

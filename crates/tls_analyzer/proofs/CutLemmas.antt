@@ -35,24 +35,24 @@ use Rattle.tls_stream.specs.Stream as stream
 use Rattle.tls_stream.specs.declared.fault.Fault.{Fault}
 use Rattle.tls_stream.proofs.DirectionLemmas.{fed_twice}
 use Rattle.tls_flow.specs.Steps.{follow}
-use Rattle.tls_flow.specs.declared.event.Event.{Event}
+use Rattle.tls_flow.specs.declared.event.FlowEvent.{FlowEvent}
 use Rattle.tls_flow.specs.declared.symbol.Direction.{Direction as Side}
 use Rattle.tls_flow.specs.declared.symbol.Direction.TheVariants.{ToServer, FromServer}
 use Rattle.tls_stream.specs.Conversations.{IsBehind, IsPast, IsFedBy, IsToldIf, ear, other, tells}
 use Rattle.tls_stream.specs.Ears.{IsFirst, SaysAs, says, says_by, told}
 use Rattle.tls_stream.specs.FlowEvents.{chooses_tls13, event_of}
 use Rattle.tls_stream.specs.declared.conversation.Conversation.{Conversation}
-use Rattle.tls_stream.specs.declared.ear.Ear.{Ear}
-use Rattle.tls_stream.specs.declared.ear.Standing.{Standing}
-use Rattle.tls_stream.specs.declared.ear.Standing.TheVariants.{Speaks, AtFault, Over}
+use Rattle.tls_stream.specs.declared.side_reader.SideReader.{SideReader}
+use Rattle.tls_stream.specs.declared.side_reader.Standing.{Standing}
+use Rattle.tls_stream.specs.declared.side_reader.Standing.TheVariants.{Speaks, AtFault, Over}
 use Rattle.tls_analyzer.specs.History.{history, letter_of, with_letter}
 use Rattle.tls_analyzer.specs.Noting.{has_sealed, is_sealed}
 
 -- The side with another piece.
-abbrev pub with_piece : Ear → Bytes → Ear
+abbrev pub with_piece : SideReader → Bytes → SideReader
 with_piece e q = record e { direction = fed e.direction q }
 
-says_further : (e : Ear) (q t : Bytes) → says (with_piece e q) t ≡ says e (q ++ t)
+says_further : (e : SideReader) (q t : Bytes) → says (with_piece e q) t ≡ says e (q ++ t)
 says_further e q t = go e.standing
   where
     go : (s : Standing) → says_by s (fed e.direction q) t ≡ says_by s e.direction (q ++ t)
@@ -60,17 +60,18 @@ says_further e q t = go e.standing
     go (AtFault f) = refl
     go Over = refl
 
-told_further : (e : Ear) (q : Bytes) → told (with_piece e q) ≡ with_piece (told e) q
+told_further : (e : SideReader) (q : Bytes) → told (with_piece e q) ≡ with_piece (told e) q
 told_further e q =
     ap (λ x. record e { direction = record e.direction { stream = x } }) (go e.direction.fault)
   where
     go : (f : Option Fault)
-        → stream.told_tls13 (with_more f e.direction.stream q) ≡ with_more f (stream.told_tls13
+        → stream.switched_to_tls13 (with_more f e.direction.stream q) ≡ with_more f
+        (stream.switched_to_tls13
         e.direction.stream) q
     go (Some f) = refl
     go None = refl
 
-told_if_further : (b : Bool) (e f : Ear) (q : Bytes) → IsToldIf b e f
+told_if_further : (b : Bool) (e f : SideReader) (q : Bytes) → IsToldIf b e f
     → IsToldIf b (with_piece e q) (with_piece f q)
 told_if_further true e f q same = λ t.
     ap (λ x. says x t) (told_further e q) ∙ says_further (told e) q t ∙ same (q ++ t)
@@ -78,7 +79,7 @@ told_if_further true e f q same = λ t.
 told_if_further false e f q same = λ t. says_further e q t ∙ same (q ++ t)
     ∙ sym (says_further f q t)
 
-first_further : (e f : Ear) (v : Said) (q : Bytes) → IsFirst e v f
+first_further : (e f : SideReader) (v : Said) (q : Bytes) → IsFirst e v f
     → IsFirst (with_piece e q) v (with_piece f q)
 first_further e f v q first t = says_further e q t ∙ first (q ++ t)
     ∙ ap (λ vs. v ∷ vs) (sym (says_further f q t))
@@ -129,11 +130,11 @@ record IsAlike (s : Side) (c d : Conversation) : Type 0 where
   is_tls13 : c.is_tls13 ≡ d.is_tls13
   flow : c.flow ≡ d.flow
 
-told_alike : (b : Bool) (e f g : Ear) → IsToldIf b e f → SaysAs f g → IsToldIf b e g
+told_alike : (b : Bool) (e f g : SideReader) → IsToldIf b e f → SaysAs f g → IsToldIf b e g
 told_alike true e f g same alike = λ t. same t ∙ alike t
 told_alike false e f g same alike = λ t. same t ∙ alike t
 
-tells_alike : (c d : Conversation) (e : Event) → c.is_tls13 ≡ d.is_tls13 → tells d e ≡ tells c e
+tells_alike : (c d : Conversation) (e : FlowEvent) → c.is_tls13 ≡ d.is_tls13 → tells d e ≡ tells c e
 tells_alike c d e same =
     ap (λ b. not b && chooses_tls13 e.symbol.kind e.symbol.direction) (sym same)
 

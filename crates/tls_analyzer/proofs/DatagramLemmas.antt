@@ -28,7 +28,7 @@ use Rattle.tls_analyzer.specs.Datagrams.{
   with_spoken,
 }
 use Rattle.tls_analyzer.specs.declared.account.Account.{Account}
-use Rattle.tls_analyzer.specs.declared.speaker.Speaker.{Speaker}
+use Rattle.tls_analyzer.specs.declared.datagram_side.DatagramSide.{DatagramSide}
 use Rattle.tls_analyzer.specs.declared.datagram_analyzer.DatagramAnalyzer.{DatagramAnalyzer}
 
 abbrev told_by : Flow → HandshakeSummary → List ℕ → Bool → Bool → Told
@@ -44,7 +44,7 @@ told_same f g a b l m h i e d flow handshake letters changed sealed =
     ∙ ap (λ x. told_by g b m x e) changed ∙ ap (λ x. told_by g b m i x) sealed
 
 -- The program's data agree with the state.
-told_is : (k : Analyzer) (p : Spoken) (t : DatagramAnalyzer) (q : Speaker) → IsKnown k t
+told_is : (k : Analyzer) (p : Spoken) (t : DatagramAnalyzer) (q : DatagramSide) → IsKnown k t
     → IsSpoken p q
     → told_of t.account q.progress ≡ told_to k p
 told_is k p t q is side =
@@ -55,13 +55,13 @@ told_is k p t q is side =
     side.is_encrypted
 
 -- What a side has sent after a record.
-abbrev pub Hears : Side → RawRecord → Account → Speaker → Account → Speaker → Type 0
+abbrev pub Hears : Side → RawRecord → Account → DatagramSide → Account → DatagramSide → Type 0
 Hears s r a p b q =
     (h : Heard) → Stands allowed h p.messages
     → IsStepped s (record_step allowed h r) (told_of a p.progress) (told_of b
     q.progress) q.messages
 
-told_step : (k : Analyzer) (s : Side) (t : DatagramAnalyzer) (p q : Speaker) (b : Account)
+told_step : (k : Analyzer) (s : Side) (t : DatagramAnalyzer) (p q : DatagramSide) (b : Account)
     (r : RawRecord)
     → IsKnown k t → IsSpoken (spoken k s) p → Hears s r t.account p b q
     → told_of b q.progress ≡ said_all s (told_to k (spoken k s))
@@ -71,7 +71,8 @@ told_step k s t p q b r is side hears =
     ∙ ap (λ x. said_all s x (record_step allowed (spoken k s).heard r).1)
     (told_is k (spoken k s) t p is side)
 
-pub client_hears : (k : Analyzer) (t : DatagramAnalyzer) (b : Account) (q : Speaker) (r : RawRecord)
+pub client_hears : (k : Analyzer) (t : DatagramAnalyzer) (b : Account) (q : DatagramSide)
+    (r : RawRecord)
     → Hears ToServer r t.account t.client b q → IsSameSide t.client q → IsKnown k t
     → IsKnown (taken k ToServer r) (record t { client = q; account = b })
 client_hears k t b q r hears same is =
@@ -91,7 +92,8 @@ client_hears k t b q r hears same is =
       is_dtls = is.is_dtls;
     }
 
-pub server_hears : (k : Analyzer) (t : DatagramAnalyzer) (b : Account) (q : Speaker) (r : RawRecord)
+pub server_hears : (k : Analyzer) (t : DatagramAnalyzer) (b : Account) (q : DatagramSide)
+    (r : RawRecord)
     → Hears FromServer r t.account t.server b q → IsSameSide t.server q → IsKnown k t
     → IsKnown (taken k FromServer r) (record t { server = q; account = b })
 server_hears k t b q r hears same is =
@@ -113,7 +115,7 @@ server_hears k t b q r hears same is =
 
 -- The answer of a call, for either side.
 pub client_answers : {E : Type 0} (k : Analyzer) (t : DatagramAnalyzer) (s : Side) (b : Account)
-    (q : Speaker) (r : RawRecord)
+    (q : DatagramSide) (r : RawRecord)
     (x : Result Unit E)
     → s ≡ ToServer
     → ((h : Heard) → Stands allowed h t.client.messages
@@ -132,7 +134,7 @@ client_answers k t s b q r (Ok x) at hears same is =
 client_answers k t s b q r (Err e) at hears same is = tt
 
 pub server_answers : {E : Type 0} (k : Analyzer) (t : DatagramAnalyzer) (s : Side) (b : Account)
-    (q : Speaker) (r : RawRecord)
+    (q : DatagramSide) (r : RawRecord)
     (x : Result Unit E)
     → s ≡ FromServer
     → ((h : Heard) → Stands allowed h t.server.messages
@@ -157,10 +159,11 @@ speaker_known k t ToServer is = is.client
 speaker_known k t FromServer is = is.server
 
 -- A side begins.
-abbrev pub Begins : Side → Fragment → Speaker → Speaker → Type 0
+abbrev pub Begins : Side → Fragment → DatagramSide → DatagramSide → Type 0
 Begins s f p q = (x : Spoken) → IsSpoken x p → IsSpoken (begun s f x) q
 
-pub client_begins : (k : Analyzer) (t : DatagramAnalyzer) (s : Side) (f : Fragment) (q : Speaker)
+pub client_begins : (k : Analyzer) (t : DatagramAnalyzer) (s : Side) (f : Fragment)
+    (q : DatagramSide)
     → s ≡ ToServer
     → Begins s f t.client q → IsKnown k t
     → IsKnown (with_spoken k s (begun s f (spoken k s))) (record t { client = q })
@@ -176,7 +179,8 @@ client_begins k t s f q at begins is =
       is_dtls = is.is_dtls;
     })
 
-pub server_begins : (k : Analyzer) (t : DatagramAnalyzer) (s : Side) (f : Fragment) (q : Speaker)
+pub server_begins : (k : Analyzer) (t : DatagramAnalyzer) (s : Side) (f : Fragment)
+    (q : DatagramSide)
     → s ≡ FromServer
     → Begins s f t.server q → IsKnown k t
     → IsKnown (with_spoken k s (begun s f (spoken k s))) (record t { server = q })

@@ -53,8 +53,8 @@ use Rattle.tls_analyzer.specs.Analyzers.{
   with_hearing,
   with_waiting,
 }
-use Rattle.tls_analyzer.specs.declared.analyzer.Hearing.{Hearing}
-use Rattle.tls_analyzer.specs.declared.analyzer.Hearing.TheVariants.{Unknown, Clear, Encrypted, Other}
+use Rattle.tls_analyzer.specs.declared.analyzer.SideState.{SideState}
+use Rattle.tls_analyzer.specs.declared.analyzer.SideState.TheVariants.{Unknown, Clear, Encrypted, Other}
 use Rattle.tls_analyzer.specs.declared.analyzer.Analyzer.{Analyzer}
 use Rattle.tls_analyzer.proofs.AnalyzerLemmas.{IsKnown, both_known, heard_next, hearing_with, known_next, next_on}
 
@@ -210,7 +210,7 @@ first_again false false t m u s w p q waits same heard = (
 )
 
 over_other : (t : Analyzer) (s : Side) → hearing t s ≡ Other → is_over t s ≡ true
-over_other t s other = ap (λ h. over_by h (outcome_at t.hearer.flow.state)) other
+over_other t s other = ap (λ h. over_by h (outcome_at t.conversation_state.flow.state)) other
 
 -- A side of which nothing is known gets a piece, and then another.
 both_short : (t m u : Analyzer) (s : Side) (p q : Bytes) → hearing t s ≡ Unknown
@@ -287,7 +287,7 @@ pub both_heard : (t m u : Analyzer) (s : Side) (p q : Bytes) → IsHeardOn t s p
     → IsHeardOn t s (p ++ q) u
 both_heard t m u s p q first last = go (hearing t s) refl
   where
-    go : (h : Hearing) → hearing t s ≡ h → IsHeardOn t s (p ++ q) u
+    go : (h : SideState) → hearing t s ≡ h → IsHeardOn t s (p ++ q) u
     go Unknown is = subst (λ h. IsHeardBy h t s (p ++ q) u) (sym is)
         (both_first t m u s p q is (subst (λ h. IsHeardBy h t s p m) is first) last)
     go Clear is = both_known t m u s p q (subst IsKnown (sym is) (λ e. absurd cc)) first last

@@ -54,9 +54,9 @@ use Rattle.tls_analyzer.specs.Analyzers.{
   sealed_if,
   with_hearing,
 }
-use Rattle.tls_analyzer.specs.declared.hearer.Hearer.{Hearer}
-use Rattle.tls_analyzer.specs.declared.analyzer.Hearing.{Hearing}
-use Rattle.tls_analyzer.specs.declared.analyzer.Hearing.TheVariants.{Encrypted}
+use Rattle.tls_analyzer.specs.declared.conversation_state.ConversationState.{ConversationState}
+use Rattle.tls_analyzer.specs.declared.analyzer.SideState.{SideState}
+use Rattle.tls_analyzer.specs.declared.analyzer.SideState.TheVariants.{Encrypted}
 use Rattle.tls_analyzer.specs.declared.analyzer.Analyzer.{Analyzer}
 use Rattle.tls_analyzer.proofs.KnownLemmas.{known_next, known_same}
 use Rattle.tls_analyzer.proofs.AnalyzerLemmas.{hearing_is, sealed_twice, with_again}
@@ -65,31 +65,34 @@ use Rattle.tls_analyzer.proofs.AnalyzerLemmas.{hearing_is, sealed_twice, with_ag
 pub record IsOn (t : Analyzer) (s : Side) (p : Bytes) (u : Analyzer) (n : ℕ) : Type 0 where
   pub begun : Conversation
   pub said : List Said
-  pub fed : IsFedBy t.hearer.conversation s p begun
-  pub past : IsPast begun s said u.hearer.conversation
-  pub heard : AreHeard (hearing t s) s (known_of t.hearer) said
-  pub known : known_of u.hearer ≡ known s (known_of t.hearer) said
-  pub history : u.hearer.history.items ≡ history s t.hearer.history.items said
-  pub same : u ≡ with_hearing (record t { hearer = u.hearer }) s (hearing_behind (hearing t s) said)
+  pub fed : IsFedBy t.conversation_state.conversation s p begun
+  pub past : IsPast begun s said u.conversation_state.conversation
+  pub heard : AreHeard (hearing t s) s (known_of t.conversation_state) said
+  pub known : known_of u.conversation_state ≡ known s (known_of t.conversation_state) said
+  pub history : u.conversation_state.history.items ≡ history s
+      t.conversation_state.history.items said
+  pub same : u ≡ with_hearing (record t { conversation_state = u.conversation_state }) s
+      (hearing_behind (hearing t s) said)
   pub count : length said ≡ n
-  pub ready : IsReady (ear u.hearer.conversation s)
+  pub ready : IsReady (ear u.conversation_state.conversation s)
 
-with_same : (t : Analyzer) (s : Side) (h : Hearer)
-    → record t { hearer = h } ≡ with_hearing (record t { hearer = h }) s
+with_same : (t : Analyzer) (s : Side) (h : ConversationState)
+    → record t { conversation_state = h } ≡ with_hearing (record t { conversation_state = h }) s
     (hearing t s)
 with_same t ToServer h = refl
 with_same t FromServer h = refl
 
-pub on_begun : (t : Analyzer) (h : Hearer) (s : Side) (p : Bytes) → IsFed t.hearer s p h
+pub on_begun : (t : Analyzer) (h : ConversationState) (s : Side) (p : Bytes)
+    → IsFed t.conversation_state s p h
     → IsReady (ear h.conversation s)
-    → IsOn t s p (record t { hearer = h }) 0
+    → IsOn t s p (record t { conversation_state = h }) 0
 on_begun t h s p fed ready = record {
   begun = h.conversation;
   said = [];
   fed = fed.conversation;
   past = refl;
   heard = tt;
-  known = known_same t.hearer h fed.flow fed.handshake;
+  known = known_same t.conversation_state h fed.flow fed.handshake;
   history = ap (λ (v : Vec ℕ). v.items) fed.history;
   same = with_same t s h;
   count = refl;
@@ -98,18 +101,20 @@ on_begun t h s p fed ready = record {
 
 -- Its events decide whether it is over.
 over_is : (t u : Analyzer) (s : Side) (p : Bytes) (n : ℕ) (on : IsOn t s p u n)
-    → is_over u s ≡ over_behind (hearing t s) s (known_of t.hearer) on.said
+    → is_over u s ≡ over_behind (hearing t s) s (known_of t.conversation_state) on.said
 over_is t u s p n on =
-    ap (λ h. over_by h (outcome_at u.hearer.flow.state))
+    ap (λ h. over_by h (outcome_at u.conversation_state.flow.state))
     (hearing_is t u s (hearing_behind (hearing t s) on.said) on.same)
     ∙ ap (λ (k : Known). over_by (hearing_behind (hearing t s) on.said) (outcome_at k.flow.state))
     on.known
 
 -- The analyzer after an event, by whether that is encrypted.
-abbrev pub next_analyzer : Analyzer → Side → Hearer → Bool → Analyzer
-next_analyzer u s h b = with_hearing (record u { hearer = h }) s (sealed_if b (hearing u s))
+abbrev pub next_analyzer : Analyzer → Side → ConversationState → Bool → Analyzer
+next_analyzer u s h b =
+    with_hearing (record u { conversation_state = h }) s (sealed_if b (hearing u s))
 
-pub hearer_with : (t : Analyzer) (s : Side) (h : Hearing) → (with_hearing t s h).hearer ≡ t.hearer
+pub hearer_with : (t : Analyzer) (s : Side) (h : SideState)
+    → (with_hearing t s h).conversation_state ≡ t.conversation_state
 hearer_with t ToServer h = refl
 hearer_with t FromServer h = refl
 
@@ -117,66 +122,73 @@ value : {a b : Bool} → Some a ≡ Some b → a ≡ b
 value e = cc
 
 -- The event that was removed, by whether it is encrypted.
-pub taken_sealed : (o : Option Said) (t : Analyzer) (h : Hearer) (s : Side)
-    → IsNextTaken o t.hearer s (Some true) h
-    → IsTaken o t s true (with_hearing (record t { hearer = h }) s Encrypted)
+pub taken_sealed : (o : Option Said) (t : Analyzer) (h : ConversationState) (s : Side)
+    → IsNextTaken o t.conversation_state s (Some true) h
+    → IsTaken o t s true (with_hearing (record t { conversation_state = h }) s Encrypted)
 taken_sealed (Some v) t h s some =
-    let its : (with_hearing (record t { hearer = h }) s Encrypted).hearer ≡ h =
-    hearer_with (record t { hearer = h }) s
+    let its : (with_hearing (record t { conversation_state = h }) s Encrypted).conversation_state
+    ≡ h =
+    hearer_with (record t { conversation_state = h }) s
     Encrypted in (
       refl,
-      subst (λ x. IsNoted t.hearer s v x) (sym its) some.1,
-      ap (λ b. with_hearing (record t { hearer = h }) s (sealed_if b (hearing t s))) (value some.0)
-          ∙ ap (λ x. with_hearing (record t { hearer = x }) s
+      subst (λ x. IsNoted t.conversation_state s v x) (sym its) some.1,
+      ap (λ b. with_hearing (record t { conversation_state = h }) s (sealed_if b (hearing t s)))
+          (value some.0)
+          ∙ ap (λ x. with_hearing (record t { conversation_state = x }) s
           (sealed_if (is_sealed v) (hearing t s))) (sym its),
     )
 taken_sealed None t h s none = absurd cc
 
-pub taken_plain : (o : Option Said) (t : Analyzer) (h : Hearer) (s : Side)
-    → IsNextTaken o t.hearer s (Some false) h
-    → IsTaken o t s true (record t { hearer = h })
+pub taken_plain : (o : Option Said) (t : Analyzer) (h : ConversationState) (s : Side)
+    → IsNextTaken o t.conversation_state s (Some false) h
+    → IsTaken o t s true (record t { conversation_state = h })
 taken_plain (Some v) t h s some = (
   refl,
   some.1,
-  with_same t s h ∙ ap (λ b. with_hearing (record t { hearer = h }) s (sealed_if b (hearing t s)))
+  with_same t s h
+      ∙ ap (λ b. with_hearing (record t { conversation_state = h }) s (sealed_if b (hearing t s)))
       (value some.0),
 )
 taken_plain None t h s none = absurd cc
 
-pub taken_none : (o : Option Said) (t : Analyzer) (h : Hearer) (s : Side)
-    → IsNextTaken o t.hearer s None h
-    → IsTaken o t s false (record t { hearer = h })
+pub taken_none : (o : Option Said) (t : Analyzer) (h : ConversationState) (s : Side)
+    → IsNextTaken o t.conversation_state s None h
+    → IsTaken o t s false (record t { conversation_state = h })
 taken_none (Some v) t h s some = absurd cc
-taken_none None t h s none = (refl, ap (λ x. record t { hearer = x }) none.1)
+taken_none None t h s none = (refl, ap (λ x. record t { conversation_state = x }) none.1)
 
-next_same : (t u : Analyzer) (h : Hearer) (s : Side) (p : Bytes) (n : ℕ) (b : Bool)
+next_same : (t u : Analyzer) (h : ConversationState) (s : Side) (p : Bytes) (n : ℕ) (b : Bool)
     (on : IsOn t s p u n)
-    → next_analyzer u s h b ≡ with_hearing (record t { hearer = h }) s
+    → next_analyzer u s h b ≡ with_hearing (record t { conversation_state = h }) s
     (sealed_if (has_sealed on.said || b) (hearing t s))
 next_same t u h s p n b on =
-    ap (λ x. with_hearing (record x { hearer = h }) s (sealed_if b (hearing u s))) on.same
-    ∙ with_again t s u.hearer h (hearing_behind (hearing t s) on.said) (sealed_if b (hearing u s))
-    ∙ ap (λ x. with_hearing (record t { hearer = h }) s (sealed_if b x))
+    ap (λ x. with_hearing (record x { conversation_state = h }) s (sealed_if b (hearing u s)))
+    on.same
+    ∙ with_again t s u.conversation_state h (hearing_behind (hearing t s) on.said)
+    (sealed_if b (hearing u s))
+    ∙ ap (λ x. with_hearing (record t { conversation_state = h }) s (sealed_if b x))
     (hearing_is t u s (hearing_behind (hearing t s)
     on.said) on.same)
-    ∙ ap (λ x. with_hearing (record t { hearer = h }) s x)
+    ∙ ap (λ x. with_hearing (record t { conversation_state = h }) s x)
     (sealed_twice (has_sealed on.said) b (hearing t s))
 
 on_some : (t u w : Analyzer) (s : Side) (p : Bytes) (n : ℕ) (v : Said) → IsOn t s p u n
     → is_over u s ≡ false
-    → IsNoted u.hearer s v w.hearer
-    → (IsReady (ear u.hearer.conversation s) → IsReady (ear w.hearer.conversation s))
-    → w ≡ next_analyzer u s w.hearer (is_sealed v)
+    → IsNoted u.conversation_state s v w.conversation_state
+    → (IsReady (ear u.conversation_state.conversation s)
+    → IsReady (ear w.conversation_state.conversation s))
+    → w ≡ next_analyzer u s w.conversation_state (is_sealed v)
     → IsOn t s p w (n + 1)
 on_some t u w s p n v on clear noted_it kept same = record {
   begun = on.begun;
   said = v ∷ on.said;
   fed = on.fed;
-  past = (u.hearer.conversation, on.past, noted_it.behind);
+  past = (u.conversation_state.conversation, on.past, noted_it.behind);
   heard = (sym (over_is t u s p n on) ∙ clear, on.heard);
-  known = known_next s u.hearer w.hearer (known s (known_of t.hearer) on.said) v noted_it on.known;
+  known = known_next s u.conversation_state w.conversation_state
+      (known s (known_of t.conversation_state) on.said) v noted_it on.known;
   history = noted_it.history ∙ ap (λ x. with_letter s x (letter_of v)) on.history;
-  same = same ∙ next_same t u w.hearer s p n (is_sealed v) on;
+  same = same ∙ next_same t u w.conversation_state s p n (is_sealed v) on;
   count = omega (arith, on.count);
   ready = kept on.ready;
 }
@@ -184,10 +196,12 @@ on_some t u w s p n v on clear noted_it kept same = record {
 -- An event was removed.
 pub on_next : (t u w : Analyzer) (s : Side) (p : Bytes) (n : ℕ) → IsOn t s p u n
     → is_over u s ≡ false
-    → IsTaken (front_of (ear u.hearer.conversation s)) u s true w
-    → (IsReady (ear u.hearer.conversation s) → IsReady (ear w.hearer.conversation s))
+    → IsTaken (front_of (ear u.conversation_state.conversation s)) u s true w
+    → (IsReady (ear u.conversation_state.conversation s)
+    → IsReady (ear w.conversation_state.conversation s))
     → IsOn t s p w (n + 1)
-on_next t u w s p n on clear taken kept = go (front_of (ear u.hearer.conversation s)) taken
+on_next t u w s p n on clear taken kept =
+    go (front_of (ear u.conversation_state.conversation s)) taken
   where
     go : (o : Option Said) → IsTaken o u s true w → IsOn t s p w (n + 1)
     go (Some v) some = on_some t u w s p n v on clear some.1 kept some.2
@@ -206,13 +220,13 @@ over_left : (b : Bool) (s : Side) (vs : List Said) (c : Conversation) → b ≡ 
 over_left b s vs c over = subst (λ b. IsLeft b s vs c c) (sym over) (refl, refl, refl)
 
 on_left : (t u : Analyzer) (s : Side) (p : Bytes) (n : ℕ) (on : IsOn t s p u n)
-    → IsLeft (over_behind (hearing t s) s (known_of t.hearer) on.said) s on.said
-    u.hearer.conversation
-    u.hearer.conversation
+    → IsLeft (over_behind (hearing t s) s (known_of t.conversation_state) on.said) s on.said
+    u.conversation_state.conversation
+    u.conversation_state.conversation
     → IsFollowed t s p u
 on_left t u s p n on left = record {
   begun = on.begun;
-  behind = u.hearer.conversation;
+  behind = u.conversation_state.conversation;
   said = on.said;
   fed = on.fed;
   past = on.past;
@@ -227,31 +241,33 @@ on_left t u s p n on left = record {
 pub on_over : (t u : Analyzer) (s : Side) (p : Bytes) (n : ℕ) → IsOn t s p u n → is_over u s ≡ true
     → IsFollowed t s p u
 on_over t u s p n on over = on_left t u s p n on
-    (over_left (over_behind (hearing t s) s (known_of t.hearer) on.said) s on.said
-    u.hearer.conversation
+    (over_left (over_behind (hearing t s) s (known_of t.conversation_state) on.said) s on.said
+    u.conversation_state.conversation
     (sym (over_is t u s p n on) ∙ over))
 
 on_clear : (t u : Analyzer) (s : Side) (p : Bytes) (n : ℕ) (on : IsOn t s p u n)
     → is_over u s ≡ false
-    → (says (ear u.hearer.conversation s) [] ≡ []) ⊎ (2 ^ 64 - 1 ≤ length on.said)
+    → (says (ear u.conversation_state.conversation s) [] ≡ []) ⊎ (2 ^ 64 - 1 ≤ length on.said)
     → IsFollowed t s p u
 on_clear t u s p n on clear all = on_left t u s p n on
-    (left_by (over_behind (hearing t s) s (known_of t.hearer) on.said) s on.said
-    u.hearer.conversation
+    (left_by (over_behind (hearing t s) s (known_of t.conversation_state) on.said) s on.said
+    u.conversation_state.conversation
     (sym (over_is t u s p n on) ∙ clear) all)
 
 -- The side has no event for now.
 pub on_none : (t u w : Analyzer) (s : Side) (p : Bytes) (n : ℕ) → IsOn t s p u n
     → is_over u s ≡ false
-    → IsTaken (front_of (ear u.hearer.conversation s)) u s false w → IsFollowed t s p w
-on_none t u w s p n on clear taken = go (front_of (ear u.hearer.conversation s)) refl taken
+    → IsTaken (front_of (ear u.conversation_state.conversation s)) u s false w → IsFollowed t s p w
+on_none t u w s p n on clear taken =
+    go (front_of (ear u.conversation_state.conversation s)) refl taken
   where
-    go : (o : Option Said) → o ≡ front_of (ear u.hearer.conversation s) → IsTaken o u s false w
+    go : (o : Option Said) → o ≡ front_of (ear u.conversation_state.conversation s)
+        → IsTaken o u s false w
         → IsFollowed t s p w
     go (Some v) front some = absurd cc
     go None front none = subst (λ x. IsFollowed t s p x) (sym none.1)
         (on_clear t u s p n on clear
-        (inl (silent (says (ear u.hearer.conversation s) []) (on.ready ∙ sym front))))
+        (inl (silent (says (ear u.conversation_state.conversation s) []) (on.ready ∙ sym front))))
 
 -- As many events were taken as are counted.
 pub on_end : (t u : Analyzer) (s : Side) (p : Bytes) (n : ℕ) → IsOn t s p u n → n ≡ 2 ^ 64 - 1

@@ -5,7 +5,7 @@ use Rattle.std.specs.Option.{option_copied, option_map}
 use Rattle.layouts.specs.Bytes.{Bytes}
 use Rattle.tls_stream.specs.Item.{Event as Said}
 use Rattle.tls_summary.specs.HandshakeSummary.{HandshakeSummary}
-use Rattle.tls_flow.specs.declared.event.Event.{Event}
+use Rattle.tls_flow.specs.declared.event.FlowEvent.{FlowEvent}
 use Rattle.tls_flow.specs.declared.flow.Flow.{Flow}
 use Rattle.tls_flow.specs.declared.symbol.Direction.{Direction as Side}
 use Rattle.tls_stream.specs.FlowEvents.{event_of, event_with, message_in}
@@ -24,12 +24,12 @@ copied_view f (Some b) o e = ap (option_map f) e
 copied_view f None o e = ap (option_map f) e
 
 -- An event built from the parsed message.
-pub same_event : (s : Side) (v : Said) (m : Option HandshakeMessage) (k : Kind) (e : Event)
+pub same_event : (s : Side) (v : Said) (m : Option HandshakeMessage) (k : Kind) (e : FlowEvent)
     → m ≡ message_in v
     → k ≡ kind_of_message m → e ≡ event_with s v k → e ≡ event_of s v
 same_event s v m k e is_m is_k is_e = is_e ∙ ap (event_with s v) (is_k ∙ ap kind_of_message is_m)
 
-pub same_step : (s : Side) (v : Said) (m : Option HandshakeMessage) (k : Kind) (e : Event)
+pub same_step : (s : Side) (v : Said) (m : Option HandshakeMessage) (k : Kind) (e : FlowEvent)
     (w x : Flow) (f : HandshakeSummary)
     → m ≡ message_in v → k ≡ kind_of_message m → e ≡ event_with s v k → x ≡ stepped s w f e
     → x ≡ followed s w f v

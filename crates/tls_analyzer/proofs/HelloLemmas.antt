@@ -24,12 +24,12 @@ use Rattle.tls_analyzer.specs.Analyzers.{
   waiting,
   with_hearing,
 }
-use Rattle.tls_analyzer.specs.declared.analyzer.Hearing.{Hearing}
-use Rattle.tls_analyzer.specs.declared.analyzer.Hearing.TheVariants.{Unknown, Clear, Encrypted, Other}
+use Rattle.tls_analyzer.specs.declared.analyzer.SideState.{SideState}
+use Rattle.tls_analyzer.specs.declared.analyzer.SideState.TheVariants.{Unknown, Clear, Encrypted, Other}
 use Rattle.tls_analyzer.specs.declared.analyzer.Analyzer.{Analyzer}
 
 abbrev summary_in : Analyzer → HandshakeSummary
-summary_in t = view_summary t.hearer.handshake
+summary_in t = view_summary t.conversation_state.handshake
 
 abbrev Keeps : Side → Analyzer → Analyzer → Type 0
 Keeps s t u = KeepsHellos s (summary_in t) (summary_in u)
@@ -58,13 +58,14 @@ next_keeps t u s b next = go (is_over t s) next
     go true same = same_keeps s t u (ap summary_in same)
     go false followed = subst (λ f. KeepsHellos s (summary_in t) f)
         (sym (ap (λ (k : Known). k.handshake) followed.known))
-        (known_keeps s (known_of t.hearer) followed.said)
+        (known_keeps s (known_of t.conversation_state) followed.said)
 
 waits_same : (t u : Analyzer) (s : Side) (w : Bytes) → Waits t s w u → summary_in u ≡ summary_in t
 waits_same t u ToServer w waits = ap summary_in waits.2
 waits_same t u FromServer w waits = ap summary_in waits.2
 
-with_same : (t : Analyzer) (s : Side) (h : Hearing) → summary_in (with_hearing t s h) ≡ summary_in t
+with_same : (t : Analyzer) (s : Side) (h : SideState)
+    → summary_in (with_hearing t s h) ≡ summary_in t
 with_same t ToServer h = refl
 with_same t FromServer h = refl
 
@@ -94,7 +95,7 @@ heard_keeps t u s b heard = go (hearing t s) heard
     w : Bytes
     w = (waiting t s).items
 
-    go : (h : Hearing) → IsHeardBy h t s b u → Keeps s t u
+    go : (h : SideState) → IsHeardBy h t s b u → Keeps s t u
     go Unknown first =
         first_keeps (nat_lt (length b) (5 - length w)) (begins_tls (front w b)) t u s w b first
     go Clear next = next_keeps t u s b next

@@ -6,18 +6,19 @@ use Rattle.tls_flow.specs.declared.symbol.Direction.{Direction as Side}
 use Rattle.tls_summary.specs.HandshakeSummary.{HandshakeSummary, view_summary}
 use Rattle.tls_analyzer.specs.Hearing.{IsNoted, known_of}
 use Rattle.tls_analyzer.specs.Noting.{Known, followed, known, known_by}
-use Rattle.tls_analyzer.specs.declared.hearer.Hearer.{Hearer}
+use Rattle.tls_analyzer.specs.declared.conversation_state.ConversationState.{ConversationState}
 
 abbrev both : Flow → HandshakeSummary → Known
 both w f = record { flow = w; handshake = f }
 
-pub known_same : (h i : Hearer) → i.flow ≡ h.flow → i.handshake ≡ h.handshake
+pub known_same : (h i : ConversationState) → i.flow ≡ h.flow → i.handshake ≡ h.handshake
     → known_of i ≡ known_of h
 known_same h i flow same = ap (λ w. both w (view_summary i.handshake)) flow
     ∙ ap (λ f. both h.flow (view_summary f)) same
 
 -- One more event.
-pub known_next : (s : Side) (h i : Hearer) (k : Known) (v : Said) → IsNoted h s v i → known_of h ≡ k
+pub known_next : (s : Side) (h i : ConversationState) (k : Known) (v : Said) → IsNoted h s v i
+    → known_of h ≡ k
     → known_of i ≡ known_by s k v
 known_next s h i k v noted_it is =
     ap (λ w. both w (view_summary i.handshake)) noted_it.flow

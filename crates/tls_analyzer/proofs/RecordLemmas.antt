@@ -3,10 +3,10 @@ use Rattle.std.proofs.Common.{◌≡◌, ℕ, zero, suc, ◌+◌, ◌-◌, ◌�
 use Rattle.std.proofs.Common.{◌∙◌, ap, arith, true, rules, nat_lt}
 use Rattle.std.proofs.lemmas.List.{drop-drop, length-drop}
 use Rattle.tls_analyzer.specs.Records.{with_byte, with_bytes}
-use Rattle.tls_analyzer.specs.declared.records.Records.{Records}
+use Rattle.tls_analyzer.specs.declared.records.RecordCounter.{RecordCounter}
 
 -- The bytes of a fragment only change how many are left.
-passed_front : (n : ℕ) (bs : List ℕ) (r : Records) → n ≤ r.left → n ≤ length bs
+passed_front : (n : ℕ) (bs : List ℕ) (r : RecordCounter) → n ≤ r.left → n ≤ length bs
     → with_bytes bs r ≡ with_bytes (drop n bs) (record r { left = r.left - n })
 passed_front zero bs r h k = ap (λ n. with_bytes bs (record r { left = n }))
     (let e : r.left ≡ r.left - 0 = omega arith in e)
@@ -20,7 +20,7 @@ passed_front (suc n) (b ∷ bs) r h k =
     ∙ ap (λ m. with_bytes (drop n bs) (record r { left = m })) less
 
 -- Some of them are skipped.
-pub passed : (n i : ℕ) (bs : List ℕ) (r s : Records) (all : Records) → n ≤ r.left
+pub passed : (n i : ℕ) (bs : List ℕ) (r s : RecordCounter) (all : RecordCounter) → n ≤ r.left
     → i + n ≤ length bs
     → s ≡ record r { left = r.left - n }
     → with_bytes (drop i bs) r ≡ all → with_bytes (drop (i + n) bs) s ≡ all

@@ -18,16 +18,16 @@ use Rattle.tls_analyzer.specs.Hearing.{IsHelloNoted, IsNoted, known_of, turns}
 use Rattle.ssl2_hello.specs.ClientHello as ssl2
 use Rattle.tls_analyzer.specs.History.{history}
 use Rattle.tls_analyzer.specs.Noting.{Known, has_sealed, is_sealed, known}
-use Rattle.tls_analyzer.specs.declared.analyzer.Hearing.{Hearing}
-use Rattle.tls_analyzer.specs.declared.analyzer.Hearing.TheVariants.{Unknown, Clear, Encrypted, Other}
+use Rattle.tls_analyzer.specs.declared.analyzer.SideState.{SideState}
+use Rattle.tls_analyzer.specs.declared.analyzer.SideState.TheVariants.{Unknown, Clear, Encrypted, Other}
 use Rattle.tls_analyzer.specs.declared.analyzer.Analyzer.{Analyzer}
 
 -- What is known of a side.
-abbrev pub hearing : Analyzer → Side → Hearing
+abbrev pub hearing : Analyzer → Side → SideState
 hearing t ToServer = t.client
 hearing t FromServer = t.server
 
-abbrev pub with_hearing : Analyzer → Side → Hearing → Analyzer
+abbrev pub with_hearing : Analyzer → Side → SideState → Analyzer
 with_hearing t ToServer h = record t { client = h }
 with_hearing t FromServer h = record t { server = h }
 
@@ -46,46 +46,47 @@ Waits t s w u = (v : Vec ℕ) × (v.items ≡ w) × (u ≡ with_waiting t s v)
 
 -- Nothing was read.
 pub record IsNew (t : Analyzer) : Type 0 where
-  pub begun : IsBegun default_limit t.hearer.conversation
-  pub flow : t.hearer.flow ≡ silence
-  pub handshake : view_summary t.hearer.handshake ≡ nothing
-  pub history : t.hearer.history.items ≡ []
+  pub begun : IsBegun default_limit t.conversation_state.conversation
+  pub flow : t.conversation_state.flow ≡ silence
+  pub handshake : view_summary t.conversation_state.handshake ≡ nothing
+  pub history : t.conversation_state.history.items ≡ []
   pub is_tls : t.is_tls ≡ false
   pub client : t.client ≡ Unknown
   pub server : t.server ≡ Unknown
   pub client_first : t.client_first.items ≡ []
   pub server_first : t.server_first.items ≡ []
 
-abbrev pub over_by : Hearing → Outcome → Bool
+abbrev pub over_by : SideState → Outcome → Bool
 over_by Encrypted o = not (is_waiting o)
 over_by Other o = true
 over_by _ o = false
 
 -- A side is skipped once it is encrypted and the handshake has ended, or if it isn't TLS.
 abbrev pub is_over : Analyzer → Side → Bool
-is_over t s = over_by (hearing t s) (outcome_at t.hearer.flow.state)
+is_over t s = over_by (hearing t s) (outcome_at t.conversation_state.flow.state)
 
 -- The side is encrypted from here on, if one of its events was.
-abbrev pub sealed_if : Bool → Hearing → Hearing
+abbrev pub sealed_if : Bool → SideState → SideState
 sealed_if true h = Encrypted
 sealed_if false h = h
 
 -- A side's next event is followed, recorded and removed.
 abbrev pub IsTaken : Option Said → Analyzer → Side → Bool → Analyzer → Type 0
 IsTaken (Some v) t s taken u =
-    (taken ≡ true) × IsNoted t.hearer s v u.hearer
-    × (u ≡ with_hearing (record t { hearer = u.hearer }) s (sealed_if (is_sealed v) (hearing t s)))
+    (taken ≡ true) × IsNoted t.conversation_state s v u.conversation_state
+    × (u ≡ with_hearing (record t { conversation_state = u.conversation_state }) s
+    (sealed_if (is_sealed v) (hearing t s)))
 IsTaken None t s taken u = (taken ≡ false) × (u ≡ t)
 
 -- What is known of a side after these events of it, the latest first, and whether it is over.
-abbrev pub hearing_behind : Hearing → List Said → Hearing
+abbrev pub hearing_behind : SideState → List Said → SideState
 hearing_behind h vs = sealed_if (has_sealed vs) h
 
-abbrev pub over_behind : Hearing → Side → Known → List Said → Bool
+abbrev pub over_behind : SideState → Side → Known → List Said → Bool
 over_behind h s k vs = over_by (hearing_behind h vs) (outcome_at (known s k vs).flow.state)
 
 -- The side wasn't over before any of these.
-abbrev pub AreHeard : Hearing → Side → Known → List Said → Type 0
+abbrev pub AreHeard : SideState → Side → Known → List Said → Type 0
 AreHeard h s k [] = ⊤
 AreHeard h s k (v ∷ vs) = (over_behind h s k vs ≡ false) × AreHeard h s k vs
 
@@ -102,14 +103,16 @@ pub record IsFollowed (t : Analyzer) (s : Side) (p : Bytes) (u : Analyzer) : Typ
   pub begun : Conversation
   pub behind : Conversation
   pub said : List Said
-  pub fed : IsFedBy t.hearer.conversation s p begun
+  pub fed : IsFedBy t.conversation_state.conversation s p begun
   pub past : IsPast begun s said behind
-  pub heard : AreHeard (hearing t s) s (known_of t.hearer) said
-  pub left : IsLeft (over_behind (hearing t s) s (known_of t.hearer) said) s said behind
-      u.hearer.conversation
-  pub known : known_of u.hearer ≡ known s (known_of t.hearer) said
-  pub history : u.hearer.history.items ≡ history s t.hearer.history.items said
-  pub same : u ≡ with_hearing (record t { hearer = u.hearer }) s (hearing_behind (hearing t s) said)
+  pub heard : AreHeard (hearing t s) s (known_of t.conversation_state) said
+  pub left : IsLeft (over_behind (hearing t s) s (known_of t.conversation_state) said) s said behind
+      u.conversation_state.conversation
+  pub known : known_of u.conversation_state ≡ known s (known_of t.conversation_state) said
+  pub history : u.conversation_state.history.items ≡ history s
+      t.conversation_state.history.items said
+  pub same : u ≡ with_hearing (record t { conversation_state = u.conversation_state }) s
+      (hearing_behind (hearing t s) said)
 
 -- A side that is over is skipped.
 abbrev pub IsNextBy : Bool → Analyzer → Side → Bytes → Analyzer → Type 0
@@ -141,7 +144,7 @@ abbrev pub IsFirstHeard : Analyzer → Side → Bytes → Bytes → Analyzer →
 IsFirstHeard t s w b u =
     IsFirstBy (nat_lt (length b) (5 - length w)) (begins_tls (front w b)) t s w b u
 
-abbrev pub IsHeardBy : Hearing → Analyzer → Side → Bytes → Analyzer → Type 0
+abbrev pub IsHeardBy : SideState → Analyzer → Side → Bytes → Analyzer → Type 0
 IsHeardBy Unknown t s b u = IsFirstHeard t s (waiting t s).items b u
 IsHeardBy h t s b u = IsNext t s b u
 
@@ -151,8 +154,9 @@ IsHeardOn t s b u = IsHeardBy (hearing t s) t s b u
 
 -- The side begins with a ClientHello of SSL 2.0's form. What follows it is TLS.
 abbrev pub IsHeardInSsl2 : Analyzer → Side → ssl2.ClientHello → Analyzer → Type 0
-IsHeardInSsl2 t s x u = IsHelloNoted t.hearer s x u.hearer
-    × (u ≡ with_hearing (record t { hearer = u.hearer; is_tls = true }) s Clear)
+IsHeardInSsl2 t s x u = IsHelloNoted t.conversation_state s x u.conversation_state
+    × (u ≡ with_hearing (record t { conversation_state = u.conversation_state; is_tls = true }) s
+    Clear)
 
 -- The side isn't TLS, whatever it sends: it is treated as if it had sent 5 bytes that are no header
 -- of a record.

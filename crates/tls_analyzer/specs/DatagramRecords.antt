@@ -5,7 +5,7 @@ use Rattle.layouts.specs.Items.{items_in}
 use Rattle.tls_records.specs.DtlsRecord.{RecordHeader}
 use Rattle.dtls_stream.specs.DatagramRecord.{ConnectionId, DatagramRecord, Encrypted, Plaintext, datagram_record13}
 use Rattle.tls_detection.specs.Front.{is_datagram_version, is_within}
-use Rattle.tls_analyzer.specs.declared.datagram_records.DatagramRecords.{DatagramRecords}
+use Rattle.tls_analyzer.specs.declared.datagram_records.DatagramRecordCounter.{DatagramRecordCounter}
 
 -- A known content type, including 26, the acknowledgments of DTLS 1.3 (RFC 9147, section 7), and a
 -- version of DTLS.
@@ -20,16 +20,16 @@ is_record is_13 (ConnectionId r) = is_datagram_version r.header.fields.version
 is_record is_13 (Encrypted r) = is_13
 
 -- No datagram came.
-abbrev pub no_datagrams : DatagramRecords
+abbrev pub no_datagrams : DatagramRecordCounter
 no_datagrams = record { count = 0 }
 
 -- Counts each record up to the first that doesn't count. The count saturates.
-abbrev pub with_records : Bool → List DatagramRecord → DatagramRecords → DatagramRecords
+abbrev pub with_records : Bool → List DatagramRecord → DatagramRecordCounter → DatagramRecordCounter
 with_records is_13 [] r = r
 with_records is_13 (x ∷ xs) r =
     if is_record is_13 x then
     with_records is_13 xs (record { count = min (r.count + 1) (2 ^ 64 - 1) }) else r
 
 -- Counts the records at the beginning of a datagram, with connection IDs of this length.
-abbrev pub with_datagram : Bool → ℕ → Bytes → DatagramRecords → DatagramRecords
+abbrev pub with_datagram : Bool → ℕ → Bytes → DatagramRecordCounter → DatagramRecordCounter
 with_datagram is_13 id_length b r = with_records is_13 (items_in (datagram_record13 id_length) b) r

@@ -11,7 +11,7 @@ use Rattle.dtls_stream.specs.Messages.{Alert, ChangeCipherSpec, Encrypted, Event
 use Rattle.dtls_stream.specs.Datagrams.{Step, datagram_record, record_step}
 use Rattle.tls_flow.specs.Steps.{follow, silence}
 use Rattle.tls_flow.specs.Table.{is_failed, is_waiting, outcome_at}
-use Rattle.tls_flow.specs.declared.event.Event.{Event as Followed}
+use Rattle.tls_flow.specs.declared.event.FlowEvent.{FlowEvent as Followed}
 use Rattle.tls_flow.specs.declared.flow.Flow.{Flow}
 use Rattle.tls_flow.specs.declared.symbol.Direction.{Direction as Side}
 use Rattle.tls_flow.specs.declared.symbol.Direction.TheVariants.{ToServer, FromServer}
@@ -28,7 +28,7 @@ use Rattle.tls_analyzer.specs.DatagramRecords.{is_known}
 use Rattle.tls_analyzer.specs.History.{letter_in_datagram, with_letter}
 use Rattle.tls_analyzer.specs.declared.account.Account.{Account}
 use Rattle.tls_analyzer.specs.declared.account.Progress.{Progress}
-use Rattle.tls_analyzer.specs.declared.speaker.Speaker.{Speaker}
+use Rattle.tls_analyzer.specs.declared.datagram_side.DatagramSide.{DatagramSide}
 use Rattle.tls_analyzer.specs.declared.datagram_analyzer.DatagramAnalyzer.{DatagramAnalyzer}
 
 -- The summary after an event of this side, where m is its handshake message.
@@ -332,7 +332,7 @@ heard_all k [] = k
 heard_all k (d ∷ ds) = heard_all (heard k d.0 d.1) ds
 
 -- The program's data of one side, and of the analyzer, agree with the state.
-pub record IsSpoken (p : Spoken) (t : Speaker) : Type 0 where
+pub record IsSpoken (p : Spoken) (t : DatagramSide) : Type 0 where
   pub stands : Stands allowed p.heard t.messages
   pub is_begun : t.is_begun ≡ p.is_begun
   pub lacks_front : t.lacks_front ≡ p.lacks_front
@@ -347,7 +347,7 @@ pub record IsKnown (k : Analyzer) (t : DatagramAnalyzer) : Type 0 where
   pub history : t.account.history.items ≡ k.history
   pub is_dtls : t.is_dtls ≡ k.is_dtls
 
-abbrev pub speaker_of : DatagramAnalyzer → Side → Speaker
+abbrev pub speaker_of : DatagramAnalyzer → Side → DatagramSide
 speaker_of t ToServer = t.client
 speaker_of t FromServer = t.server
 
@@ -356,12 +356,13 @@ pub record IsStepped (s : Side) (x : Step) (t u : Told) (n : Kept) : Type 0 wher
   pub stands : Stands allowed x.0 n
   pub told : u ≡ said_all s t x.1
 
--- A speaker read a record and its events were added, in terms of the account and the progress
+-- A datagram_side read a record and its events were added, in terms of the account and the progress
 -- before and after.
-abbrev pub SpeakerHears : Side → Heard → RawRecord → Account → Account → Speaker → Speaker → Type 0
+abbrev pub SpeakerHears : Side → Heard → RawRecord → Account → Account → DatagramSide
+    → DatagramSide → Type 0
 SpeakerHears s h r a b t u =
     IsStepped s (record_step allowed h r) (told_of a t.progress) (told_of b u.progress) u.messages
 
 -- Another state of the same side, apart from its messages.
-abbrev pub IsSameSide : Speaker → Speaker → Type 0
+abbrev pub IsSameSide : DatagramSide → DatagramSide → Type 0
 IsSameSide t u = (u.is_begun ≡ t.is_begun) × (u.lacks_front ≡ t.lacks_front)

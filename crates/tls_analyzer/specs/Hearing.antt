@@ -12,20 +12,22 @@ use Rattle.ssl2_hello.specs.ClientHello as ssl2
 use Rattle.std.specs.Str.{byte}
 use Rattle.tls_analyzer.specs.History.{history, letter_of, with_letter}
 use Rattle.tls_analyzer.specs.Noting.{Known, followed, is_sealed, noted, stepped}
-use Rattle.tls_analyzer.specs.declared.hearer.Hearer.{Hearer}
+use Rattle.tls_analyzer.specs.declared.conversation_state.ConversationState.{ConversationState}
 
-abbrev pub known_of : Hearer → Known
+abbrev pub known_of : ConversationState → Known
 known_of h = record { flow = h.flow; handshake = view_summary h.handshake }
 
 -- The side gets another piece, and nothing is recorded.
-pub record IsFed (h : Hearer) (s : Side) (p : Bytes) (i : Hearer) : Type 0 where
+pub record IsFed (h : ConversationState) (s : Side) (p : Bytes)
+    (i : ConversationState) : Type 0 where
   pub conversation : IsFedBy h.conversation s p i.conversation
   pub flow : i.flow ≡ h.flow
   pub handshake : i.handshake ≡ h.handshake
   pub history : i.history ≡ h.history
 
 -- The side says v next, which is followed and recorded.
-pub record IsNoted (h : Hearer) (s : Side) (v : Said) (i : Hearer) : Type 0 where
+pub record IsNoted (h : ConversationState) (s : Side) (v : Said)
+    (i : ConversationState) : Type 0 where
   pub behind : IsBehind h.conversation s v i.conversation
   pub flow : i.flow ≡ followed s h.flow (view_summary h.handshake) v
   pub handshake : view_summary i.handshake ≡ noted s (view_summary h.handshake) v
@@ -33,14 +35,16 @@ pub record IsNoted (h : Hearer) (s : Side) (v : Said) (i : Hearer) : Type 0 wher
 
 -- The side sends a ClientHello of SSL 2.0's form (RFC 5246, appendix E.2), which is followed and
 -- recorded like any other.
-pub record IsHelloNoted (h : Hearer) (s : Side) (x : ssl2.ClientHello) (i : Hearer) : Type 0 where
+pub record IsHelloNoted (h : ConversationState) (s : Side) (x : ssl2.ClientHello)
+    (i : ConversationState) : Type 0 where
   pub conversation : i.conversation ≡ h.conversation
   pub flow : i.flow ≡ stepped s h.flow (view_summary h.handshake) (plain kind.ClientHello s)
   pub handshake : view_summary i.handshake ≡ asked_in_ssl2 s x (view_summary h.handshake)
   pub history : i.history.items ≡ with_letter s h.history.items (Some (byte "c"))
 
 -- The side's next event is removed, if there is one; the answer is whether it is encrypted.
-abbrev pub IsNextTaken : Option Said → Hearer → Side → Option Bool → Hearer → Type 0
+abbrev pub IsNextTaken : Option Said → ConversationState → Side → Option Bool
+    → ConversationState → Type 0
 IsNextTaken (Some v) h s r i = (r ≡ Some (is_sealed v)) × IsNoted h s v i
 IsNextTaken None h s r i = (r ≡ None) × (i ≡ h)
 

@@ -3,7 +3,7 @@ use Rattle.std.specs.Prelude.{Bool, true, false, ◌||◌, if◌then◌else◌, 
 use Rattle.tls_stream.specs.Item.{Event as Said, Handshake, Alert, ApplicationData, Encrypted}
 use Rattle.tls_flow.specs.declared.symbol.Direction.{Direction as Side}
 use Rattle.tls_flow.specs.Steps.{follow}
-use Rattle.tls_flow.specs.declared.event.Event.{Event}
+use Rattle.tls_flow.specs.declared.event.FlowEvent.{FlowEvent}
 use Rattle.tls_flow.specs.declared.flow.Flow.{Flow}
 use Rattle.tls_flow.specs.Bytes.{HandshakeMessage}
 use Rattle.tls_stream.specs.FlowEvents.{event_of, message_in}
@@ -20,7 +20,7 @@ noted s f v = noted_with s f v (message_in v)
 
 -- The flow after an event of this side, given the summary before it. A hello that doesn't belong to
 -- the handshake is no step.
-abbrev pub stepped : Side → Flow → HandshakeSummary → Event → Flow
+abbrev pub stepped : Side → Flow → HandshakeSummary → FlowEvent → Flow
 stepped s w f e = if is_stray s e.symbol.kind f then w else follow w e
 
 abbrev pub followed : Side → Flow → HandshakeSummary → Said → Flow

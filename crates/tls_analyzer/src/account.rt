@@ -9,11 +9,11 @@ ghost use Rattle.tls_flow.specs.Table.{is_failed as is_failure, is_waiting as is
 ghost use Rattle.tls_analyzer.specs.Datagrams.{awaits_change as awaits, behind_change as stands_behind_change, followed, followed_with, has_come_to_change as comes_to_change, is_change as changes, is_sealed as seals, may_resume as takes_session, noted_in_datagram, noted_in_datagram_with, said, said_all, saying, told_of};
 
 use crate::history::{add_letter, datagram_letter};
-use crate::witness::Witness;
+use crate::observer::Observer;
 use dtls_stream::{Event, datagram_message, dtls_event_with};
 use std::alloc::{AllocError, Global};
 use tls_flow::{Direction, Flow, HandshakeMessage, Kind, Outcome};
-use tls_summary::{HandshakeSummary, KnownCertificates};
+use tls_summary::{CertificateCache, HandshakeSummary};
 
 /// How far a side has come.
 #[derive(Clone, Copy, Debug, PartialEq, Eq)]
@@ -52,7 +52,7 @@ fn note(
     side: Direction,
     event: &Event<'_>,
     message: Option<&HandshakeMessage<'_>>,
-    known: Option<&mut KnownCertificates>,
+    known: Option<&mut CertificateCache>,
 ) -> Result<(), AllocError>
     ensures { OnOk result
         (view_summary handshake.new ≡ noted_in_datagram_with side (view_summary handshake.old)
@@ -140,13 +140,13 @@ impl Account {
     }
 
     /// Follows an event of a side, updates the summary and appends its letter. Its message is
-    /// parsed once for these and the witness.
-    fn tell<W: Witness>(
+    /// parsed once for these and the observer.
+    fn tell<W: Observer>(
         &mut self,
         alloc: Global,
         side: Direction,
         event: &Event<'_>,
-        witness: &mut W,
+        observer: &mut W,
     ) -> Result<(), AllocError>
         ensures flow { OnOk result (self.new.flow ≡ followed side self.old.flow (view_event event.now)) }
         ensures handshake { OnOk result
@@ -158,7 +158,7 @@ impl Account {
     {
         let message = datagram_message(event);
         let kind = Kind::of_datagrams(message.as_ref());
-        let known = witness.known_certificates();
+        let known = observer.certificate_cache();
         note(
             &mut self.handshake,
             alloc,
@@ -169,24 +169,24 @@ impl Account {
         )?;
         follow(&mut self.flow, event, kind, side);
         add_letter(&mut self.history, side, datagram_letter(event, kind))?;
-        witness.hear_event(side, event, message.as_ref())?;
+        observer.on_datagram_event(side, event, message.as_ref())?;
         Ok(())
     }
 
     /// Does what `tell` does, and updates the side's progress.
-    fn say<W: Witness>(
+    fn say<W: Observer>(
         &mut self,
         alloc: Global,
         side: Direction,
         progress: &mut Progress,
         event: &Event<'_>,
-        witness: &mut W,
+        observer: &mut W,
     ) -> Result<(), AllocError>
         ensures { OnOk result
             (told_of self.new progress.new ≡ saying side (told_of self.old progress.old)
             (view_event event.now)) }
     {
-        self.tell(alloc, side, event, witness)?;
+        self.tell(alloc, side, event, observer)?;
         progress.has_changed = progress.has_changed || is_change(event);
         progress.is_encrypted = progress.is_encrypted || is_sealed(event);
         Ok(())
@@ -194,13 +194,13 @@ impl Account {
 
     /// Adds an event of a side. A ChangeCipherSpec is dropped if the handshake hasn't reached it,
     /// or if it is a retransmission (RFC 6347, section 4.2.4).
-    fn add<W: Witness>(
+    fn add<W: Observer>(
         &mut self,
         alloc: Global,
         side: Direction,
         progress: &mut Progress,
         event: &Event<'_>,
-        witness: &mut W,
+        observer: &mut W,
     ) -> Result<(), AllocError>
         ensures { OnOk result
             (told_of self.new progress.new ≡ said side (told_of self.old progress.old)
@@ -209,24 +209,24 @@ impl Account {
         if is_change(event) && !self.awaits_change(side, progress) {
             return Ok(());
         }
-        self.say(alloc, side, progress, event, witness)
+        self.say(alloc, side, progress, event, observer)
     }
 
     /// Adds the events of a side in order.
-    pub(crate) fn add_all<W: Witness>(
+    pub(crate) fn add_all<W: Observer>(
         &mut self,
         alloc: Global,
         side: Direction,
         progress: &mut Progress,
         events: &[Event<'_>],
-        witness: &mut W,
+        observer: &mut W,
     ) -> Result<(), AllocError>
         ensures { OnOk result
             (told_of self.new progress.new ≡ said_all side (told_of self.old progress.old)
             (view_events events.now)) }
     {
         for event in events {
-            self.add(alloc, side, progress, event, witness)?;
+            self.add(alloc, side, progress, event, observer)?;
         }
         Ok(())
     }

@@ -9,9 +9,9 @@ ghost use Rattle.tls_analyzer.specs.Ends.{is_established as established_by, is_r
 ghost use Rattle.tls_analyzer.specs.Analyzers.{IsFirstHeard, IsHeardAsNone, IsHeardInSsl2, IsHeardOn, IsNew, IsNext, IsTaken, IsAnalyzerOf, Waits, hearing as hearing_of, is_over as is_over_in, waiting as waiting_of, with_hearing};
 
 use crate::capacity::of_handshake;
+use crate::conversation_state::ConversationState;
 use crate::ends;
-use crate::hearer::Hearer;
-use crate::witness::{Nobody, Witness};
+use crate::observer::{NoObserver, Observer};
 use ssl2_hello::Ssl2ClientHello;
 use std::alloc::{AllocError, Global};
 use std::mem;
@@ -21,7 +21,7 @@ use tls_summary::HandshakeSummary;
 
 /// What is known of a side.
 #[derive(Clone, Copy, Debug, PartialEq, Eq)]
-pub(crate) enum Hearing {
+pub(crate) enum SideState {
     /// Too few bytes have come to decide whether it is TLS.
     Unknown,
     /// It is TLS, in the clear so far.
@@ -36,10 +36,10 @@ pub(crate) enum Hearing {
 /// the clear.
 #[derive(Drop)]
 pub struct Analyzer {
-    hearer: Hearer,
+    conversation_state: ConversationState,
     is_tls: bool,
-    client: Hearing,
-    server: Hearing,
+    client: SideState,
+    server: SideState,
     // The first bytes of each side, while they are too few to decide whether it is TLS.
     client_first: Vec<u8>,
     server_first: Vec<u8>,
@@ -51,10 +51,10 @@ impl Analyzer {
         ensures { IsNew result }
     {
         Analyzer {
-            hearer: Hearer::new(alloc),
+            conversation_state: ConversationState::new(alloc),
             is_tls: false,
-            client: Hearing::Unknown,
-            server: Hearing::Unknown,
+            client: SideState::Unknown,
+            server: SideState::Unknown,
             client_first: Vec::new(alloc),
             server_first: Vec::new(alloc),
         }
@@ -64,8 +64,8 @@ impl Analyzer {
     /// bytes. It includes neither the analyzer itself nor its conversation's buffers, which hold at
     /// most twice the bytes that came.
     pub fn capacity(&self) -> usize {
-        of_handshake(&self.hearer.handshake)
-            .saturating_add(self.hearer.history.capacity())
+        of_handshake(&self.conversation_state.handshake)
+            .saturating_add(self.conversation_state.history.capacity())
             .saturating_add(self.client_first.capacity())
             .saturating_add(self.server_first.capacity())
     }
@@ -79,50 +79,50 @@ impl Analyzer {
 
     /// The summary of what both sides sent in the clear.
     pub fn handshake(&self) -> &HandshakeSummary
-        ensures { result.now ≡ self.now.hearer.handshake }
+        ensures { result.now ≡ self.now.conversation_state.handshake }
     {
-        &self.hearer.handshake
+        &self.conversation_state.handshake
     }
 
     /// A letter for each event, as in Zeek's ssl_history: upper case for the client, in capture
     /// order, for messages in the clear, up to [`HISTORY_LIMIT`](crate::HISTORY_LIMIT).
     pub fn history(&self) -> &[u8]
-        ensures { result.now ≡ self.now.hearer.history.items }
+        ensures { result.now ≡ self.now.conversation_state.history.items }
     {
-        self.hearer.history.as_slice()
+        self.conversation_state.history.as_slice()
     }
 
     /// The outcome of the handshake so far.
     pub fn outcome(&self) -> Outcome
-        ensures { result ≡ outcome_at self.now.hearer.flow.state }
+        ensures { result ≡ outcome_at self.now.conversation_state.flow.state }
     {
-        self.hearer.flow.outcome()
+        self.conversation_state.flow.outcome()
     }
 
     /// The event that ended the handshake without success, if one did.
     pub fn stop(&self) -> Option<Stop>
-        ensures { result ≡ self.now.hearer.flow.stop }
+        ensures { result ≡ self.now.conversation_state.flow.stop }
     {
-        self.hearer.flow.stop()
+        self.conversation_state.flow.stop()
     }
 
     /// Whether the visible part of the handshake is complete. In TLS 1.3 it ends with the
     /// ServerHello, since what follows is encrypted.
     pub fn is_established(&self) -> bool
-        ensures { result ≡ established_by (outcome_at self.now.hearer.flow.state) }
+        ensures { result ≡ established_by (outcome_at self.now.conversation_state.flow.state) }
     {
         ends::is_established(self.outcome())
     }
 
     /// Whether a session was resumed, or a pre-shared key accepted.
     pub fn is_resumed(&self) -> bool
-        ensures { result ≡ resumed_by (outcome_at self.now.hearer.flow.state)
-            (view_summary self.now.hearer.handshake) }
+        ensures { result ≡ resumed_by (outcome_at self.now.conversation_state.flow.state)
+            (view_summary self.now.conversation_state.handshake) }
     {
-        ends::is_resumed(self.outcome(), &self.hearer.handshake)
+        ends::is_resumed(self.outcome(), &self.conversation_state.handshake)
     }
 
-    fn hearing(&self, side: Direction) -> Hearing
+    fn hearing(&self, side: Direction) -> SideState
         ensures { result ≡ hearing_of self.now side }
     {
         match side {
@@ -131,7 +131,7 @@ impl Analyzer {
         }
     }
 
-    fn set_hearing(&mut self, side: Direction, hearing: Hearing)
+    fn set_side_state(&mut self, side: Direction, hearing: SideState)
         ensures { self.new ≡ with_hearing self.old side hearing }
     {
         match side {
@@ -146,9 +146,9 @@ impl Analyzer {
         ensures { result ≡ is_over_in self.now side }
     {
         match self.hearing(side) {
-            Hearing::Unknown | Hearing::Clear => false,
-            Hearing::Encrypted => !matches!(self.outcome(), Outcome::Waiting),
-            Hearing::Other => true,
+            SideState::Unknown | SideState::Clear => false,
+            SideState::Encrypted => !matches!(self.outcome(), Outcome::Waiting),
+            SideState::Other => true,
         }
     }
 
@@ -186,21 +186,22 @@ impl Analyzer {
 
     /// Follows the side's next event, updates the summary and removes the event. Returns false if
     /// there is none.
-    fn take_next<W: Witness>(
+    fn take_next<W: Observer>(
         &mut self,
         alloc: Global,
         side: Direction,
-        witness: &mut W,
+        observer: &mut W,
     ) -> Result<bool, AllocError>
         ensures taken { IfOk result
-            (λ taken. IsTaken (front_of (ear self.old.hearer.conversation side)) self.old side taken
+            (λ taken. IsTaken (front_of (ear self.old.conversation_state.conversation side))
+            self.old side taken
             self.new) }
-        ensures ready { OnOk result (IsReady (ear self.old.hearer.conversation side)
-            → IsReady (ear self.new.hearer.conversation side)) }
+        ensures ready { OnOk result (IsReady (ear self.old.conversation_state.conversation side)
+            → IsReady (ear self.new.conversation_state.conversation side)) }
     {
-        match self.hearer.take_next(alloc, side, witness)? {
+        match self.conversation_state.take_next(alloc, side, observer)? {
             Some(true) => {
-                self.set_hearing(side, Hearing::Encrypted);
+                self.set_side_state(side, SideState::Encrypted);
                 Ok(true)
             }
             Some(false) => Ok(true),
@@ -209,21 +210,21 @@ impl Analyzer {
     }
 
     /// Reads a piece of a side, up to the event after which the side is skipped.
-    fn follow<W: Witness>(
+    fn follow<W: Observer>(
         &mut self,
         alloc: Global,
         side: Direction,
         piece: &[u8],
-        witness: &mut W,
+        observer: &mut W,
     ) -> Result<(), AllocError>
         ensures { OnOk result (IsNext self.old side piece.now self.new) }
     {
         if self.is_over(side) {
             return Ok(());
         }
-        self.hearer.feed(side, piece)?;
+        self.conversation_state.feed(side, piece)?;
         for _ in 0..u64::MAX {
-            if self.is_over(side) || !self.take_next(alloc, side, witness)? {
+            if self.is_over(side) || !self.take_next(alloc, side, observer)? {
                 break;
             }
         }
@@ -231,12 +232,12 @@ impl Analyzer {
     }
 
     /// Reads the first bytes of a side, which decide whether it is TLS.
-    fn hear_first<W: Witness>(
+    fn analyze_first<W: Observer>(
         &mut self,
         alloc: Global,
         side: Direction,
         bytes: &[u8],
-        witness: &mut W,
+        observer: &mut W,
     ) -> Result<(), AllocError>
         ensures { OnOk result
             (IsFirstHeard self.old side (waiting_of self.old side).items bytes.now self.new) }
@@ -250,12 +251,12 @@ impl Analyzer {
         first.extend_from_slice(front)?;
         if begins_tls(first.as_slice()) {
             self.is_tls = true;
-            self.set_hearing(side, Hearing::Clear);
-            self.follow(alloc, side, first.as_slice(), witness)?;
-            return self.follow(alloc, side, rest, witness);
+            self.set_side_state(side, SideState::Clear);
+            self.follow(alloc, side, first.as_slice(), observer)?;
+            return self.follow(alloc, side, rest, observer);
         }
-        self.follow(alloc, side, first.as_slice(), witness)?;
-        self.set_hearing(side, Hearing::Other);
+        self.follow(alloc, side, first.as_slice(), observer)?;
+        self.set_side_state(side, SideState::Other);
         Ok(())
     }
 
@@ -263,7 +264,7 @@ impl Analyzer {
     /// What follows it is TLS.
     ///
     /// After `AllocError` there was no memory for it, and the analyzer can't be used any more.
-    pub fn hear_ssl2(
+    pub fn analyze_ssl2(
         &mut self,
         alloc: Global,
         side: Direction,
@@ -271,9 +272,9 @@ impl Analyzer {
     ) -> Result<(), AllocError>
         ensures { OnOk result (IsHeardInSsl2 self.old side (view_ssl2_hello hello.now) self.new) }
     {
-        self.hearer.hear_ssl2(alloc, side, hello)?;
+        self.conversation_state.analyze_ssl2(alloc, side, hello)?;
         self.is_tls = true;
-        self.set_hearing(side, Hearing::Clear);
+        self.set_side_state(side, SideState::Clear);
         Ok(())
     }
 
@@ -281,11 +282,11 @@ impl Analyzer {
     /// 5 bytes that are no header of a record, and the side is skipped.
     ///
     /// After `AllocError` there was no memory for it, and the analyzer can't be used any more.
-    pub fn hear_none(&mut self, alloc: Global, side: Direction) -> Result<(), AllocError>
+    pub fn skip_side(&mut self, alloc: Global, side: Direction) -> Result<(), AllocError>
         ensures { OnOk result (IsHeardAsNone self.old side self.new) }
     {
-        self.follow(alloc, side, &[0, 0, 0, 0, 0], &mut Nobody)?;
-        self.set_hearing(side, Hearing::Other);
+        self.follow(alloc, side, &[0, 0, 0, 0, 0], &mut NoObserver)?;
+        self.set_side_state(side, SideState::Other);
         Ok(())
     }
 
@@ -294,27 +295,32 @@ impl Analyzer {
     /// Once a side is over, its bytes are skipped, from the event on that ended it.
     ///
     /// After `AllocError` there was no memory for them, and the analyzer can't be used any more.
-    pub fn hear(&mut self, alloc: Global, side: Direction, bytes: &[u8]) -> Result<(), AllocError>
-        ensures { OnOk result (IsHeardOn self.old side bytes.now self.new) }
-    {
-        self.hear_with(alloc, side, bytes, &mut Nobody)
-    }
-
-    /// Reads the next bytes of a side as [`Analyzer::hear`] does, and passes each event to the
-    /// witness.
-    pub fn hear_with<W: Witness>(
+    pub fn analyze(
         &mut self,
         alloc: Global,
         side: Direction,
         bytes: &[u8],
-        witness: &mut W,
     ) -> Result<(), AllocError>
         ensures { OnOk result (IsHeardOn self.old side bytes.now self.new) }
     {
-        if self.hearing(side) == Hearing::Unknown {
-            return self.hear_first(alloc, side, bytes, witness);
+        self.analyze_with(alloc, side, bytes, &mut NoObserver)
+    }
+
+    /// Reads the next bytes of a side as [`Analyzer::analyze`] does, and passes each event to the
+    /// observer.
+    pub fn analyze_with<W: Observer>(
+        &mut self,
+        alloc: Global,
+        side: Direction,
+        bytes: &[u8],
+        observer: &mut W,
+    ) -> Result<(), AllocError>
+        ensures { OnOk result (IsHeardOn self.old side bytes.now self.new) }
+    {
+        if self.hearing(side) == SideState::Unknown {
+            return self.analyze_first(alloc, side, bytes, observer);
         }
-        self.follow(alloc, side, bytes, witness)
+        self.follow(alloc, side, bytes, observer)
     }
 }
 
@@ -328,7 +334,7 @@ pub fn analyze_all(alloc: Global, pieces: &[(Direction, &[u8])]) -> Result<Analy
 {
     let mut analyzer = Analyzer::new(alloc);
     for (side, piece) in pieces {
-        analyzer.hear(alloc, *side, piece)?;
+        analyzer.analyze(alloc, *side, piece)?;
     }
     Ok(analyzer)
 }

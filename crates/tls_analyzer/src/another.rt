@@ -10,8 +10,8 @@ ghost use Rattle.tls_analyzer.specs.Datagrams.{first_fragment as first_in};
 ghost use Rattle.tls_analyzer.specs.Another.{first_random as first, has_other_hello as other_hello, has_ended as ended, is_first_hello as is_first, is_other as is_other_than, random_by, random_in};
 
 use crate::datagram_records::is_known;
+use crate::datagram_side::first_fragment;
 use crate::ends::is_established;
-use crate::speaker::first_fragment;
 use dtls_stream::{Fragment, read_record};
 use layouts::InPlace;
 use tls_base::TlsHandshakeType;

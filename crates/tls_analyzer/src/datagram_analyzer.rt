@@ -13,9 +13,9 @@ use crate::account::Account;
 use crate::another::{has_ended, has_other_hello};
 use crate::capacity::of_handshake;
 use crate::datagram_records::is_known;
+use crate::datagram_side::{DatagramSide, first_fragment, is_hello};
 use crate::ends;
-use crate::speaker::{Speaker, first_fragment, is_hello};
-use crate::witness::{Nobody, Witness};
+use crate::observer::{NoObserver, Observer};
 use dtls_stream::{Fragment, parse_dtls13_ciphertext, read_record};
 use std::alloc::{AllocError, Global};
 use tls_flow::{Direction, Flow, Outcome, Stop};
@@ -26,8 +26,8 @@ use tls_summary::HandshakeSummary;
 /// they speak DTLS, and what they send in the clear. What a peer would drop changes nothing.
 #[derive(Drop)]
 pub struct DatagramAnalyzer {
-    client: Speaker,
-    server: Speaker,
+    client: DatagramSide,
+    server: DatagramSide,
     account: Account,
     is_dtls: bool,
 }
@@ -38,8 +38,8 @@ impl DatagramAnalyzer {
         ensures { IsKnown untold result }
     {
         DatagramAnalyzer {
-            client: Speaker::new(alloc),
-            server: Speaker::new(alloc),
+            client: DatagramSide::new(alloc),
+            server: DatagramSide::new(alloc),
             account: Account {
                 flow: Flow::new(),
                 handshake: HandshakeSummary::new(),
@@ -114,7 +114,7 @@ impl DatagramAnalyzer {
     pub fn lacks_front(&self, side: Direction) -> bool
         ensures { (k : Analyzer) → IsKnown k self.now → result ≡ (spoken k side).lacks_front }
     {
-        self.speaker(side).lacks_front
+        self.datagram_side(side).lacks_front
     }
 
     /// Whether a datagram of the client begins another association (RFC 6347, section 4.2.8). The
@@ -128,7 +128,7 @@ impl DatagramAnalyzer {
     }
 
     /// The state of one side.
-    fn speaker(&self, side: Direction) -> &Speaker
+    fn datagram_side(&self, side: Direction) -> &DatagramSide
         ensures { result.now ≡ speaker_of self.now side }
     {
         match side {
@@ -141,7 +141,7 @@ impl DatagramAnalyzer {
     pub fn is_over(&self, side: Direction) -> bool
         ensures { (k : Analyzer) → IsKnown k self.now → result ≡ is_over_in k side }
     {
-        self.speaker(side).progress.is_encrypted
+        self.datagram_side(side).progress.is_encrypted
             && !matches!(self.account.flow.outcome(), Outcome::Waiting)
     }
 
@@ -154,7 +154,7 @@ impl DatagramAnalyzer {
             Some(fragment) => {
                 self.account.handshake.server.is_some()
                     && is_hello(&fragment)
-                    && self.speaker(side).is_new(&fragment)
+                    && self.datagram_side(side).is_new(&fragment)
             }
             None => false,
         }
@@ -167,7 +167,7 @@ impl DatagramAnalyzer {
     {
         self.is_dtls
             && !self.is_over(side)
-            && record.header.epoch == self.speaker(side).epoch()
+            && record.header.epoch == self.datagram_side(side).epoch()
             && !self.is_late(side, record)
     }
 
@@ -184,12 +184,12 @@ impl DatagramAnalyzer {
     }
 
     /// Follows a side's record and updates the summary.
-    fn follow<W: Witness>(
+    fn follow<W: Observer>(
         &mut self,
         alloc: Global,
         side: Direction,
         record: DTLSRawRecord<'_>,
-        witness: &mut W,
+        observer: &mut W,
     ) -> Result<(), AllocError>
         ensures { (k : Analyzer) → IsKnown k self.old
             → OnOk result (IsKnown (taken k side (view_raw_record record.entry)) self.new) }
@@ -197,20 +197,20 @@ impl DatagramAnalyzer {
         match side {
             Direction::ToServer => self
                 .client
-                .hear(&mut self.account, alloc, side, record, witness),
+                .analyze(&mut self.account, alloc, side, record, observer),
             Direction::FromServer => self
                 .server
-                .hear(&mut self.account, alloc, side, record, witness),
+                .analyze(&mut self.account, alloc, side, record, observer),
         }
     }
 
     /// Reads a record of a side.
-    fn hear_record<W: Witness>(
+    fn read_record_events<W: Observer>(
         &mut self,
         alloc: Global,
         side: Direction,
         record: DTLSRawRecord<'_>,
-        witness: &mut W,
+        observer: &mut W,
     ) -> Result<(), AllocError>
         ensures { (k : Analyzer) → IsKnown k self.old
             → OnOk result (IsKnown (record_heard k side (view_raw_record record.entry)) self.new) }
@@ -222,7 +222,7 @@ impl DatagramAnalyzer {
         if let Some(fragment) = first_fragment(&record) {
             self.begin(alloc, side, &fragment);
         }
-        self.follow(alloc, side, record, witness)
+        self.follow(alloc, side, record, observer)
     }
 
     /// Whether DTLS 1.3 was negotiated.
@@ -274,7 +274,7 @@ impl DatagramAnalyzer {
     ///   hello after the ServerHello.
     ///
     /// After `AllocError` there was no memory for it, and the analyzer can't be used any more.
-    pub fn hear(
+    pub fn analyze(
         &mut self,
         alloc: Global,
         side: Direction,
@@ -283,17 +283,17 @@ impl DatagramAnalyzer {
         ensures { (k : Analyzer) → IsKnown k self.old
             → OnOk result (IsKnown (heard k side datagram.now) self.new) }
     {
-        self.hear_with(alloc, side, datagram, &mut Nobody)
+        self.analyze_with(alloc, side, datagram, &mut NoObserver)
     }
 
-    /// Reads a datagram of a side as [`DatagramAnalyzer::hear`] does, and passes each event that
-    /// counts to the witness.
-    pub fn hear_with<W: Witness>(
+    /// Reads a datagram of a side as [`DatagramAnalyzer::analyze`] does, and passes each event that
+    /// counts to the observer.
+    pub fn analyze_with<W: Observer>(
         &mut self,
         alloc: Global,
         side: Direction,
         datagram: &[u8],
-        witness: &mut W,
+        observer: &mut W,
     ) -> Result<(), AllocError>
         ensures { (k : Analyzer) → IsKnown k self.old
             → OnOk result (IsKnown (heard k side datagram.now) self.new) }
@@ -308,7 +308,7 @@ impl DatagramAnalyzer {
                 self.see_sealed(side, left);
                 return Ok(());
             }
-            self.hear_record(alloc, side, record, witness)?;
+            self.read_record_events(alloc, side, record, observer)?;
             left = rest;
         }
         Ok(())
@@ -326,7 +326,7 @@ pub fn analyzer_of(
 {
     let mut analyzer = DatagramAnalyzer::new(alloc);
     for (side, datagram) in datagrams {
-        analyzer.hear(alloc, *side, datagram)?;
+        analyzer.analyze(alloc, *side, datagram)?;
     }
     Ok(analyzer)
 }

@@ -32,16 +32,16 @@ fn is_record(record: &DatagramRecord<'_>, is_13: bool) -> bool
 
 /// Counts the records in the datagrams of a side, without buffering any.
 #[derive(Clone, Copy, Debug, PartialEq, Eq)]
-pub struct DatagramRecords {
+pub struct DatagramRecordCounter {
     count: u64,
 }
 
-impl DatagramRecords {
+impl DatagramRecordCounter {
     /// A count of 0.
-    pub fn new() -> DatagramRecords
+    pub fn new() -> DatagramRecordCounter
         ensures { result ≡ no_datagrams }
     {
-        DatagramRecords { count: 0 }
+        DatagramRecordCounter { count: 0 }
     }
 
     /// The number of records.

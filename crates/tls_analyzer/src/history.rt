@@ -7,7 +7,7 @@ ghost use Rattle.tls_analyzer.specs.History.{cased as cased_of, letter_in_datagr
 
 use std::alloc::AllocError;
 use tls_flow::{Direction, Kind};
-use tls_stream::{Event, Said};
+use tls_stream::{Event, SideEvent};
 
 /// How many letters of a connection are kept, since a peer may send messages without end.
 pub const HISTORY_LIMIT: usize = 100;
@@ -65,16 +65,16 @@ fn datagram_message_letter(kind: Kind, msg_type: u8) -> u8
 }
 
 /// The letter of a TLS side's event; `kind` is the kind of its handshake message.
-pub(crate) fn said_letter(said: &Said<'_>, kind: Kind) -> Option<u8>
+pub(crate) fn stream_letter(said: &SideEvent<'_>, kind: Kind) -> Option<u8>
     ensures { result ≡ letter_with kind (view_said said.now) }
 {
     match said {
-        Said::Event(Event::Handshake(message)) => Some(message_letter(kind, message)),
-        Said::Event(Event::ChangeCipherSpec) => Some(b'i'),
-        Said::Event(Event::Alert(_)) => Some(b'l'),
-        Said::Event(Event::Heartbeat(_)) => Some(b'b'),
-        Said::Event(Event::ApplicationData(_)) => Some(b'd'),
-        Said::Event(Event::Encrypted(_)) | Said::Fault(_) => None,
+        SideEvent::Event(Event::Handshake(message)) => Some(message_letter(kind, message)),
+        SideEvent::Event(Event::ChangeCipherSpec) => Some(b'i'),
+        SideEvent::Event(Event::Alert(_)) => Some(b'l'),
+        SideEvent::Event(Event::Heartbeat(_)) => Some(b'b'),
+        SideEvent::Event(Event::ApplicationData(_)) => Some(b'd'),
+        SideEvent::Event(Event::Encrypted(_)) | SideEvent::Fault(_) => None,
     }
 }
 

@@ -11,5 +11,6 @@ ghost use Rattle.tls_analyzer.specs.declared.analyzer.Analyzer.{Analyzer as Told
 /// sides exchanged.
 pub fn hellos_stand()
     ensures { (t u : Told) (side : Side) (b : Bytes) → IsHeardOn t side b u
-        → KeepsHellos side (view_summary t.hearer.handshake) (view_summary u.hearer.handshake) }
+        → KeepsHellos side (view_summary t.conversation_state.handshake)
+        (view_summary u.conversation_state.handshake) }
 {}

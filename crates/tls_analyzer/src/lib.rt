@@ -7,10 +7,10 @@
 //!
 //! [`DatagramAnalyzer`] does this for the datagrams of DTLS.
 //!
-//! Both have a history: a letter for each event, up to [`HISTORY_LIMIT`]. [`Records`] counts the
-//! records of a stream, including encrypted ones, without buffering them; [`DatagramRecords`]
-//! counts those of datagrams. A [`Witness`] receives each event that counts, once; summary,
-//! history, outcome and messages come from these events.
+//! Both have a history: a letter for each event, up to [`HISTORY_LIMIT`]. [`RecordCounter`] counts
+//! the records of a stream, including encrypted ones, without buffering them;
+//! [`DatagramRecordCounter`] counts those of datagrams. An [`Observer`] receives each event that
+//! counts, once; summary, history, outcome and messages come from these events.
 //!
 //! The promise is that the result depends on the bytes, not on how these are cut: [`analyze_all`]
 //! states it for streams, [`analyzer_of`] for datagrams. `specs/Analyzers.antt` and
@@ -21,19 +21,19 @@ mod account;
 mod analyzer;
 mod another;
 mod capacity;
+mod conversation_state;
 mod datagram_analyzer;
 mod datagram_records;
+mod datagram_side;
 mod ends;
-mod hearer;
 mod history;
 pub mod laws;
+mod observer;
 mod records;
-mod speaker;
-mod witness;
 
 pub use analyzer::{Analyzer, analyze_all};
 pub use datagram_analyzer::{DatagramAnalyzer, analyzer_of};
-pub use datagram_records::DatagramRecords;
+pub use datagram_records::DatagramRecordCounter;
 pub use history::HISTORY_LIMIT;
-pub use records::Records;
-pub use witness::Witness;
+pub use observer::Observer;
+pub use records::RecordCounter;

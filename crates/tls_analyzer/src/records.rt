@@ -6,7 +6,7 @@ use tls_detection::HEADER_LEN;
 
 /// Counts the records of a stream, without buffering any.
 #[derive(Clone, Copy, Debug, PartialEq, Eq)]
-pub struct Records {
+pub struct RecordCounter {
     count: u64,
     // How many bytes of a header have come, and the last of them.
     came: u8,
@@ -15,12 +15,12 @@ pub struct Records {
     left: u16,
 }
 
-impl Records {
+impl RecordCounter {
     /// The count of a stream without bytes.
-    pub fn new() -> Records
+    pub fn new() -> RecordCounter
         ensures { result ≡ no_records }
     {
-        Records {
+        RecordCounter {
             count: 0,
             came: 0,
             last: 0,

@@ -7,9 +7,9 @@ ghost use Rattle.tls_fingerprints.specs.Numbers.{dashed, without_grease};
 ghost use Rattle.tls_fingerprints.specs.Hellos.{types_in, view_client, view_server};
 ghost use Rattle.tls_fingerprints.specs.Ja3.{digest_of, ja3_of, ja3_text_of, ja3s_of, ja3s_text_of};
 
+use crate::digest_cache::DigestCache;
 use crate::hellos::{ClientHelloParts, ServerHelloParts};
 use crate::ja3_numbers::Ja3Numbers;
-use crate::known::KnownDigests;
 use crate::numbers::{add_dashed, add_decimal, kept_types};
 use md5::{Digest, Md5};
 use std::alloc::{AllocError, Global};
@@ -65,7 +65,7 @@ impl ClientHelloParts<'_> {
     pub fn ja3_text_with(
         &self,
         alloc: Global,
-        known: &mut KnownDigests,
+        known: &mut DigestCache,
     ) -> Result<String, AllocError>
         ensures { IfOk result (λ text. string_bytes text ≡ ja3_text_of (view_client self.now)) }
     {
@@ -76,7 +76,7 @@ impl ClientHelloParts<'_> {
     /// numbers.
     ///
     /// `AllocError` if there is no memory for it.
-    pub fn ja3_with(&self, alloc: Global, known: &mut KnownDigests) -> Result<String, AllocError>
+    pub fn ja3_with(&self, alloc: Global, known: &mut DigestCache) -> Result<String, AllocError>
         ensures { IfOk result (λ digits. string_bytes digits ≡ ja3_of (view_client self.now)) }
     {
         known.hello_digits(alloc, self)

@@ -10,8 +10,8 @@ ghost use Rattle.tls_fingerprints.specs.Hellos.{types_in, view_client};
 ghost use Rattle.tls_fingerprints.specs.Numbers.{hex_list, rising, without_grease};
 ghost use Rattle.tls_fingerprints.specs.Ja4.{ends_text, ja4_front_with, ja4_of, ja4_suites_of, ja4_text_of, ja4_types_of, letter_of, other_types, protocol_text, short_digest as short_digest_of, two_digits, version_text as version_text_of, with_algorithms};
 
+use crate::digest_cache::DigestCache;
 use crate::hellos::{ClientHelloParts, Transport};
-use crate::known::KnownDigests;
 use crate::numbers::{add_hex_list, hex_digit, kept, kept_types, push_hex_list, rise};
 use layouts::Items;
 use sha2::{Digest, Sha256};
@@ -283,7 +283,7 @@ impl ClientHelloParts<'_> {
         ensures { IfOk result
             (λ text. string_bytes text ≡ ja4_of transport (view_client self.now)) }
     {
-        let (text, _is_new) = self.ja4_by_parts(alloc, transport, &mut KnownDigests::new(alloc))?;
+        let (text, _is_new) = self.ja4_by_parts(alloc, transport, &mut DigestCache::new(alloc))?;
         Ok(text)
     }
 
@@ -293,7 +293,7 @@ impl ClientHelloParts<'_> {
         &self,
         alloc: Global,
         transport: Transport,
-        known: &mut KnownDigests,
+        known: &mut DigestCache,
     ) -> Result<(String, bool), AllocError>
         ensures { IfOk result
             (λ made. string_bytes made.0 ≡ ja4_of transport (view_client self.now)) }
@@ -317,7 +317,7 @@ impl ClientHelloParts<'_> {
         &self,
         alloc: Global,
         transport: Transport,
-        known: &mut KnownDigests,
+        known: &mut DigestCache,
     ) -> Result<String, AllocError>
         ensures { IfOk result
             (λ text. string_bytes text ≡ ja4_of transport (view_client self.now)) }

@@ -11,6 +11,7 @@
 //! and extensions.
 #![tactic(auto, using(layouts::proofs::OneAnswerLemmas::read_allowed))]
 
+mod digest_cache;
 mod digits;
 mod feeding;
 mod hellos;
@@ -18,12 +19,11 @@ mod ja3;
 mod ja3_numbers;
 mod ja4;
 mod ja4_numbers;
-mod known;
 pub mod laws;
 mod numbers;
 mod room;
 
+pub use digest_cache::DigestCache;
 pub use digits::MOST;
 pub use hellos::{ClientHelloParts, ServerHelloParts, Transport};
 pub use ja3::ja3_digest;
-pub use known::KnownDigests;

@@ -33,7 +33,7 @@ use Rattle.tls_flow.specs.Grammar.{is_noise}
 use Rattle.tls_flow.specs.Table.{step, outcome_at, is_waiting, awaited_in}
 use Rattle.tls_flow.specs.Steps.{silence, follow}
 use Rattle.tls_flow.specs.Conversations.{IsAwaited}
-use Rattle.tls_flow.specs.declared.event.Event.{Event}
+use Rattle.tls_flow.specs.declared.event.FlowEvent.{FlowEvent}
 use Rattle.tls_flow.specs.declared.flow.Flow.{Flow}
 use Rattle.tls_flow.specs.declared.symbol.Symbol.{Symbol}
 use Rattle.tls_flow.specs.declared.state.State.{State}
@@ -167,7 +167,8 @@ module _ (w : Word) (l : Symbol) where
       (and_both _ _ (false_not (is_noise l) h.1)
       (ap (λ q. is_alive (outcome_at q)) (sym next_end) ∙ alive))
 
-pub awaited_of_flow : (xs : List Symbol) (f : Flow) (es : List Event) → xs ≡ awaited_in ROWS f.state
+pub awaited_of_flow : (xs : List Symbol) (f : Flow) (es : List FlowEvent)
+    → xs ≡ awaited_in ROWS f.state
     → f ≡ run follow silence es → (l : Symbol) → Contains xs l ↔ IsAwaited l (symbols_of es)
 awaited_of_flow xs f es rows comes l =
     let at : f.state ≡ end_of (symbols_of es) = ap (λ g. g.state) comes ∙ state_of silence es in

@@ -37,7 +37,7 @@ use Rattle.tls_flow.specs.Symbols.{symbols_of}
 use Rattle.tls_flow.specs.Table.{step, outcome_at, is_failed, is_waiting}
 use Rattle.tls_flow.specs.Steps.{silence, follow, follow_by, stop_at, counted, moved}
 use Rattle.tls_flow.specs.Conversations.{IsUnderWay, HasHandshake, IsOutcome, IsStop}
-use Rattle.tls_flow.specs.declared.event.Event.{Event}
+use Rattle.tls_flow.specs.declared.event.FlowEvent.{FlowEvent}
 use Rattle.tls_flow.specs.declared.flow.Flow.{Flow}
 use Rattle.tls_flow.specs.declared.state.State.TheVariants as state
 use Rattle.tls_flow.specs.declared.state.Outcome.{Outcome}
@@ -46,19 +46,20 @@ use Rattle.tls_flow.proofs.StepLemmas.{true_or_false, is_done, waiting_is, end_s
 use Rattle.tls_flow.proofs.ConversationLemmas.{end_of, done_from, done_to, waiting_where, told_whole}
 
 -- One event, by whether the flow waits.
-followed : (t : Bool) (f : Flow) (e : Event) → is_waiting (outcome_at f.state) ≡ t
+followed : (t : Bool) (f : Flow) (e : FlowEvent) → is_waiting (outcome_at f.state) ≡ t
     → (follow_by t f e).state ≡ step f.state e.symbol
 followed true f e h = refl
 followed false f e h = sym (end_stays f.state e.symbol h)
 
 -- The state depends on the symbols alone.
-pub state_of : (f : Flow) (es : List Event)
+pub state_of : (f : Flow) (es : List FlowEvent)
     → (run follow f es).state ≡ run step f.state (symbols_of es)
 state_of f [] = refl
 state_of f (e ∷ es) = state_of (follow f e) es
     ∙ ap (λ q. run step q (symbols_of es)) (followed (is_waiting (outcome_at f.state)) f e refl)
 
-pub told_of_flow : (es : List Event) (from end : Flow) → end ≡ run follow from es → from ≡ silence
+pub told_of_flow : (es : List FlowEvent) (from end : Flow) → end ≡ run follow from es
+    → from ≡ silence
     → (o : Outcome) → (outcome_at end.state ≡ o) ↔ IsOutcome o (symbols_of es)
 told_of_flow es from end ends starts o =
     let at : end.state ≡ end_of (symbols_of es) =
@@ -67,11 +68,11 @@ told_of_flow es from end ends starts o =
     (told_whole (symbols_of es) o)
 
 -- After the end the stop doesn't change.
-kept_by : (t : Bool) (f : Flow) (e : Event) → t ≡ false → (follow_by t f e).stop ≡ f.stop
+kept_by : (t : Bool) (f : Flow) (e : FlowEvent) → t ≡ false → (follow_by t f e).stop ≡ f.stop
 kept_by true f e h = cc
 kept_by false f e h = refl
 
-stop_stays : (f : Flow) (es : List Event) → is_waiting (outcome_at f.state) ≡ false
+stop_stays : (f : Flow) (es : List FlowEvent) → is_waiting (outcome_at f.state) ≡ false
     → (run follow f es).stop ≡ f.stop
 stop_stays f [] h = refl
 stop_stays f (e ∷ es) h =
@@ -80,11 +81,11 @@ stop_stays f (e ∷ es) h =
     ∙ end_stays f.state e.symbol h) ∙ h in
     stop_stays (follow f e) es still ∙ kept_by (is_waiting (outcome_at f.state)) f e h
 
-stop_is : (o : Outcome) (f : Flow) (e : Event) → is_failed o ≡ true
+stop_is : (o : Outcome) (f : Flow) (e : FlowEvent) → is_failed o ≡ true
     → stop_at o f e ≡ Some (record { event = e; place = f.events })
 stop_is o f e h = rw h refl
 
-no_stop : (o : Outcome) (f : Flow) (e : Event) → is_failed o ≡ false → f.stop ≡ None
+no_stop : (o : Outcome) (f : Flow) (e : FlowEvent) → is_failed o ≡ false → f.stop ≡ None
     → stop_at o f e ≡ None
 no_stop o f e h n = rw h n
 
@@ -100,24 +101,25 @@ failed_not = elim [
 ]
 
 -- A waiting flow after one event.
-move_is : (f : Flow) (e : Event) → is_waiting (outcome_at f.state) ≡ true
+move_is : (f : Flow) (e : FlowEvent) → is_waiting (outcome_at f.state) ≡ true
     → follow f e ≡ moved (step f.state e.symbol) f e
 move_is f e h = ap (λ t. follow_by t f e) h
 
 -- What stopped a waiting flow: nothing, or an event up to which it still waited.
-abbrev Stopped : Flow → List Event → Type 0
+abbrev Stopped : Flow → List FlowEvent → Type 0
 Stopped f es =
-    (u v : List Event) × (e : Event) × (es ≡ u ++ e ∷ v)
+    (u v : List FlowEvent) × (e : FlowEvent) × (es ≡ u ++ e ∷ v)
     × ((run follow f es).stop ≡ Some (record { event = e; place = (run follow f u).events }))
     × (is_waiting (outcome_at (run follow f u).state) ≡ true)
     × (is_failed (outcome_at (step (run follow f u).state e.symbol)) ≡ true)
     × (is_failed (outcome_at (run follow f es).state) ≡ true)
 
-abbrev NotStopped : Flow → List Event → Type 0
+abbrev NotStopped : Flow → List FlowEvent → Type 0
 NotStopped f es =
     ((run follow f es).stop ≡ None) × (is_failed (outcome_at (run follow f es).state) ≡ false)
 
-failed_at_once : (f : Flow) (e : Event) (es : List Event) → is_waiting (outcome_at f.state) ≡ true
+failed_at_once : (f : Flow) (e : FlowEvent) (es : List FlowEvent)
+    → is_waiting (outcome_at f.state) ≡ true
     → is_failed (outcome_at (step f.state e.symbol)) ≡ true → Stopped f (e ∷ es)
 failed_at_once f e es h t =
     let m : follow f e ≡ moved (step f.state e.symbol) f e = move_is f e h in
@@ -139,7 +141,7 @@ failed_at_once f e es h t =
     )
 
 -- The flow goes on after an event that doesn't fail.
-goes_on : (f : Flow) (e : Event) (es : List Event) → is_waiting (outcome_at f.state) ≡ true
+goes_on : (f : Flow) (e : FlowEvent) (es : List FlowEvent) → is_waiting (outcome_at f.state) ≡ true
     → f.stop ≡ None
     → is_failed (outcome_at (step f.state e.symbol)) ≡ false
     → (is_waiting (outcome_at (follow f e).state) ≡ true → (follow f e).stop ≡ None
@@ -163,7 +165,8 @@ goes_on f e es h n t rest =
       )
     ]
 
-stop_among : (f : Flow) (es : List Event) → is_waiting (outcome_at f.state) ≡ true → f.stop ≡ None
+stop_among : (f : Flow) (es : List FlowEvent) → is_waiting (outcome_at f.state) ≡ true
+    → f.stop ≡ None
     → NotStopped f es ⊎ Stopped f es
 stop_among f [] h n = inl (n, not_failed (outcome_at f.state) h)
 stop_among f (e ∷ es) h n = elim (true_or_false (is_failed (outcome_at (step f.state e.symbol)))) [
@@ -181,11 +184,11 @@ count_none n m h = omega arith
 counted_within : (n m : ℕ) → min (n + 1) m ≤ m
 counted_within n m = omega arith
 
-counted_by : (t : Bool) (f : Flow) (e : Event) → (follow_by t f e).events ≡ counted f.events
+counted_by : (t : Bool) (f : Flow) (e : FlowEvent) → (follow_by t f e).events ≡ counted f.events
 counted_by true f e = refl
 counted_by false f e = refl
 
-events_of : (f : Flow) (es : List Event) → f.events ≤ 2 ^ 64 - 1
+events_of : (f : Flow) (es : List FlowEvent) → f.events ≤ 2 ^ 64 - 1
     → (run follow f es).events ≡ min (f.events + length es) (2 ^ 64 - 1)
 events_of f [] h = count_none f.events (2 ^ 64 - 1) h
 events_of f (e ∷ es) h =
@@ -196,12 +199,12 @@ events_of f (e ∷ es) h =
     ∙ ap (λ n. min (n + length es) (2 ^ 64 - 1)) c
     ∙ count_more f.events (length es) (2 ^ 64 - 1)
 
-symbols_append : (u v : List Event) → symbols_of (u ++ v) ≡ symbols_of u ++ symbols_of v
+symbols_append : (u v : List FlowEvent) → symbols_of (u ++ v) ≡ symbols_of u ++ symbols_of v
 symbols_append [] v = refl
 symbols_append (e ∷ u) v = ap (λ w. e.symbol ∷ w) (symbols_append u v)
 
 -- For a whole conversation.
-module _ (es : List Event) where
+module _ (es : List FlowEvent) where
   ends_at : (run follow silence es).state ≡ end_of (symbols_of es)
   ends_at = state_of silence es
 
@@ -223,7 +226,7 @@ module _ (es : List Event) where
         | _ ↦ λ a b. cc
       ]
 
-  failed_under_way : (u : List Event) (e : Event)
+  failed_under_way : (u : List FlowEvent) (e : FlowEvent)
       → is_failed (outcome_at (step (run follow silence u).state e.symbol)) ≡ true
       → ¬ IsUnderWay (symbols_of (u ++ e ∷ []))
   failed_under_way u e t h =
@@ -262,7 +265,7 @@ module _ (es : List Event) where
     )
   ]
 
-pub stopped_of_flow : (es : List Event) (from end : Flow) → end ≡ run follow from es
+pub stopped_of_flow : (es : List FlowEvent) (from end : Flow) → end ≡ run follow from es
     → from ≡ silence
     → IsStop end.stop es
 stopped_of_flow es from end ends starts =

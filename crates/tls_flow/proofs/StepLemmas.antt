@@ -171,7 +171,8 @@ module _ (q : State) (l : Symbol) (r : GoesByRow q l) where
 
   row_goes_on : is_stopping l.kind ≡ false
   row_goes_on =
-      not_true (is_stopping l.kind) (both_and (not (is_noise l)) (not (is_stopping l.kind)) parts.1).1
+      not_true (is_stopping l.kind)
+      (both_and (not (is_noise l)) (not (is_stopping l.kind)) parts.1).1
 
 -- A final state stays, whatever follows.
 rule_stays : (o : Outcome) (q : State) (k : Kind) (d : Direction) → is_waiting o ≡ false
@@ -294,6 +295,7 @@ symbol_awaited q l = elim (goes q l) [
       (row_waits q l r) (row_speaks q l r)
       (ap (λ s. is_alive (outcome_at s)) r.1 ∙ row_lives q l r))
   | inr r ↦ r.1
-      ∙ sym (ap (λ s. is_waiting (outcome_at q) && (not (is_noise l) && is_alive (outcome_at s))) r.0
+      ∙ sym (ap (λ s. is_waiting (outcome_at q) && (not (is_noise l) && is_alive (outcome_at s)))
+      r.0
       ∙ rule_awaits (outcome_at q) q l.kind l.direction)
 ]

@@ -7,7 +7,7 @@ use Rattle.tls_flow.specs.declared.symbol.Kind.TheVariants.{Fatal, Unknown}
 use Rattle.tls_flow.specs.declared.symbol.Kind.{Kind}
 use Rattle.tls_flow.specs.declared.symbol.Direction.{Direction}
 use Rattle.tls_flow.specs.declared.symbol.Symbol.{Symbol}
-use Rattle.tls_flow.specs.declared.event.Event.{Event}
+use Rattle.tls_flow.specs.declared.event.FlowEvent.{FlowEvent}
 use Rattle.tls_flow.specs.declared.flow.Stop.{Stop}
 use Rattle.tls_flow.specs.declared.state.Outcome.{Outcome}
 use Rattle.tls_flow.specs.declared.state.Outcome.TheVariants as outcome
@@ -67,13 +67,13 @@ IsAwaited l w = IsUnderWay w × (is_noise l ≡ false)
 
 -- The event that stopped a conversation, and the count of events before it: a handshake was under
 -- way up to it, and is neither under way nor complete after it.
-abbrev pub StopsAt : Stop → List Event → Type 0
+abbrev pub StopsAt : Stop → List FlowEvent → Type 0
 StopsAt s events =
-    (u v : List Event) × (events ≡ u ++ s.event ∷ v) × (s.place ≡ min (length u) (2 ^ 64 - 1))
+    (u v : List FlowEvent) × (events ≡ u ++ s.event ∷ v) × (s.place ≡ min (length u) (2 ^ 64 - 1))
     × IsUnderWay (symbols_of u) × ¬ IsUnderWay (symbols_of (u ++ s.event ∷ []))
     × ¬ HasHandshake (symbols_of events)
 
 -- When the answer of Flow::stop is right.
-abbrev pub IsStop : Option Stop → List Event → Type 0
+abbrev pub IsStop : Option Stop → List FlowEvent → Type 0
 IsStop (Some s) events = StopsAt s events
 IsStop None events = HasHandshake (symbols_of events) ⊎ IsUnderWay (symbols_of events)

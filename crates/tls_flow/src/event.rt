@@ -11,21 +11,21 @@ use tls_hs::TlsMessage;
 
 /// A message of a conversation, as far as a flow looks at it.
 #[derive(Clone, Copy, Debug, PartialEq)]
-pub struct Event {
+pub struct FlowEvent {
     /// Its kind, and the side it goes to.
     pub symbol: Symbol,
     /// The description of an alert; `None` for other messages.
     pub alert: Option<TlsAlertDescription>,
 }
 
-impl Event {
+impl FlowEvent {
     /// An event of this kind without an alert description.
     #[inline]
-    pub fn new(kind: Kind, direction: Direction) -> Event
+    pub fn new(kind: Kind, direction: Direction) -> FlowEvent
         ensures symbol { result.symbol ≡ symbol kind direction }
         ensures alert { result.alert ≡ None }
     {
-        Event {
+        FlowEvent {
             symbol: Symbol { kind, direction },
             alert: None,
         }
@@ -33,11 +33,11 @@ impl Event {
 
     /// The event of an alert in the clear.
     #[inline]
-    pub fn of_alert(alert: &TlsMessageAlert, direction: Direction) -> Event
+    pub fn of_alert(alert: &TlsMessageAlert, direction: Direction) -> FlowEvent
         ensures symbol { result.symbol ≡ symbol (kind_of_alert (view_alert alert.now)) direction }
         ensures alert { result.alert ≡ Some alert.now.code }
     {
-        Event {
+        FlowEvent {
             symbol: Symbol {
                 kind: Kind::of_alert(alert),
                 direction,
@@ -50,24 +50,24 @@ impl Event {
     /// type gives its kind; for a ServerHello the content does too. The kind is [`Kind::Unknown`]
     /// if the type isn't one that is parsed, or if a ServerHello is refused.
     #[inline]
-    pub fn of_handshake(message: &[u8], direction: Direction) -> Event
+    pub fn of_handshake(message: &[u8], direction: Direction) -> FlowEvent
         ensures symbol { result.symbol ≡ symbol (kind_of_bytes message.now) direction }
         ensures alert { result.alert ≡ None }
     {
-        Event::new(Kind::of_bytes(message), direction)
+        FlowEvent::new(Kind::of_bytes(message), direction)
     }
 
     /// The event of a parsed message that its sender sent before its ChangeCipherSpec; `to_server`
     /// is whether it goes to the server. After the ChangeCipherSpec use [`Kind::Encrypted`],
     /// whatever the bytes look like.
     #[inline]
-    pub fn of(message: &TlsMessage<'_>, to_server: bool) -> Event
+    pub fn of(message: &TlsMessage<'_>, to_server: bool) -> FlowEvent
         ensures { result.symbol ≡ symbol_of message.now to_server }
     {
         let direction = Direction::of(to_server);
         match message {
-            TlsMessage::Alert(alert) => Event::of_alert(alert, direction),
-            _ => Event::new(Kind::of(message), direction),
+            TlsMessage::Alert(alert) => FlowEvent::of_alert(alert, direction),
+            _ => FlowEvent::new(Kind::of(message), direction),
         }
     }
 }

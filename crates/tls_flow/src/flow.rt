@@ -5,13 +5,13 @@ ghost use Rattle.tls_flow.specs.Symbols.{symbols_of};
 ghost use Rattle.tls_flow.specs.Steps.{silence, follow};
 ghost use Rattle.tls_flow.specs.Table.{outcome_at, awaited_in};
 ghost use Rattle.tls_words.specs.Words.{run as run_of};
-ghost use Rattle.tls_flow.specs.declared.event.Event.{Event};
+ghost use Rattle.tls_flow.specs.declared.event.FlowEvent.{FlowEvent};
 ghost use Rattle.tls_flow.specs.declared.symbol.Symbol.{Symbol};
 ghost use Rattle.tls_flow.specs.declared.flow.Flow.{Flow};
 ghost use Rattle.tls_flow.specs.declared.state.Outcome.{Outcome};
 ghost use Rattle.tls_flow.specs.declared.table.TheConstants.{ROWS};
 
-use crate::event::Event;
+use crate::event::FlowEvent;
 use crate::state::{Outcome, State};
 use crate::step::{is_failed, is_waiting};
 use crate::symbol::Symbol;
@@ -21,7 +21,7 @@ use crate::table::{awaited, next_state};
 #[derive(Clone, Copy, Debug, PartialEq)]
 pub struct Stop {
     /// The fatal alert, the unknown message, or the first message that didn't fit.
-    pub event: Event,
+    pub event: FlowEvent,
     /// How many events came before it, saturating at 2^64 - 1.
     pub place: u64,
 }
@@ -91,7 +91,8 @@ impl Flow {
     /// Empty unless the outcome is [`Outcome::Waiting`].
     pub fn awaited(&self) -> &'static [Symbol]
         ensures rows { result.now ≡ awaited_in ROWS self.now.state }
-        ensures told { (events : List Event) → self.now ≡ run_of follow silence events → (l : Symbol)
+        ensures told { (events : List FlowEvent) → self.now ≡ run_of follow silence events
+            → (l : Symbol)
             → Contains result.now l ↔ IsAwaited l (symbols_of events) }
     {
         awaited(self.state)
@@ -99,7 +100,7 @@ impl Flow {
 
     /// Adds one event. After the end of the handshake it only counts the event.
     #[inline]
-    pub fn update(&mut self, event: Event)
+    pub fn update(&mut self, event: FlowEvent)
         ensures { self.new ≡ follow self.old event }
     {
         if is_waiting(self.state) {
@@ -128,7 +129,7 @@ impl Flow {
     ///   were stopped by such a message.
     ///
     /// [`Flow::stop`] is the event that made it one of the last three, and how many came before it.
-    pub fn run(&mut self, events: &[Event])
+    pub fn run(&mut self, events: &[FlowEvent])
         ensures by_steps { self.new ≡ run_of follow self.old events.now }
         ensures told { self.old ≡ silence → (o : Outcome) → (outcome_at self.new.state ≡ o)
             ↔ IsOutcome o (symbols_of events.now) }
@@ -141,7 +142,7 @@ impl Flow {
 }
 
 /// The outcome of a whole conversation. Exactly one outcome holds for each.
-pub fn outcome_of(events: &[Event]) -> Outcome
+pub fn outcome_of(events: &[FlowEvent]) -> Outcome
     ensures told { IsOutcome result (symbols_of events.now) }
     ensures alone { (o : Outcome) → IsOutcome o (symbols_of events.now) → o ≡ result }
 {

@@ -5,18 +5,18 @@
 //! (`specs/Grammar.antt` and `specs/Conversations.antt`), which has no states. The table of
 //! transitions is proved to agree with it.
 //!
-//! What a side sends becomes an [`Event`]:
+//! What a side sends becomes a [`FlowEvent`]:
 //!
 //! | sent | event |
 //! |---|---|
-//! | a whole TLS handshake message in the clear | `Event::of_handshake(bytes, direction)` |
-//! | a [`HandshakeMessage`] that is already parsed | `Event::new(message.kind(), direction)` |
-//! | a whole DTLS handshake message, up to 1.2 | `Event::new(Kind::of_type(msg_type), direction)` |
-//! | an alert in the clear | `Event::of_alert(&alert, direction)` |
+//! | a whole TLS handshake message in the clear | `FlowEvent::of_handshake(bytes, direction)` |
+//! | a [`HandshakeMessage`] that is already parsed | `FlowEvent::new(message.kind(), direction)` |
+//! | a whole DTLS handshake message, up to 1.2 | `FlowEvent::new(Kind::of_type(msg_type), direction)` |
+//! | an alert in the clear | `FlowEvent::of_alert(&alert, direction)` |
 //! | a ChangeCipherSpec, a heartbeat | `Kind::ChangeCipherSpec`, `Kind::Heartbeat` |
 //! | an encrypted record: after a ChangeCipherSpec, or application data | `Kind::Encrypted` |
 //! | a record or message that is refused | `Kind::Unknown` |
-//! | a parsed message | `Event::of(&message, to_server)` |
+//! | a parsed message | `FlowEvent::of(&message, to_server)` |
 //!
 //! A DTLS message is one event, whatever the order of its fragments.
 #![tactic(auto)]
@@ -32,7 +32,7 @@ mod step;
 mod symbol;
 mod table;
 
-pub use event::Event;
+pub use event::FlowEvent;
 pub use flow::{Flow, Stop, outcome_of};
 pub use handshake::{HandshakeMessage, ReadServerHello};
 pub use message::{picks_tls13, symbol_of};

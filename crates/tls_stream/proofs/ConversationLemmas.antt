@@ -40,7 +40,7 @@ use Rattle.tls_words.specs.Words.{run}
 use Rattle.tls_words.proofs.MachineLemmas.{run_on}
 use Rattle.tls_flow.specs.Steps.{follow}
 use Rattle.tls_flow.specs.Table.{outcome_at}
-use Rattle.tls_flow.specs.declared.event.Event.{Event}
+use Rattle.tls_flow.specs.declared.event.FlowEvent.{FlowEvent}
 use Rattle.tls_flow.specs.declared.symbol.Direction.{Direction as Side}
 use Rattle.tls_flow.specs.declared.symbol.Direction.TheVariants.{ToServer, FromServer}
 use Rattle.tls_flow.proofs.FlowLemmas.{told_of_flow}
@@ -64,7 +64,7 @@ use Rattle.tls_stream.specs.Conversations.{
 use Rattle.tls_stream.specs.Ears.{IsReady, IsTaken, first_in, front_of, says}
 use Rattle.tls_stream.specs.FlowEvents.{chooses_tls13, event_of}
 use Rattle.tls_stream.specs.declared.conversation.Conversation.{Conversation}
-use Rattle.tls_stream.specs.declared.ear.Ear.{Ear}
+use Rattle.tls_stream.specs.declared.side_reader.SideReader.{SideReader}
 
 -- The flow follows what a side says.
 flow_said : (c d : Conversation) (s : Side) (vs : List Said) → Says c s vs d
@@ -73,7 +73,8 @@ flow_said c d s [] h = ap (λ (x : Conversation). x.flow) h.1
 flow_said c d s (v ∷ vs) h =
     flow_said h.0 d s vs h.2 ∙ ap (λ f. run follow f (map (event_of s) vs)) h.1.flow
 
-pub flow_heard : (c d : Conversation) (ps : List (Side × Bytes)) (es : List Event) → Hears c ps es d
+pub flow_heard : (c d : Conversation) (ps : List (Side × Bytes)) (es : List FlowEvent)
+    → Hears c ps es d
     → d.flow ≡ run follow c.flow es
 flow_heard c d [] es h = ap (λ (x : Conversation). x.flow) h.1 ∙ ap (run follow c.flow) (sym h.0)
 flow_heard c d (p ∷ ps) es h =
@@ -84,10 +85,10 @@ flow_heard c d (p ∷ ps) es h =
     ∙ ap (run follow c.flow) (sym h.4)
 
 -- One more piece.
-pub one_more : (c d e : Conversation) (ps : List (Side × Bytes)) (es : List Event) (s : Side)
+pub one_more : (c d e : Conversation) (ps : List (Side × Bytes)) (es : List FlowEvent) (s : Side)
     (p : Bytes)
     → Hears c ps es d → IsHeard d s p e
-    → (fs : List Event) × Hears c (ps ++ (s, p) ∷ []) fs e
+    → (fs : List FlowEvent) × Hears c (ps ++ (s, p) ∷ []) fs e
 one_more c d e [] es s p h last = (
   map (event_of s) last.1 ++ [],
   (last.0, e, last.1, [], refl, subst (λ x. IsFedBy x s p last.0) h.1 last.2, last.3, (refl, refl)),
@@ -96,7 +97,7 @@ one_more c d e (q ∷ ps) es s p h last =
     let k = one_more h.1 d e ps h.3 s p h.7 last in
     (map (event_of q.0) h.2 ++ k.0, (h.0, h.1, h.2, k.0, refl, h.5, h.6, k.1))
 
-pub outcome_is : (c d : Conversation) (limit : ℕ) (ps : List (Side × Bytes)) (es : List Event)
+pub outcome_is : (c d : Conversation) (limit : ℕ) (ps : List (Side × Bytes)) (es : List FlowEvent)
     → IsBegun limit c
     → Hears c ps es d
     → IsOutcomeOf (outcome_at d.flow.state) limit ps
@@ -108,12 +109,12 @@ outcome_is c d limit ps es begun h = (
 )
 
 -- An event is taken from a side and followed.
-each_told : (c d : Conversation) (e : Event) → IsFollowed c e d → (s : Side)
+each_told : (c d : Conversation) (e : FlowEvent) → IsFollowed c e d → (s : Side)
     → IsToldIf (tells c e) (ear c s) (ear d s)
 each_told c d e f ToServer = f.client
 each_told c d e f FromServer = f.server
 
-pub behind_is : (c m d : Conversation) (s : Side) (v : Said) (e : Event) (t : Bool)
+pub behind_is : (c m d : Conversation) (s : Side) (v : Said) (e : FlowEvent) (t : Bool)
     → Some v ≡ front_of (ear c s) → e ≡ event_of s v
     → IsTaken (front_of (ear c s)) (ear c s) t (ear m s)
     → ear m (other s) ≡ ear c (other s) → m.is_tls13 ≡ c.is_tls13 → m.flow ≡ c.flow
@@ -122,7 +123,7 @@ pub behind_is : (c m d : Conversation) (s : Side) (v : Said) (e : Event) (t : Bo
 behind_is c m d s v e t front is off same tls flow f =
     let tells_same : tells m e ≡ tells c (event_of s v)
     = ap (λ b. not b && chooses_tls13 e.symbol.kind e.symbol.direction) tls
-    ∙ ap (λ (x : Event). not c.is_tls13 && chooses_tls13 x.symbol.kind x.symbol.direction) is in
+    ∙ ap (λ (x : FlowEvent). not c.is_tls13 && chooses_tls13 x.symbol.kind x.symbol.direction) is in
     let told : (r : Side) → IsToldIf (tells c (event_of s v)) (ear m r) (ear d r)
     = λ r. subst (λ t. IsToldIf t (ear m r) (ear d r)) tells_same (each_told m d e f r) in
     let first : IsTaken (Some v) (ear c s) t (ear m s) =
@@ -138,7 +139,8 @@ behind_is c m d s v e t front is off same tls flow f =
       },
     )
 
-pub at_client : (c m d : Conversation) (s : Side) (v : Said) (e : Event) (t : Bool) (n : Ear)
+pub at_client : (c m d : Conversation) (s : Side) (v : Said) (e : FlowEvent) (t : Bool)
+    (n : SideReader)
     → s ≡ ToServer
     → m ≡ record c { client = n }
     → Some v ≡ front_of (ear c s) → e ≡ event_of s v → IsTaken (front_of c.client) c.client t n
@@ -154,7 +156,8 @@ at_client c m d s v e t n at is front e_is off f =
     (ap (λ (x : Conversation). x.flow) is) f)
     front e_is
 
-pub at_server : (c m d : Conversation) (s : Side) (v : Said) (e : Event) (t : Bool) (n : Ear)
+pub at_server : (c m d : Conversation) (s : Side) (v : Said) (e : FlowEvent) (t : Bool)
+    (n : SideReader)
     → s ≡ FromServer
     → m ≡ record c { server = n }
     → Some v ≡ front_of (ear c s) → e ≡ event_of s v → IsTaken (front_of c.server) c.server t n
@@ -171,7 +174,8 @@ at_server c m d s v e t n at is front e_is off f =
     front e_is
 
 -- A side's next event was taken and followed.
-pub client_taken : (c m d : Conversation) (s : Side) (e : Event) (t : Bool) (n : Ear) → s ≡ ToServer
+pub client_taken : (c m d : Conversation) (s : Side) (e : FlowEvent) (t : Bool) (n : SideReader)
+    → s ≡ ToServer
     → m ≡ record c { client = n } → IsTaken (front_of c.client) c.client t n → t ≡ true
     → IsFollowed m e d
     → IsEventOf e s (front_of (ear c s)) → IsTakenBy (front_of (ear c s)) c s true d
@@ -187,7 +191,7 @@ client_taken c m d s e t n at is off took f same =
         at_client c m d ToServer v e t n refl is (sym front)
         (subst (IsEventOf e ToServer) front same) off f
 
-pub server_taken : (c m d : Conversation) (s : Side) (e : Event) (t : Bool) (n : Ear)
+pub server_taken : (c m d : Conversation) (s : Side) (e : FlowEvent) (t : Bool) (n : SideReader)
     → s ≡ FromServer
     → m ≡ record c { server = n } → IsTaken (front_of c.server) c.server t n → t ≡ true
     → IsFollowed m e d
@@ -206,7 +210,7 @@ server_taken c m d s e t n at is off took f same =
         (subst (IsEventOf e FromServer) front same) off f
 
 -- The side has no next event.
-pub client_silent : (c m : Conversation) (s : Side) (t : Bool) (n : Ear) → s ≡ ToServer
+pub client_silent : (c m : Conversation) (s : Side) (t : Bool) (n : SideReader) → s ≡ ToServer
     → m ≡ record c { client = n } → IsTaken (front_of c.client) c.client t n → t ≡ false
     → IsTakenBy (front_of (ear c s)) c s false m
 client_silent c m s t n at is off none =
@@ -216,7 +220,7 @@ client_silent c m s t n at is off none =
     by None off = (refl, is ∙ ap (λ x. record c { client = x }) off.1)
     by (Some v) off = let bad : true ≡ false = sym off.0 ∙ none in absurd cc
 
-pub server_silent : (c m : Conversation) (s : Side) (t : Bool) (n : Ear) → s ≡ FromServer
+pub server_silent : (c m : Conversation) (s : Side) (t : Bool) (n : SideReader) → s ≡ FromServer
     → m ≡ record c { server = n } → IsTaken (front_of c.server) c.server t n → t ≡ false
     → IsTakenBy (front_of (ear c s)) c s false m
 server_silent c m s t n at is off none =
@@ -260,7 +264,7 @@ on_done c m n s t on none taken = go (front_of (ear m s)) refl taken
     go (Some v) is taken = let e : true ≡ false = sym taken.0 ∙ none in absurd cc
 
 -- Once TLS 1.3 is chosen, taking an event leaves one fewer.
-same_count : (c : Conversation) (e : Event) (a b : Ear) → c.is_tls13 ≡ true
+same_count : (c : Conversation) (e : FlowEvent) (a b : SideReader) → c.is_tls13 ≡ true
     → IsToldIf (tells c e) a b
     → says a [] ≡ says b []
 same_count c e a b told same =
@@ -329,7 +333,7 @@ still_told m n s t told taken = still_by (front_of (ear m s)) m n s t told taken
 
 -- These pieces arrived from the beginning.
 abbrev pub AreHeard : ℕ → List (Side × Bytes) → Conversation → Type 0
-AreHeard limit ps d = (c : Conversation) × (es : List Event) × IsBegun limit c × Hears c ps es d
+AreHeard limit ps d = (c : Conversation) × (es : List FlowEvent) × IsBegun limit c × Hears c ps es d
 
 pub none_heard : (limit : ℕ) (c : Conversation) → IsBegun limit c → AreHeard limit [] c
 none_heard limit c begun = (c, [], begun, (refl, refl))

@@ -32,17 +32,17 @@ use Rattle.tls_stream.specs.Events.{
   with_more,
   none_behind,
 }
-use Rattle.tls_stream.specs.declared.direction.Direction.{Direction}
+use Rattle.tls_stream.specs.declared.event_reader.EventReader.{EventReader}
 use Rattle.tls_stream.specs.declared.stream.Stream.{Stream}
 use Rattle.tls_stream.specs.declared.fault.Fault.{Fault}
 use Rattle.tls_stream.proofs.EventLemmas.{same_joined}
 use Rattle.tls_stream.proofs.StreamLemmas as streams
 
-abbrev with_stream : Direction → Stream → Direction
+abbrev with_stream : EventReader → Stream → EventReader
 with_stream d s = record d { stream = s }
 
 -- Feeding two pieces.
-pub fed_twice : (d : Direction) (s t : Bytes) → fed (fed d s) t ≡ fed d (s ++ t)
+pub fed_twice : (d : EventReader) (s t : Bytes) → fed (fed d s) t ≡ fed d (s ++ t)
 fed_twice d s t = ap (with_stream d) (go d.fault)
   where
     go : (f : Option Fault) → with_more f (with_more f d.stream s) t ≡ with_more f d.stream (s ++ t)
@@ -50,7 +50,7 @@ fed_twice d s t = ap (with_stream d) (go d.fault)
     go None = ap (λ u. record d.stream { held = record { part = d.stream.held.part; unread = u } })
         (append_assoc d.stream.held.unread s t)
 
-pub fed_nothing : (d : Direction) → fed d [] ≡ d
+pub fed_nothing : (d : EventReader) → fed d [] ≡ d
 fed_nothing d = ap (with_stream d) (go d.fault)
   where
     go : (f : Option Fault) → with_more f d.stream [] ≡ d.stream
@@ -58,26 +58,26 @@ fed_nothing d = ap (with_stream d) (go d.fault)
     go None = ap (λ u. record d.stream { held = record { part = d.stream.held.part; unread = u } })
         (append-nil d.stream.held.unread)
 
-fed_is : (d : Direction) (ps : List Bytes) → fed_all d ps ≡ fed d (concat ps)
+fed_is : (d : EventReader) (ps : List Bytes) → fed_all d ps ≡ fed d (concat ps)
 fed_is d [] = sym (fed_nothing d)
 fed_is d (p ∷ ps) = fed_is (fed d p) ps ∙ fed_twice d p (concat ps)
 
-pub fed_joined : (d : Direction) (ps qs : List Bytes) → concat ps ≡ concat qs
+pub fed_joined : (d : EventReader) (ps qs : List Bytes) → concat ps ≡ concat qs
     → fed_all d ps ≡ fed_all d qs
 fed_joined d ps qs same = fed_is d ps ∙ ap (fed d) same ∙ sym (fed_is d qs)
 
 -- By whether the direction is at fault.
-pub events_at_fault : (d : Direction) (f : Fault) (s : Bytes) → d.fault ≡ Some f
+pub events_at_fault : (d : EventReader) (f : Fault) (s : Bytes) → d.fault ≡ Some f
     → events (fed d s) ≡ Failed f ∷ []
 events_at_fault d f s e =
     ap (λ (o : Option Fault). events (record { stream = with_more o d.stream s; fault = o })) e
 
-pub events_before : (d : Direction) (s : Bytes) → d.fault ≡ None
+pub events_before : (d : EventReader) (s : Bytes) → d.fault ≡ None
     → events (fed d s) ≡ stream.events (stream.fed d.stream s)
 events_before d s e =
     ap (λ (o : Option Fault). events (record { stream = with_more o d.stream s; fault = o })) e
 
-pub same_streams : (d : Direction) (x y : Bytes)
+pub same_streams : (d : EventReader) (x y : Bytes)
     → joined_items (items_with d x) ≡ joined_items (items_with d y)
     → events (fed d x) ≡ events (fed d y)
 same_streams d x y same = go d.fault refl
@@ -91,7 +91,7 @@ same_streams d x y same = go d.fault refl
         ∙ sym (events_before d y e)
 
 -- The next event is the first of all.
-pub first_event : (d e : Direction) (v : Event) (s : Bytes) → first d ≡ Some (v, e)
+pub first_event : (d e : EventReader) (v : Event) (s : Bytes) → first d ≡ Some (v, e)
     → events (fed d s) ≡ v ∷ events (fed e s)
 first_event d e v s is = go d.fault refl is
   where
@@ -100,23 +100,24 @@ first_event d e v s is = go d.fault refl is
         → stream.events (stream.fed d.stream s) ≡ v ∷ events (fed e s)
     one None f g = absurd cc
     one (Some x) f g =
-        let same : ◌≡◌ {A = Event × Direction} (x.0, record { stream = x.1; fault = None }) (v, e) =
+        let same : ◌≡◌ {A = Event × EventReader}
+        (x.0, record { stream = x.1; fault = None }) (v, e) =
         cc in
         streams.first_event d.stream x.1 x.0 s f
-        ∙ ap (λ (p : Event × Direction). p.0 ∷ events (fed p.1 s)) same
+        ∙ ap (λ (p : Event × EventReader). p.0 ∷ events (fed p.1 s)) same
 
     go : (o : Option Fault) → d.fault ≡ o → none_behind o (stream.first d.stream) ≡ Some (v, e)
         → events (fed d s) ≡ v ∷ events (fed e s)
     go (Some f) h g = absurd cc
     go None h g = events_before d s h ∙ one (stream.first d.stream) refl g
 
-abbrev event_in : Option (Event × Direction) → Option Event
-event_in a = option_map (λ (x : Event × Direction). x.0) a
+abbrev event_in : Option (Event × EventReader) → Option Event
+event_in a = option_map (λ (x : Event × EventReader). x.0) a
 
 -- The next event, if the direction isn't at fault.
-pub front_before : (d : Direction) → d.fault ≡ None
+pub front_before : (d : EventReader) → d.fault ≡ None
     → option_map (λ (x : Event × Stream). x.0) (stream.first d.stream)
-    ≡ option_map (λ (x : Event × Direction). x.0) (first d)
+    ≡ option_map (λ (x : Event × EventReader). x.0) (first d)
 front_before d e = go (stream.first d.stream)
     ∙ ap (λ o. event_in (none_behind o (stream.first d.stream))) (sym e)
   where

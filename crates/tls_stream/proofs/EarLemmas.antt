@@ -25,45 +25,45 @@ use Rattle.std.specs.Prelude.{IsSome, option_map}
 use Rattle.layouts.specs.Bytes.{Bytes}
 use Rattle.tls_stream.specs.Item.{Event as Said, Failed}
 use Rattle.tls_stream.specs.Stream.{FirstTaken}
-use Rattle.tls_stream.specs.Events.{IsReady as IsMadeReady, SaysOnly, SaysTheSame, events, fed, first, told_tls13}
-use Rattle.tls_stream.specs.declared.direction.Direction.{Direction}
+use Rattle.tls_stream.specs.Events.{IsReady as IsMadeReady, SaysOnly, SaysTheSame, events, fed, first, switched_to_tls13}
+use Rattle.tls_stream.specs.declared.event_reader.EventReader.{EventReader}
 use Rattle.tls_stream.specs.declared.fault.Fault.{Fault}
 use Rattle.tls_stream.proofs.DirectionLemmas.{fed_nothing, fed_twice, first_event}
 use Rattle.tls_stream.specs.Ears.{IsFed, IsFirst, IsReady, IsTaken, SaysAs, first_in, front_of, says}
-use Rattle.tls_stream.specs.declared.ear.Ear.{Ear}
-use Rattle.tls_stream.specs.declared.ear.Standing.{Standing}
-use Rattle.tls_stream.specs.declared.ear.Standing.TheVariants.{Speaks, AtFault, Over}
+use Rattle.tls_stream.specs.declared.side_reader.SideReader.{SideReader}
+use Rattle.tls_stream.specs.declared.side_reader.Standing.{Standing}
+use Rattle.tls_stream.specs.declared.side_reader.Standing.TheVariants.{Speaks, AtFault, Over}
 
-abbrev pub speaking : Direction → Ear
+abbrev pub speaking : EventReader → SideReader
 speaking d = record { direction = d; standing = Speaks }
 
-abbrev pub faulty : Direction → Fault → Ear
+abbrev pub faulty : EventReader → Fault → SideReader
 faulty d f = record { direction = d; standing = AtFault f }
 
 -- Nothing follows.
-pub none_to_come : (d : Direction) → events (fed d []) ≡ events d
+pub none_to_come : (d : EventReader) → events (fed d []) ≡ events d
 none_to_come d = ap events (fed_nothing d)
 
 -- A direction that was made ready.
-pub same_waits : (d n : Direction) → SaysTheSame n d → SaysAs (speaking d) (speaking n)
+pub same_waits : (d n : EventReader) → SaysTheSame n d → SaysAs (speaking d) (speaking n)
 same_waits d n same t = sym (same t)
 
-pub same_fails : (d n m : Direction) (f : Fault) → SaysTheSame n d → SaysOnly n (Failed f ∷ [])
+pub same_fails : (d n m : EventReader) (f : Fault) → SaysTheSame n d → SaysOnly n (Failed f ∷ [])
     → SaysAs (speaking d) (faulty m f)
 same_fails d n m f same only t = sym (same t) ∙ only t
 
-pub ready_some : (d : Direction) → IsSome (first d) → IsReady (speaking d)
+pub ready_some : (d : EventReader) → IsSome (first d) → IsReady (speaking d)
 ready_some d some = go (first d) refl some
   where
-    go : (a : Option (Said × Direction)) → first d ≡ a → IsSome a
+    go : (a : Option (Said × EventReader)) → first d ≡ a → IsSome a
         → first_in (events (fed d [])) ≡ option_map (λ x. x.0) a
     go None is some = absurd cc
     go (Some x) is some = ap first_in (first_event d x.1 x.0 [] is)
 
-pub ready_none : (d : Direction) → events d ≡ [] → IsReady (speaking d)
+pub ready_none : (d : EventReader) → events d ≡ [] → IsReady (speaking d)
 ready_none d none = go (first d) refl
   where
-    go : (a : Option (Said × Direction)) → first d ≡ a
+    go : (a : Option (Said × EventReader)) → first d ≡ a
         → first_in (events (fed d [])) ≡ option_map (λ x. x.0) a
     go None is = ap first_in (none_to_come d ∙ none)
     go (Some x) is =
@@ -72,19 +72,20 @@ ready_none d none = go (first d) refl
         absurd cc
 
 -- Another piece.
-pub fed_more : (d : Direction) (p t : Bytes) → events (fed d (p ++ t)) ≡ events (fed (fed d p) t)
+pub fed_more : (d : EventReader) (p t : Bytes) → events (fed d (p ++ t)) ≡ events (fed (fed d p) t)
 fed_more d p t = ap events (sym (fed_twice d p t))
 
-pub fed_is : (d n : Direction) (p : Bytes) (e : Ear) → n ≡ fed d p → SaysAs (speaking n) e
+pub fed_is : (d n : EventReader) (p : Bytes) (e : SideReader) → n ≡ fed d p → SaysAs (speaking n) e
     → IsFed (speaking d) p e
 fed_is d n p e is same t = fed_more d p t ∙ ap (λ m. events (fed m t)) (sym is) ∙ same t
 
 -- The next event is taken.
-pub taken_is : (d n : Direction) (e : Ear) → FirstTaken (first d) d true n → SaysAs (speaking n) e
+pub taken_is : (d n : EventReader) (e : SideReader) → FirstTaken (first d) d true n
+    → SaysAs (speaking n) e
     → IsTaken (front_of (speaking d)) (speaking d) true e
 taken_is d n e off same = go (first d) refl off
   where
-    go : (a : Option (Said × Direction)) → first d ≡ a → FirstTaken a d true n
+    go : (a : Option (Said × EventReader)) → first d ≡ a → FirstTaken a d true n
         → IsTaken (option_map (λ x. x.0) a) (speaking d) true e
     go None is off = let t : true ≡ false = off.0 in absurd cc
     go (Some x) is off = (
@@ -93,30 +94,31 @@ taken_is d n e off same = go (first d) refl off
           ∙ ap (λ vs. x.0 ∷ vs) (same t),
     )
 
-pub none_taken : (d n : Direction) → FirstTaken (first d) d false n
+pub none_taken : (d n : EventReader) → FirstTaken (first d) d false n
     → IsTaken (front_of (speaking d)) (speaking d) false (speaking n)
 none_taken d n off = go (first d) off
   where
-    go : (a : Option (Said × Direction)) → FirstTaken a d false n
+    go : (a : Option (Said × EventReader)) → FirstTaken a d false n
         → IsTaken (option_map (λ x. x.0) a) (speaking d) false (speaking n)
     go None off = (refl, ap speaking off.1)
     go (Some x) off = let t : false ≡ true = off.0 in absurd cc
 
 -- By the side's standing.
-pub ready_by : (s : Standing) (d : Direction) (b : Bool) → s ≡ Speaks → IsMadeReady d (Ok b)
+pub ready_by : (s : Standing) (d : EventReader) (b : Bool) → s ≡ Speaks → IsMadeReady d (Ok b)
     → IsReady (record { direction = d; standing = s })
 ready_by s d true is h =
     subst (λ s. IsReady (record { direction = d; standing = s })) (sym is) (ready_some d h)
 ready_by s d false is h =
     subst (λ s. IsReady (record { direction = d; standing = s })) (sym is) (ready_none d h)
 
-pub ready_silent : (s : Standing) (d : Direction) → (s ≡ Speaks → ⊥)
+pub ready_silent : (s : Standing) (d : EventReader) → (s ≡ Speaks → ⊥)
     → IsReady (record { direction = d; standing = s })
 ready_silent Speaks d other = absurd (other refl)
 ready_silent (AtFault f) d other = refl
 ready_silent Over d other = refl
 
-pub taken_by : (s : Standing) (d n : Direction) (e : Ear) (t : Bool) → s ≡ Speaks → t ≡ true
+pub taken_by : (s : Standing) (d n : EventReader) (e : SideReader) (t : Bool)
+    → s ≡ Speaks → t ≡ true
     → FirstTaken (first d) d t n
     → SaysAs (record { direction = n; standing = s }) e
     → IsTaken (front_of (record { direction = d; standing = s }))
@@ -132,7 +134,7 @@ taken_by s d n e t is took off same =
     (record { direction = d; standing = s })
     true e) (sym is) at)
 
-pub kept_ready : (s : Standing) (d n : Direction) (t : Bool) → t ≡ false
+pub kept_ready : (s : Standing) (d n : EventReader) (t : Bool) → t ≡ false
     → FirstTaken (first d) d t n
     → IsReady (record { direction = d; standing = s })
     → IsReady (record { direction = n; standing = s })
@@ -140,7 +142,7 @@ kept_ready s d n t none off ready =
     subst (λ m. IsReady (record { direction = m; standing = s }))
     (sym (is (first d) (subst (λ t. FirstTaken (first d) d t n) none off))) ready
   where
-    is : (a : Option (Said × Direction)) → FirstTaken a d false n → n ≡ d
+    is : (a : Option (Said × EventReader)) → FirstTaken a d false n → n ≡ d
     is None off = off.1
     is (Some x) off = let t : false ≡ true = off.0 in absurd cc
 

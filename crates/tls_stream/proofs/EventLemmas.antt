@@ -90,7 +90,8 @@ module _ (limit kind : ℕ) where
       go (k == kind) (message_first (b ++ f) (x.0, x.1 ++ f) (front_stays shape b f x e) is)
     where
       go : (t : Bool)
-          → events_of limit kind (b ++ f) is ≡ event_of kind x.0 ∷ events_of limit kind (x.1 ++ f) is
+          → events_of limit kind (b ++ f) is ≡ event_of kind x.0 ∷ events_of limit kind
+          (x.1 ++ f) is
           → cond t (events_of limit kind (b ++ f) is)
           (said limit kind b ++ closed shape (open_part limit kind b) (events_of limit k f is))
           ≡ event_of kind x.0 ∷ cond t (events_of limit kind (x.1 ++ f) is)

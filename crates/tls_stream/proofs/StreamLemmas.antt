@@ -400,7 +400,11 @@ message_length d y e =
     go true h = omega
         (arith, h, ap length (some_front (messages_of d.limit d.kind) d.held.part y (sym e)).2)
     go false h =
-        omega (arith, h, ap length (some_front (messages_of d.limit d.kind) d.held.part y (sym e)).2)
+        omega (
+          arith,
+          h,
+          ap length (some_front (messages_of d.limit d.kind) d.held.part y (sym e)).2,
+        )
 
 pub message_within : (d : Stream) (y : Bytes)
     → Some y ≡ frame_of (front (messages_of d.limit d.kind) d.held.part)

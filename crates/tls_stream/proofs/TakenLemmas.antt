@@ -54,7 +54,7 @@ use Rattle.tls_stream.specs.Item.{
 use Rattle.tls_stream.specs.Stream.{FirstTaken}
 use Rattle.tls_stream.specs.Events.{SaysOnly, SaysTheSame, events, fed, first, silent}
 use Rattle.tls_stream.specs.Taken.{AreTaken, IsOver, TakesSame, handshake_in, handshakes, message_in, with_those_of}
-use Rattle.tls_stream.specs.declared.direction.Direction.{Direction}
+use Rattle.tls_stream.specs.declared.event_reader.EventReader.{EventReader}
 use Rattle.tls_stream.specs.declared.fault.Fault.{Fault}
 use Rattle.tls_stream.specs.Messages.{messages_of}
 use Rattle.tls_stream.proofs.EventLemmas.{takes}
@@ -63,14 +63,14 @@ use Rattle.tls_stream.proofs.StreamLemmas.{nothing}
 use Rattle.tls_stream.proofs.DirectionLemmas.{fed_nothing, fed_twice, first_event}
 
 -- What the next event is.
-pub record IsTakenOff (d : Direction) (e : Event) (new : Direction) : Type 0 where
+pub record IsTakenOff (d : EventReader) (e : Event) (new : EventReader) : Type 0 where
   pub says : (s : Bytes) → events (fed d s) ≡ e ∷ events (fed new s)
 
-pub taken_off : (d new : Direction) (t : Bool) → IsSome (first d) → FirstTaken (first d) d t new
+pub taken_off : (d new : EventReader) (t : Bool) → IsSome (first d) → FirstTaken (first d) d t new
     → (e : Event) × (option_map (λ x. x.0) (first d) ≡ Some e) × IsTakenOff d e new
 taken_off d new t some off = go (first d) refl some off
   where
-    go : (a : Option (Event × Direction)) → first d ≡ a → IsSome a → FirstTaken a d t new
+    go : (a : Option (Event × EventReader)) → first d ≡ a → IsSome a → FirstTaken a d t new
         → (e : Event) × (option_map (λ x. x.0) a ≡ Some e) × IsTakenOff d e new
     go None is some off = absurd cc
     go (Some x) is some off = (
@@ -83,7 +83,7 @@ taken_off d new t some off = go (first d) refl some off
     )
 
 -- One more event was taken.
-one_off : (taken taken' : List Bytes) (d new : Direction) (e : Event) → IsTakenOff d e new
+one_off : (taken taken' : List Bytes) (d new : EventReader) (e : Event) → IsTakenOff d e new
     → taken' ≡ taken ++ message_in e → TakesSame taken d taken' new
 one_off taken taken' d new e off more s =
     ap (λ es. taken ++ handshakes es) (off.says s)
@@ -109,7 +109,7 @@ none_is (Encrypted b) h = refl
 none_is (Failed f) h = refl
 
 pub message_off : (taken : List (Vec ℕ)) (now : List (Vec ℕ)) (v : Vec ℕ) (m : Bytes)
-    (d new : Direction) (t : Bool)
+    (d new : EventReader) (t : Bool)
     → IsSome (first d) → FirstTaken (first d) d t new
     → Some m ≡ handshake_in (option_map (λ x. x.0) (first d))
     → now ≡ taken ++ v ∷ [] → v.items ≡ m
@@ -122,7 +122,7 @@ message_off taken now v m d new t some off front pushed same =
     ∙ ap (λ b. elements taken ++ b ∷ []) same
     ∙ ap (λ e. elements taken ++ message_in e) (sym is))
 
-pub other_off : (taken : List Bytes) (d new : Direction) (t : Bool) → IsSome (first d)
+pub other_off : (taken : List Bytes) (d new : EventReader) (t : Bool) → IsSome (first d)
     → FirstTaken (first d) d t new
     → None ≡ handshake_in (option_map (λ x. x.0) (first d)) → TakesSame taken d taken new
 other_off taken d new t some off front =
@@ -130,7 +130,7 @@ other_off taken d new t some off front =
     one_off taken taken d new x.0 x.2 (sym (append-nil taken)
     ∙ ap (λ m. taken ++ m) (sym (none_is x.0 (front ∙ ap handshake_in x.1))))
 
-pub fewer_off : (d new : Direction) (t : Bool) → IsSome (first d) → FirstTaken (first d) d t new
+pub fewer_off : (d new : EventReader) (t : Bool) → IsSome (first d) → FirstTaken (first d) d t new
     → length (events (fed new [])) < length (events (fed d []))
 fewer_off d new t some off =
     let x = taken_off d new t some off in
@@ -138,32 +138,33 @@ fewer_off d new t some off =
     omega (arith, is)
 
 -- All events were taken.
-pub same_ready : (taken : List Bytes) (d new : Direction) → SaysTheSame new d
+pub same_ready : (taken : List Bytes) (d new : EventReader) → SaysTheSame new d
     → TakesSame taken d taken new
 same_ready taken d new same s = ap (λ es. taken ++ handshakes es) (sym (same s))
 
-pub ended : (taken all : List Bytes) (first_one d new : Direction) (f : Fault)
+pub ended : (taken all : List Bytes) (first_one d new : EventReader) (f : Fault)
     → TakesSame all first_one taken d
     → SaysTheSame new d → SaysOnly new (Failed f ∷ []) → AreTaken all first_one taken new true
 ended taken all first_one d new f was same only =
     record { same = λ s. was s ∙ same_ready taken d new same s; over = (f, only) }
 
-pub waits : (taken all : List Bytes) (first_one d new : Direction) → TakesSame all first_one taken d
+pub waits : (taken all : List Bytes) (first_one d new : EventReader)
+    → TakesSame all first_one taken d
     → SaysTheSame new d → events new ≡ [] → AreTaken all first_one taken new false
 waits taken all first_one d new was same none =
     record { same = λ s. was s ∙ same_ready taken d new same s; over = none }
 
-pub none_over : (d : Direction) (t : Bool) → IsOver d t → handshakes (events d) ≡ []
+pub none_over : (d : EventReader) (t : Bool) → IsOver d t → handshakes (events d) ≡ []
 none_over d true over = ap (λ k. handshakes (events k)) (sym (fed_nothing d))
     ∙ ap handshakes (over.1 [])
 none_over d false over = ap handshakes over
 
 -- The messages of x were taken from a new direction, and none of those still to come are lost.
-abbrev pub IsSaid : List Bytes → Direction → ℕ → Bytes → Type 0
+abbrev pub IsSaid : List Bytes → EventReader → ℕ → Bytes → Type 0
 IsSaid taken d limit x = (s : Bytes)
     → handshakes (events (fed (silent limit) (x ++ s))) ≡ with_those_of taken d s
 
-pub said_more : (x y : Bytes) (taken taken' : List Bytes) (d fed_d new : Direction) (limit : ℕ)
+pub said_more : (x y : Bytes) (taken taken' : List Bytes) (d fed_d new : EventReader) (limit : ℕ)
     → IsSaid taken d limit x
     → fed_d ≡ fed d y → TakesSame taken fed_d taken' new → IsSaid taken' new limit (x ++ y)
 said_more x y taken taken' d fed_d new limit was feeds takes s =
@@ -173,7 +174,8 @@ said_more x y taken taken' d fed_d new limit was feeds takes s =
     ∙ ap (λ k. taken ++ handshakes (events (fed k s))) (sym feeds)
     ∙ takes s
 
-pub said_all : (x : Bytes) (taken : List Bytes) (d : Direction) (limit : ℕ) → IsSaid taken d limit x
+pub said_all : (x : Bytes) (taken : List Bytes) (d : EventReader) (limit : ℕ)
+    → IsSaid taken d limit x
     → handshakes (events d) ≡ []
     → taken ≡ handshakes (events (fed (silent limit) x))
 said_all x taken d limit was none =
@@ -186,7 +188,7 @@ said_all x taken d limit was none =
 -- One more piece of a list.
 pub one_piece : (pieces : List (Bor (List ℕ))) (i : ℕ) (p : Bor (List ℕ))
     (taken taken' : List Bytes)
-    (d fed_d new : Direction)
+    (d fed_d new : EventReader)
     (limit : ℕ) → i < length pieces → IsSaid taken d limit (joined (take i pieces))
     → fed_d ≡ fed d (get_or pieces i p).now
     → TakesSame taken fed_d taken' new → IsSaid taken' new limit (joined (take (i + 1) pieces))
@@ -197,7 +199,7 @@ one_piece pieces i p taken taken' d fed_d new limit h was feeds takes =
 
 -- The direction is at fault: no message follows, whatever is fed.
 pub at_fault : (pieces : List (Bor (List ℕ))) (i : ℕ) (p : Bor (List ℕ)) (taken taken' : List Bytes)
-    (d fed_d new : Direction)
+    (d fed_d new : EventReader)
     (limit : ℕ) → i < length pieces → IsSaid taken d limit (joined (take i pieces))
     → fed_d ≡ fed d (get_or pieces i p).now
     → AreTaken taken fed_d taken' new true
@@ -227,7 +229,7 @@ silence limit =
     (λ l. let h : (messages_of limit 22).header ≤ 0 = l.has_header in
     omega (arith, h, takes limit 22))
 
-pub begun : (taken : List (Vec ℕ)) (d : Direction) (limit : ℕ) → taken ≡ [] → d ≡ silent limit
+pub begun : (taken : List (Vec ℕ)) (d : EventReader) (limit : ℕ) → taken ≡ [] → d ≡ silent limit
     → IsSaid (elements taken) d limit [] × (events d ≡ [])
 begun taken d limit none is = (
   λ s. sym (ap (λ t. elements t ++ handshakes (events (fed d s))) none
@@ -235,7 +237,7 @@ begun taken d limit none is = (
   ap events is ∙ silence limit,
 )
 
-pub at_end_all : (pieces : List (Bor (List ℕ))) (i : ℕ) (taken : List Bytes) (d : Direction)
+pub at_end_all : (pieces : List (Bor (List ℕ))) (i : ℕ) (taken : List Bytes) (d : EventReader)
     (limit : ℕ)
     → length pieces ≤ i
     → IsSaid taken d limit (joined (take i pieces)) → events d ≡ []

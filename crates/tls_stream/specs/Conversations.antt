@@ -6,16 +6,16 @@ use Rattle.tls_stream.specs.Item.{Event as Said}
 use Rattle.tls_flow.specs.Symbols.{symbols_of}
 use Rattle.tls_flow.specs.Conversations.{IsOutcome}
 use Rattle.tls_flow.specs.Steps.{follow, silence}
-use Rattle.tls_flow.specs.declared.event.Event.{Event}
+use Rattle.tls_flow.specs.declared.event.FlowEvent.{FlowEvent}
 use Rattle.tls_flow.specs.declared.symbol.Direction.{Direction as Side}
 use Rattle.tls_flow.specs.declared.symbol.Direction.TheVariants.{ToServer, FromServer}
 use Rattle.tls_flow.specs.declared.state.Outcome.{Outcome}
 use Rattle.tls_stream.specs.FlowEvents.{chooses_tls13, event_of}
 use Rattle.tls_stream.specs.Ears.{IsFed, IsFirst, IsReady, IsSilent, SaysAs, says, told}
 use Rattle.tls_stream.specs.declared.conversation.Conversation.{Conversation}
-use Rattle.tls_stream.specs.declared.ear.Ear.{Ear}
+use Rattle.tls_stream.specs.declared.side_reader.SideReader.{SideReader}
 
-abbrev pub ear : Conversation → Side → Ear
+abbrev pub ear : Conversation → Side → SideReader
 ear c ToServer = c.client
 ear c FromServer = c.server
 
@@ -31,23 +31,24 @@ pub record IsBegun (limit : ℕ) (c : Conversation) : Type 0 where
   pub flow : c.flow ≡ silence
 
 -- Whether the event switches both sides to TLS 1.3: it is the first that chooses it.
-abbrev pub tells : Conversation → Event → Bool
+abbrev pub tells : Conversation → FlowEvent → Bool
 tells c e = not c.is_tls13 && chooses_tls13 e.symbol.kind e.symbol.direction
 
-abbrev pub IsToldIf : Bool → Ear → Ear → Type 0
+abbrev pub IsToldIf : Bool → SideReader → SideReader → Type 0
 IsToldIf true e f = SaysAs (told e) f
 IsToldIf false e f = SaysAs e f
 
 -- Side s says v first, and d is the conversation after it: v was followed, and if it is the first
 -- event that chooses TLS 1.3, both sides were switched.
 pub record IsBehind (c : Conversation) (s : Side) (v : Said) (d : Conversation) : Type 0 where
-  pub side : (e : Ear) × IsFirst (ear c s) v e × IsToldIf (tells c (event_of s v)) e (ear d s)
+  pub side : (e : SideReader) × IsFirst (ear c s) v e
+      × IsToldIf (tells c (event_of s v)) e (ear d s)
   pub other : IsToldIf (tells c (event_of s v)) (ear c (other s)) (ear d (other s))
   pub is_tls13 : d.is_tls13 ≡ (c.is_tls13 || tells c (event_of s v))
   pub flow : d.flow ≡ follow c.flow (event_of s v)
 
 -- An event was followed. If it is the first that chooses TLS 1.3, both sides were switched.
-pub record IsFollowed (c : Conversation) (e : Event) (d : Conversation) : Type 0 where
+pub record IsFollowed (c : Conversation) (e : FlowEvent) (d : Conversation) : Type 0 where
   pub client : IsToldIf (tells c e) c.client d.client
   pub server : IsToldIf (tells c e) c.server d.server
   pub ready : (s : Side) → IsReady (ear c s) → IsReady (ear d s)
@@ -76,14 +77,15 @@ abbrev pub IsHeard : Conversation → Side → Bytes → Conversation → Type 0
 IsHeard c s p d = (m : Conversation) × (vs : List Said) × IsFedBy c s p m × Says m s vs d
 
 -- The pieces arrive in order, and es are the events that the sides say.
-abbrev pub Hears : Conversation → List (Side × Bytes) → List Event → Conversation → Type 0
+abbrev pub Hears : Conversation → List (Side × Bytes) → List FlowEvent → Conversation → Type 0
 Hears c [] es d = (es ≡ []) × (d ≡ c)
 Hears c (p ∷ ps) es d =
-    (m n : Conversation) × (vs : List Said) × (fs : List Event) × (es ≡ map (event_of p.0) vs ++ fs)
+    (m n : Conversation) × (vs : List Said) × (fs : List FlowEvent)
+    × (es ≡ map (event_of p.0) vs ++ fs)
     × IsFedBy c p.0 p.1 m × Says m p.0 vs n × Hears n ps fs d
 
 -- The events of a conversation whose pieces arrive in this order.
-abbrev pub AreEvents : ℕ → List (Side × Bytes) → List Event → Type 0
+abbrev pub AreEvents : ℕ → List (Side × Bytes) → List FlowEvent → Type 0
 AreEvents limit ps es = (c d : Conversation) × IsBegun limit c × Hears c ps es d
 
 abbrev pub views : List (Side × Bor (List ℕ)) → List (Side × Bytes)
@@ -91,7 +93,7 @@ views ps = map (λ p. (p.0, p.1.now)) ps
 
 -- The outcome of such a conversation.
 abbrev pub IsOutcomeOf : Outcome → ℕ → List (Side × Bytes) → Type 0
-IsOutcomeOf o limit ps = (es : List Event) × AreEvents limit ps es × IsOutcome o (symbols_of es)
+IsOutcomeOf o limit ps = (es : List FlowEvent) × AreEvents limit ps es × IsOutcome o (symbols_of es)
 
 -- A side's next event was taken.
 abbrev pub IsTakenBy : Option Said → Conversation → Side → Bool → Conversation → Type 0
@@ -99,6 +101,6 @@ IsTakenBy (Some v) c s taken d = (taken ≡ true) × IsBehind c s v d
 IsTakenBy None c s taken d = (taken ≡ false) × (d ≡ c)
 
 -- The event is that of the side's next, if there is one.
-abbrev pub IsEventOf : Event → Side → Option Said → Type 0
+abbrev pub IsEventOf : FlowEvent → Side → Option Said → Type 0
 IsEventOf e s (Some v) = e ≡ event_of s v
 IsEventOf e s None = Unit

@@ -3,17 +3,17 @@ use Rattle.std.specs.Prelude.{Bool, true, false, Option, None}
 use Rattle.tls_stream.specs.Item.{Event as Said, Handshake, ChangeCipherSpec, Alert, Heartbeat, ApplicationData, Encrypted, Failed, view_event}
 use Rattle.tls_flow.specs.Bytes.{HandshakeMessage, kind_of_message, message_of}
 use Rattle.tls_flow.specs.Events.{of_alert, plain}
-use Rattle.tls_flow.specs.declared.event.Event.{Event}
+use Rattle.tls_flow.specs.declared.event.FlowEvent.{FlowEvent}
 use Rattle.tls_flow.specs.declared.symbol.Kind.{Kind}
 use Rattle.tls_flow.specs.declared.symbol.Kind.TheVariants as kind
 use Rattle.tls_flow.specs.declared.symbol.Direction.{Direction as Side}
 use Rattle.tls_flow.specs.declared.symbol.Direction.TheVariants.{ToServer, FromServer}
-use Rattle.tls_stream.specs.declared.said.Said as rust
-use Rattle.tls_stream.specs.declared.said.Said.TheVariants as said
+use Rattle.tls_stream.specs.declared.side_event.SideEvent as rust
+use Rattle.tls_stream.specs.declared.side_event.SideEvent.TheVariants as said
 
 -- The flow event, where k is the kind of a handshake message. A fault is an unknown message;
 -- application data counts as encrypted, since a handshake has none in the clear.
-abbrev pub event_with : Side → Said → Kind → Event
+abbrev pub event_with : Side → Said → Kind → FlowEvent
 event_with s (Handshake m) k = plain k s
 event_with s ChangeCipherSpec k = plain kind.ChangeCipherSpec s
 event_with s (Alert a) k = of_alert a s
@@ -30,7 +30,7 @@ message_in v = None
 abbrev pub kind_said : Said → Kind
 kind_said v = kind_of_message (message_in v)
 
-abbrev pub event_of : Side → Said → Event
+abbrev pub event_of : Side → Said → FlowEvent
 event_of s v = event_with s v (kind_said v)
 
 abbrev pub view_said : rust.Said → Said

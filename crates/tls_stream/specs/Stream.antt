@@ -122,8 +122,8 @@ silent limit = record {
       record { part = []; unread = [] };
 }
 
-abbrev pub told_tls13 : Stream → Stream
-told_tls13 d = record d { is_tls13 = true }
+abbrev pub switched_to_tls13 : Stream → Stream
+switched_to_tls13 d = record d { is_tls13 = true }
 
 -- The events that weren't taken yet.
 abbrev pub events : Stream → List Event

@@ -7,19 +7,19 @@ ghost use Rattle.tls_stream.specs.Conversations.{IsBegun, IsEventOf, IsFedBy, Is
 ghost use Rattle.tls_stream.specs.Ears.{IsReady, front_of};
 ghost use Rattle.tls_stream.specs.FlowEvents.{view_said};
 
-use crate::direction::DEFAULT_LIMIT;
-use crate::ear::Ear;
-use crate::flow_event::{chooses_tls13, said_event};
-use crate::said::Said;
+use crate::event_reader::DEFAULT_LIMIT;
+use crate::flow_event::{chooses_tls13, stream_event};
+use crate::side_event::SideEvent;
+use crate::side_reader::SideReader;
 use layouts::OutOfMemory;
 use std::alloc::Global;
-use tls_flow::{Direction, Event, Flow, Outcome};
+use tls_flow::{Direction, Flow, FlowEvent, Outcome};
 
 /// A TLS conversation, fed with the pieces of both sides' streams in order of arrival.
 #[derive(Drop)]
 pub struct Conversation {
-    client: Ear,
-    server: Ear,
+    client: SideReader,
+    server: SideReader,
     is_tls13: bool,
     flow: Flow,
 }
@@ -38,8 +38,8 @@ impl Conversation {
         ensures { IsBegun limit result }
     {
         Conversation {
-            client: Ear::new(alloc, limit),
-            server: Ear::new(alloc, limit),
+            client: SideReader::new(alloc, limit),
+            server: SideReader::new(alloc, limit),
             is_tls13: false,
             flow: Flow::new(),
         }
@@ -74,7 +74,7 @@ impl Conversation {
 
     /// The side's next event, or its fault; `None` if more bytes are needed, or if the fault that
     /// ended the side was taken.
-    pub fn front(&self, side: Direction) -> Option<Said<'_>>
+    pub fn front(&self, side: Direction) -> Option<SideEvent<'_>>
         ensures { option_map view_said result ≡ front_of (ear_of self.now side) }
     {
         match side {
@@ -84,12 +84,12 @@ impl Conversation {
     }
 
     /// Follows the event. If it is the first that chooses TLS 1.3, both sides are switched to it.
-    fn follow(&mut self, event: Event)
+    fn follow(&mut self, event: FlowEvent)
         ensures { IsFollowed self.old event self.new }
     {
         if !self.is_tls13 && chooses_tls13(&event) {
-            self.client.tell_tls13();
-            self.server.tell_tls13();
+            self.client.switch_to_tls13();
+            self.server.switch_to_tls13();
             self.is_tls13 = true;
         }
         self.flow.update(event);
@@ -100,7 +100,7 @@ impl Conversation {
     ///
     /// If it is the first message that chooses TLS 1.3, both sides are read as TLS 1.3 from there
     /// on.
-    pub fn take_front_as(&mut self, side: Direction, event: Event) -> bool
+    pub fn take_front_as(&mut self, side: Direction, event: FlowEvent) -> bool
         ensures taken { IsEventOf event side (front_of (ear_of self.old side))
             → IsTakenBy (front_of (ear_of self.old side)) self.old side result self.new }
         ensures ready { IsReady (ear_of self.old side) → IsReady (ear_of self.new side) }
@@ -126,7 +126,7 @@ impl Conversation {
         ensures ready { IsReady (ear_of self.old side) → IsReady (ear_of self.new side) }
     {
         let event = match self.front(side) {
-            Some(said) => said_event(&said, side),
+            Some(said) => stream_event(&said, side),
             None => return false,
         };
         self.take_front_as(side, event)
@@ -148,7 +148,7 @@ impl Conversation {
     /// Appends a piece of that direction, then removes and follows every event that the side has.
     ///
     /// `OutOfMemory` if there is no memory for the piece: then nothing changes.
-    pub fn hear(&mut self, side: Direction, piece: &[u8]) -> Result<(), OutOfMemory>
+    pub fn follow_piece(&mut self, side: Direction, piece: &[u8]) -> Result<(), OutOfMemory>
         ensures heard { OnOk result (IsHeard self.old side piece.now self.new) }
         ensures memory { IsErr result → self.new ≡ self.old }
     {
@@ -172,7 +172,7 @@ pub fn outcome_of(
 {
     let mut conversation = Conversation::with_limit(alloc, limit);
     for (side, piece) in pieces {
-        conversation.hear(*side, piece)?;
+        conversation.follow_piece(*side, piece)?;
     }
     Ok(conversation.outcome())
 }

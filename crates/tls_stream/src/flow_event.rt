@@ -6,8 +6,8 @@ ghost use Rattle.tls_stream.specs.Item.{view_event};
 ghost use Rattle.tls_stream.specs.FlowEvents.{chooses_tls13 as chooses, event_of, event_with, message_in, view_said};
 
 use crate::event::Event;
-use crate::said::Said;
-use tls_flow::{Direction, Event as FlowEvent, HandshakeMessage, Kind};
+use crate::side_event::SideEvent;
+use tls_flow::{Direction, FlowEvent, HandshakeMessage, Kind};
 
 /// The flow event of an event of TLS. Application data counts as encrypted, since a handshake has
 /// none in the clear.
@@ -26,33 +26,33 @@ pub fn tls_event(event: &Event<'_>, side: Direction) -> FlowEvent
 
 /// The handshake message of an event, with its ServerHello parsed; `None` if the event is another
 /// one.
-pub fn said_message<'a>(said: &Said<'a>) -> Option<HandshakeMessage<'a>>
+pub fn stream_message<'a>(said: &SideEvent<'a>) -> Option<HandshakeMessage<'a>>
     ensures { option_map view_heard result ≡ message_in (view_said said.now) }
 {
     match said {
-        Said::Event(Event::Handshake(message)) => HandshakeMessage::read(message),
-        Said::Event(_) | Said::Fault(_) => None,
+        SideEvent::Event(Event::Handshake(message)) => HandshakeMessage::read(message),
+        SideEvent::Event(_) | SideEvent::Fault(_) => None,
     }
 }
 
 /// The flow event of what a side says, where the caller gives the `kind` of a handshake message, so
 /// that it is parsed only once.
-pub fn said_event_with(said: &Said<'_>, kind: Kind, side: Direction) -> FlowEvent
+pub fn stream_event_with(said: &SideEvent<'_>, kind: Kind, side: Direction) -> FlowEvent
     ensures { result ≡ event_with side (view_said said.now) kind }
 {
     match said {
-        Said::Event(Event::Handshake(_)) => FlowEvent::new(kind, side),
-        Said::Event(event) => tls_event(event, side),
-        Said::Fault(_) => FlowEvent::new(Kind::Unknown, side),
+        SideEvent::Event(Event::Handshake(_)) => FlowEvent::new(kind, side),
+        SideEvent::Event(event) => tls_event(event, side),
+        SideEvent::Fault(_) => FlowEvent::new(Kind::Unknown, side),
     }
 }
 
 /// The flow event of what a side says.
-pub(crate) fn said_event(said: &Said<'_>, side: Direction) -> FlowEvent
+pub(crate) fn stream_event(said: &SideEvent<'_>, side: Direction) -> FlowEvent
     ensures { result ≡ event_of side (view_said said.now) }
 {
-    let kind = Kind::of_message(said_message(said).as_ref());
-    said_event_with(said, kind, side)
+    let kind = Kind::of_message(stream_message(said).as_ref());
+    stream_event_with(said, kind, side)
 }
 
 /// Whether the server chooses TLS 1.3 with this event: a ServerHello of TLS 1.3, or a

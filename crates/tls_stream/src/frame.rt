@@ -24,9 +24,9 @@ pub trait Frame {
 }
 
 /// Records of TLS (RFC 5246, section 6.2).
-pub struct Records;
+pub struct RecordFrame;
 
-impl Frame for Records {
+impl Frame for RecordFrame {
     ghost kind = { records };
 
     ghost takes = { lit< tt };
@@ -41,9 +41,9 @@ impl Frame for Records {
 }
 
 /// Handshake messages (RFC 5246, section 7.4).
-pub struct Messages;
+pub struct MessageFrame;
 
-impl Frame for Messages {
+impl Frame for MessageFrame {
     ghost kind = { messages };
 
     ghost takes = { lit< tt };

@@ -13,7 +13,7 @@ ghost use Rattle.tls_stream.specs.Frames.{CuttingsHoldTheSame, CuttingsTakeTheSa
 ghost use Rattle.tls_stream.specs.Item.{Event, Item};
 ghost use Rattle.tls_stream.specs.Events.{events, fed, fed_all, first, items_with};
 ghost use Rattle.tls_stream.specs.Stream.{events_of, joined_items};
-ghost use Rattle.tls_stream.specs.declared.direction.Direction.{Direction};
+ghost use Rattle.tls_stream.specs.declared.event_reader.EventReader.{EventReader};
 
 /// The frames are the first one and then those of the rest. If there is no first one, there are no
 /// frames and all bytes are left.
@@ -92,15 +92,15 @@ pub fn messages_that_are_not_whole_are_incomplete()
 /// events.
 #[tactic(auto, using(crate::proofs::DirectionLemmas::first_event))]
 pub fn the_event_in_front_is_the_first()
-    ensures { (d e : Direction) (v : Event) (s : Bytes) → first d ≡ Some (v, e)
+    ensures { (d e : EventReader) (v : Event) (s : Bytes) → first d ≡ Some (v, e)
         → events (fed d s) ≡ v ∷ events (fed e s) }
 {}
 
 /// A direction's state depends on the bytes fed, not on how they are cut into pieces.
 #[tactic(auto, using(crate::proofs::DirectionLemmas::fed_twice, crate::proofs::DirectionLemmas::fed_joined))]
 pub fn pieces_count_as_they_are_joined()
-    ensures two { (d : Direction) (s t : Bytes) → fed (fed d s) t ≡ fed d (s ++ t) }
-    ensures all { (d : Direction) (ps qs : List Bytes) → concat ps ≡ concat qs
+    ensures two { (d : EventReader) (s t : Bytes) → fed (fed d s) t ≡ fed d (s ++ t) }
+    ensures all { (d : EventReader) (ps qs : List Bytes) → concat ps ≡ concat qs
         → fed_all d ps ≡ fed_all d qs }
 {}
 
@@ -110,7 +110,7 @@ pub fn pieces_count_as_they_are_joined()
 pub fn fragments_count_as_they_are_joined()
     ensures items { (limit kind : ℕ) (part : Bytes) (is js : List Item) → joined_items is ≡ joined_items js
         → events_of limit kind part is ≡ events_of limit kind part js }
-    ensures streams { (d : Direction) (x y : Bytes)
+    ensures streams { (d : EventReader) (x y : Bytes)
         → joined_items (items_with d x) ≡ joined_items (items_with d y)
         → events (fed d x) ≡ events (fed d y) }
 {}

@@ -10,7 +10,7 @@ ghost use Rattle.tls_records.specs.Framing as framing;
 ghost use Rattle.tls_records.specs.Framing.{IsIncomplete};
 ghost use Rattle.tls_stream.specs.declared.reassembler.FeedError.TheVariants as feed_error;
 
-use crate::frame::{Frame, Messages, Records, frame_in_front, is_too_large};
+use crate::frame::{Frame, MessageFrame, RecordFrame, frame_in_front, is_too_large};
 use layouts::IResult;
 use std::alloc::{AllocError, Global};
 use std::error::Error;
@@ -61,10 +61,10 @@ pub struct Frames<F, const LIMIT: usize> {
 pub(crate) const RECORD_LIMIT: usize = MAX_RECORD_LEN as usize;
 
 /// The records of a stream, as [`parse_tls_raw_record`] parses them.
-pub type Reassembler = Frames<Records, RECORD_LIMIT>;
+pub type Reassembler = Frames<RecordFrame, RECORD_LIMIT>;
 
 /// The handshake messages in the fragments of records, with bodies of at most `LIMIT` bytes.
-pub type Joiner<const LIMIT: usize> = Frames<Messages, LIMIT>;
+pub type Joiner<const LIMIT: usize> = Frames<MessageFrame, LIMIT>;
 
 impl<F, const LIMIT: usize> Model for Frames<F, LIMIT> {
     ghost Value = { List ℕ };

@@ -3,7 +3,7 @@ ghost use Rattle.std.specs.Prelude.{◌≡◌, ◌++◌, OnOk, IfOk};
 ghost use Rattle.tls_stream.specs.Frames.{IsSplit, elements, frames, joined, left, up_to};
 ghost use Rattle.tls_stream.specs.Records.{message_frame, record_frame};
 
-use crate::frame::{Frame, Messages, Records};
+use crate::frame::{Frame, MessageFrame, RecordFrame};
 use crate::reassembler::{FeedError, Frames, Joiner, RECORD_LIMIT, Reassembler};
 use layouts::OutOfMemory;
 use std::alloc::Global;
@@ -60,7 +60,7 @@ pub fn split_pieces(
 ) -> Result<(Vec<Vec<u8>>, Reassembler), OutOfMemory>
     ensures { IfOk result (λ r. IsSplit record_frame (joined pieces.now) (elements r.0.items) r.1) }
 {
-    split_frames::<Records, RECORD_LIMIT>(alloc, pieces)
+    split_frames::<RecordFrame, RECORD_LIMIT>(alloc, pieces)
 }
 
 /// The bytes of each handshake message in these fragments of records, with its header, and the
@@ -73,5 +73,5 @@ pub fn join_messages<const LIMIT: usize>(
     ensures { IfOk result
         (λ r. IsSplit (message_frame LIMIT) (joined fragments.now) (elements r.0.items) r.1) }
 {
-    split_frames::<Messages, LIMIT>(alloc, fragments)
+    split_frames::<MessageFrame, LIMIT>(alloc, fragments)
 }

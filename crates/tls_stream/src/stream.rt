@@ -1,12 +1,12 @@
 //! The stream of a direction that isn't at fault.
 ghost use Rattle.std.specs.Prelude.{◌≡◌, is_ok, if◌then◌else◌};
 ghost use Rattle.std.specs.Option.{option_map};
-ghost use Rattle.tls_stream.specs.Stream.{FirstTaken, IsReady, SaysTheSame, fed, first, silent, told_tls13};
+ghost use Rattle.tls_stream.specs.Stream.{FirstTaken, IsReady, SaysTheSame, fed, first, silent, switched_to_tls13};
 ghost use Rattle.tls_stream.specs.Item.{view_event};
 
 use crate::event::Event;
 use crate::fault::Fault;
-use crate::held::Held;
+use crate::stream_buffer::StreamBuffer;
 use crate::view::{Next, Source, StreamView};
 use layouts::OutOfMemory;
 use std::alloc::Global;
@@ -19,7 +19,7 @@ pub struct Stream {
     has_changed: bool,
     // The content type of the fragments that the part is joined from.
     kind: u8,
-    held: Held,
+    held: StreamBuffer,
 }
 
 impl Stream {
@@ -32,13 +32,13 @@ impl Stream {
             is_tls13: false,
             has_changed: false,
             kind: 22,
-            held: Held::new(alloc),
+            held: StreamBuffer::new(alloc),
         }
     }
 
     /// Switches the stream to TLS 1.3.
-    pub fn tell_tls13(&mut self)
-        ensures { self.new ≡ told_tls13 self.old }
+    pub fn switch_to_tls13(&mut self)
+        ensures { self.new ≡ switched_to_tls13 self.old }
     {
         self.is_tls13 = true;
     }

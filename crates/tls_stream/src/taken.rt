@@ -5,13 +5,13 @@ ghost use Rattle.tls_stream.specs.Frames.{elements, joined};
 ghost use Rattle.tls_stream.specs.Events.{events, fed, first, silent};
 ghost use Rattle.tls_stream.specs.Taken.{AreTaken, TakesSame, handshake_in, handshakes};
 
-use crate::direction::Direction;
 use crate::event::Event;
+use crate::event_reader::EventReader;
 use layouts::OutOfMemory;
 use std::alloc::Global;
 
 /// The next event's bytes, if it is a handshake message.
-fn front_message(direction: &Direction) -> Option<&[u8]>
+fn front_message(direction: &EventReader) -> Option<&[u8]>
     ensures { option_map (λ b. b.now) result ≡ handshake_in
         (option_map (λ x. x.0) (first direction.now)) }
 {
@@ -31,7 +31,7 @@ fn front_message(direction: &Direction) -> Option<&[u8]>
 /// Removes the next event. If it is a handshake message, its bytes are appended to `taken`.
 fn take_event(
     alloc: Global,
-    direction: &mut Direction,
+    direction: &mut EventReader,
     taken: &mut Vec<Vec<u8>>,
 ) -> Result<(), OutOfMemory>
     requires { IsSome (first direction.old) }
@@ -56,10 +56,11 @@ fn take_event(
 /// is fed.
 ///
 /// `OutOfMemory` if there is no memory for a message or the list. `taken` then has the messages
-/// before it, and the call can be repeated. No clause says so; `tests/faults/refusals/run` tests it.
+/// before it, and the call can be repeated. No clause says so; `tests/faults/refusals/run` tests
+/// it.
 pub fn take_messages(
     alloc: Global,
-    direction: &mut Direction,
+    direction: &mut EventReader,
     taken: &mut Vec<Vec<u8>>,
 ) -> Result<bool, OutOfMemory>
     ensures { IfOk result
@@ -85,11 +86,11 @@ pub fn join_pieces(
     alloc: Global,
     limit: usize,
     pieces: &[&[u8]],
-) -> Result<(Vec<Vec<u8>>, Direction), OutOfMemory>
+) -> Result<(Vec<Vec<u8>>, EventReader), OutOfMemory>
     ensures { IfOk result
         (λ r. elements r.0.items ≡ handshakes (events (fed (silent limit) (joined pieces.now)))) }
 {
-    let mut direction = Direction::with_limit(alloc, limit);
+    let mut direction = EventReader::with_limit(alloc, limit);
     let mut taken = Vec::new(alloc);
     for piece in pieces {
         direction.feed(piece)?;

@@ -10,7 +10,7 @@ ghost use Rattle.tls_stream.specs.declared.stream.Stream.{Stream};
 
 use crate::event::{Alerts, Event, message_event};
 use crate::fault::Fault;
-use crate::frame::{Frame, Messages, Records, frame_in_front, is_too_large};
+use crate::frame::{Frame, MessageFrame, RecordFrame, frame_in_front, is_too_large};
 use crate::item::{Item, is_sealed_alert, read_record, refuse};
 use layouts::ErrorKind;
 use std::marker::Model;
@@ -77,7 +77,7 @@ impl<'a> StreamView<'a> {
         if self.kind == 21 {
             frame_in_front::<Alerts>(0, self.part)
         } else {
-            frame_in_front::<Messages>(self.limit, self.part)
+            frame_in_front::<MessageFrame>(self.limit, self.part)
         }
     }
 
@@ -89,7 +89,7 @@ impl<'a> StreamView<'a> {
         if self.kind == 21 {
             is_too_large::<Alerts>(0, self.part)
         } else {
-            is_too_large::<Messages>(self.limit, self.part)
+            is_too_large::<MessageFrame>(self.limit, self.part)
         }
     }
 
@@ -109,7 +109,7 @@ impl<'a> StreamView<'a> {
         ensures { option_map (λ b. b.now) result ≡ frame_of
             (front wide_record self.now.held.unread) }
     {
-        frame_in_front::<Records>(MAX_ENCRYPTED_LEN as usize, self.unread)
+        frame_in_front::<RecordFrame>(MAX_ENCRYPTED_LEN as usize, self.unread)
     }
 
     /// Why the record's header is refused, if it is.
@@ -121,7 +121,7 @@ impl<'a> StreamView<'a> {
         refuse(
             self.is_encrypted(kind),
             kind,
-            Records::body_len(&record[..5]),
+            RecordFrame::body_len(&record[..5]),
         )
     }
 

@@ -7,15 +7,15 @@
 //! `specs/HandshakeSummary.antt` defines the updates, and `specs/Told.antt` the fields.
 #![tactic(auto, using(layouts::proofs::OneAnswerLemmas::read_allowed))]
 
+mod certificate_cache;
 mod exchange;
 mod hellos;
-mod known;
 pub mod laws;
 mod parts;
 mod summary;
 mod told;
 
-pub use known::KnownCertificates;
+pub use certificate_cache::CertificateCache;
 pub use parts::{
     CertificateFault, CertificateSummary, ClientParts, ServerParts, certificate_fault,
 };

@@ -9,7 +9,7 @@ ghost use Rattle.layouts.specs.Reading.{reading};
 ghost use Rattle.x509.specs.Certificate.{certificate};
 ghost use Rattle.tls_summary.specs.Parts.{summary_of_certificate as summary_by, summaries_of_all, fault_by, first_of, view_client, view_server};
 
-use crate::known::KnownCertificates;
+use crate::certificate_cache::CertificateCache;
 use layouts::{Err, ErrorKind, Items};
 use sha2::{Digest, Sha256};
 use std::alloc::{AllocError, Global};
@@ -157,7 +157,7 @@ pub(crate) fn summary_of_one(bytes: &[u8]) -> CertificateSummary
 fn summary_with(
     alloc: Global,
     bytes: &[u8],
-    known: &mut Option<&mut KnownCertificates>,
+    known: &mut Option<&mut CertificateCache>,
 ) -> CertificateSummary
     ensures { result ≡ summary_by bytes.now }
 {
@@ -171,7 +171,7 @@ fn summary_with(
 fn summaries_of<'a>(
     alloc: Global,
     chain: Items<'a, RawCertificate<'a>>,
-    known: Option<&mut KnownCertificates>,
+    known: Option<&mut CertificateCache>,
 ) -> Result<Vec<CertificateSummary>, AllocError>
     ensures { IfOk result
         (λ v. v.items ≡ summaries_of_all (items_in (counted 3) chain.entry.bytes.now)) }
@@ -206,7 +206,7 @@ pub(crate) struct Chain {
 pub(crate) fn chain_of(
     alloc: Global,
     list: &[u8],
-    known: Option<&mut KnownCertificates>,
+    known: Option<&mut CertificateCache>,
 ) -> Result<Chain, AllocError>
     ensures summaries { IfOk result (λ c. c.summaries.items ≡ summaries_of_all (items_in (counted 3) list.now)) }
     ensures own { IfOk result

@@ -11,9 +11,9 @@ ghost use Rattle.tls_hs.specs.Certificate.{certificate};
 ghost use Rattle.tls_flow.specs.Bytes.{view_heard};
 ghost use Rattle.tls_records.specs.DtlsHello.{client_hello as datagram_client_hello};
 
+use crate::certificate_cache::CertificateCache;
 use crate::exchange::curve_of;
 use crate::hellos::group_of_share;
-use crate::known::KnownCertificates;
 use crate::parts::{CertificateSummary, Chain, ClientParts, ServerParts, chain_of, copied};
 use ssl2_hello::Ssl2ClientHello;
 use std::alloc::{AllocError, Global};
@@ -292,7 +292,7 @@ impl HandshakeSummary {
         alloc: Global,
         side: Direction,
         body: &[u8],
-        known: Option<&mut KnownCertificates>,
+        known: Option<&mut CertificateCache>,
     ) -> Result<(), AllocError>
         ensures { OnOk result
             (view_summary self.new ≡ certified side (reading certificate body.now)
@@ -313,7 +313,7 @@ impl HandshakeSummary {
         side: Direction,
         msg_type: TlsHandshakeType,
         body: &[u8],
-        known: Option<&mut KnownCertificates>,
+        known: Option<&mut CertificateCache>,
     ) -> Result<(), AllocError>
         ensures { OnOk result
             (view_summary self.new ≡ of_other side msg_type.0 body.now (view_summary self.old)) }
@@ -357,7 +357,7 @@ impl HandshakeSummary {
         alloc: Global,
         side: Direction,
         message: &HandshakeMessage<'_>,
-        known: Option<&mut KnownCertificates>,
+        known: Option<&mut CertificateCache>,
     ) -> Result<(), AllocError>
         ensures { OnOk result
             (view_summary self.new ≡ of_message side (view_heard message.now)
@@ -450,7 +450,7 @@ impl HandshakeSummary {
         alloc: Global,
         side: Direction,
         message: &HandshakeMessage<'_>,
-        known: Option<&mut KnownCertificates>,
+        known: Option<&mut CertificateCache>,
     ) -> Result<(), AllocError>
         ensures { OnOk result
             (view_summary self.new ≡ of_datagrams side (view_heard message.now)

@@ -1,6 +1,6 @@
 //! Turns the command line into what is asked for.
 use crate::memory::part_of_connections;
-use crate::program::Asked;
+use crate::program::RunOptions;
 use clap::ArgMatches;
 use log_connections::Checksums;
 use log_lines::FORMAT_NAMES;
@@ -69,15 +69,15 @@ fn checksums_of(matches: &ArgMatches<'_>) -> Checksums {
 }
 
 /// Reads all options that a run needs.
-pub fn asked_of<'a, R: Runtime + AllocGlobal>(
+pub fn run_options_of<'a, R: Runtime + AllocGlobal>(
     rt: &R,
     matches: &ArgMatches<'a>,
-) -> Result<Asked, Refusal<'a>> {
+) -> Result<RunOptions, Refusal<'a>> {
     let part = part_of(matches)?;
     let memory = part_of_connections(memory_of(matches)?);
     let checksums = checksums_of(matches);
     let is_by_network = matches.get_flag("by-network");
-    Ok(Asked {
+    Ok(RunOptions {
         style: style_of(rt, matches)?,
         checksums,
         part,

@@ -12,18 +12,18 @@
 //! | 3 | memory ran out, or a file can't be opened, read or written |
 #![tactic(auto)]
 
+mod analysis;
 mod arguments;
-mod listener;
 mod memory;
 mod program;
 
 ghost use Rattle.std.specs.Prelude.{Bool};
 ghost use Rattle.log_io.specs.Run.{HasWritten};
 
-use crate::arguments::{asked_of, choices};
-use crate::program::{Asked, log_file, log_joined, log_standard_input};
+use crate::arguments::{choices, run_options_of};
+use crate::program::{RunOptions, log_file, log_joined, log_standard_input};
 use clap::ArgMatches;
-use log_io::{DASH, Exit, Failure, Files, Output, STANDARD_OUTPUT, tell};
+use log_io::{DASH, Exit, Failure, Files, Output, STANDARD_OUTPUT, report};
 use log_lines::Style;
 use log_options::{matches, tell_error};
 use log_writer::{Refusal, write_footer, write_header};
@@ -47,7 +47,7 @@ fn now<R: Runtime>(rt: &R) -> i64 {
 /// Logs the capture with that path; `-` is standard input.
 fn log_one<R: Runtime + AllocGlobal + RandomSource, W: Write>(
     rt: &R,
-    asked: &Asked,
+    asked: &RunOptions,
     path: &str,
     out: Output<W>,
 ) -> (Exit, Output<W>)
@@ -64,7 +64,7 @@ fn log_one<R: Runtime + AllocGlobal + RandomSource, W: Write>(
 /// when the output is closed.
 fn log_each<R: Runtime + AllocGlobal + RandomSource, W: Write>(
     rt: &R,
-    asked: &Asked,
+    asked: &RunOptions,
     matches: &ArgMatches<'_>,
     out: Output<W>,
 ) -> (Exit, Output<W>)
@@ -106,7 +106,7 @@ fn end_log<R: Runtime + AllocGlobal, W: Write>(
     match write_footer(rt.alloc(), style, now(rt), &mut out) {
         Ok(()) => (exit, out),
         Err(e) => (
-            exit.and(tell(rt, STANDARD_OUTPUT, Failure::from(e), 0)),
+            exit.and(report(rt, STANDARD_OUTPUT, Failure::from(e), 0)),
             out,
         ),
     }
@@ -115,7 +115,7 @@ fn end_log<R: Runtime + AllocGlobal, W: Write>(
 /// Logs all captures, between the format's header and footer.
 fn log_all<R: Runtime + AllocGlobal + RandomSource, W: Write>(
     rt: &R,
-    asked: &Asked,
+    asked: &RunOptions,
     matches: &ArgMatches<'_>,
     out: Output<W>,
 ) -> (Exit, Output<W>)
@@ -123,7 +123,7 @@ fn log_all<R: Runtime + AllocGlobal + RandomSource, W: Write>(
 {
     let mut out = out;
     if let Err(e) = write_header(rt.alloc(), &asked.style, now(rt), &mut out) {
-        return (tell(rt, STANDARD_OUTPUT, Failure::from(e), 0), out);
+        return (report(rt, STANDARD_OUTPUT, Failure::from(e), 0), out);
     }
     let (exit, out) = log_each(rt, asked, matches, out);
     end_log(rt, &asked.style, exit, out)
@@ -139,7 +139,7 @@ fn refuse<R: Runtime + AllocGlobal>(rt: &R, refusal: Refusal<'_>) -> u8 {
 
 /// Runs as the arguments ask, and returns the exit status.
 fn run_by<R: Runtime + AllocGlobal + RandomSource>(rt: &R, matches: &ArgMatches<'_>) -> u8 {
-    match asked_of(rt, matches) {
+    match run_options_of(rt, matches) {
         Ok(asked) => {
             let (exit, _out) = log_all(
                 rt,

@@ -1,8 +1,8 @@
 //! The memory limit of connections.
-use crate::listener::Listener;
+use crate::analysis::Analysis;
 use connections::{CONNECTION_COST, Connection, FiveTuple};
 use ip_fragments::HELD_LIMIT;
-use log_connections::HEARD_COST;
+use log_connections::ANALYSIS_COST;
 use std::mem::size_of;
 
 /// The most that the buffers of captures, lines and the program itself take, in bytes.
@@ -12,7 +12,8 @@ const REST: usize = 8_388_608;
 // ends and their hash, two links, a pointer to the connection and a place in a map, and each of
 // both blocks what the allocator adds.
 const _: () = prove!(
-    size_of::<Connection<Listener>>() + size_of::<FiveTuple>() + 192 <= CONNECTION_COST + HEARD_COST
+    size_of::<Connection<Analysis>>() + size_of::<FiveTuple>() + 192
+        <= CONNECTION_COST + ANALYSIS_COST
 );
 
 /// Returns how many bytes of the limit are left for connections. Fragments have their own limit.

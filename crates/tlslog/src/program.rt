@@ -3,13 +3,13 @@ ghost use Rattle.std.specs.Prelude.{◌≡◌, Bool};
 ghost use Rattle.log_io.specs.Output.{Tells};
 ghost use Rattle.log_io.specs.Run.{EndsBy, Exits, HasFailed, HasWritten, IsAsBefore, IsNotOfCapture, StaysSound};
 
-use crate::listener::{Kept, Listener, summary, take_certificates, take_messages};
+use crate::analysis::{Analysis, CollectedPieces, summary, take_certificates, take_messages};
 use connection_parts::Part;
 use connections::{Connection, Protocol};
-use log_connections::{Arrival, Checksums, Counts, Joined, Log, Pieces, add_one};
+use log_connections::{Arrival, Checksums, CompletedDatagram, Counts, Log, PieceKind, add_one};
 use log_io::{
-    Exit, Failure, LineError, Opener, Output, STANDARD_INPUT, STANDARD_INPUT_NAME, Source, Watched,
-    tell,
+    Exit, Failure, LineError, Opener, Output, ProgressReader, STANDARD_INPUT, STANDARD_INPUT_NAME,
+    Source, report,
 };
 use log_lines::{Lines, Style};
 use log_writer::{print_certificate, print_message, print_row};
@@ -31,12 +31,12 @@ fn print_line<W: Write>(
     alloc: Global,
     style: &Style,
     counts: &mut Counts,
-    connection: &Connection<Listener>,
+    connection: &Connection<Analysis>,
     out: &mut Output<W>,
 ) -> Result<(), LineError>
     ensures { Tells out.old.has_failed out.new.has_failed result }
 {
-    if !connection.listener.is_spoken() {
+    if !connection.attachment.is_tls_or_dtls() {
         add_one(&mut counts.other_connections);
         return Ok(());
     }
@@ -57,7 +57,7 @@ fn print_one<W: Write>(
     alloc: Global,
     style: &Style,
     counts: &mut Counts,
-    connection: Box<Connection<Listener>>,
+    connection: Box<Connection<Analysis>>,
     out: &mut Output<W>,
 ) -> Result<(), LineError>
     ensures { Tells out.old.has_failed out.new.has_failed result }
@@ -72,13 +72,13 @@ fn print_messages<W: Write>(
     alloc: Global,
     style: &Style,
     places: &[usize],
-    connection: &mut Connection<Listener>,
+    connection: &mut Connection<Analysis>,
     time: u64,
     out: &mut Output<W>,
 ) -> Result<(), LineError>
     ensures { Tells out.old.has_failed out.new.has_failed result }
 {
-    let all = take_messages(alloc, &mut connection.listener);
+    let all = take_messages(alloc, &mut connection.attachment);
     let summary = summary(connection);
     'messages: for spoken in all {
         print_message(alloc, style, places, &summary, time, spoken, out)?;
@@ -91,13 +91,13 @@ fn print_certificates<W: Write>(
     alloc: Global,
     style: &Style,
     places: &[usize],
-    connection: &mut Connection<Listener>,
+    connection: &mut Connection<Analysis>,
     time: u64,
     out: &mut Output<W>,
 ) -> Result<(), LineError>
     ensures { Tells out.old.has_failed out.new.has_failed result }
 {
-    let all = take_certificates(alloc, &mut connection.listener);
+    let all = take_certificates(alloc, &mut connection.attachment);
     let summary = summary(connection);
     'certificates: for presented in &all {
         print_certificate(alloc, style, places, &summary, time, presented, out)?;
@@ -110,7 +110,7 @@ fn print_certificates<W: Write>(
 fn print_pieces<W: Write>(
     alloc: Global,
     style: &Style,
-    connection: &mut Connection<Listener>,
+    connection: &mut Connection<Analysis>,
     time: u64,
     out: &mut Output<W>,
 ) -> Result<(), LineError>
@@ -132,7 +132,7 @@ fn print_both<W: Write>(
     alloc: Global,
     style: &Style,
     counts: &mut Counts,
-    connection: &mut Connection<Listener>,
+    connection: &mut Connection<Analysis>,
     time: u64,
     out: &mut Output<W>,
 ) -> Result<(), LineError>
@@ -147,7 +147,7 @@ fn print_last<W: Write>(
     alloc: Global,
     style: &Style,
     counts: &mut Counts,
-    connection: Box<Connection<Listener>>,
+    connection: Box<Connection<Analysis>>,
     time: u64,
     out: &mut Output<W>,
 ) -> Result<(), LineError>
@@ -163,7 +163,7 @@ fn print_last<W: Write>(
 fn print_spoken<W: Write>(
     alloc: Global,
     style: &Style,
-    log: &mut Log<Kept>,
+    log: &mut Log<CollectedPieces>,
     arrival: &Arrival<'_>,
     out: &mut Output<W>,
 ) -> Result<(), LineError>
@@ -182,7 +182,7 @@ fn print_spoken<W: Write>(
 fn log_packet<W: Write>(
     alloc: Global,
     style: &Style,
-    log: &mut Log<Kept>,
+    log: &mut Log<CollectedPieces>,
     packet: Packet<'_>,
     out: &mut Output<W>,
 ) -> Result<(), LineError>
@@ -200,7 +200,7 @@ fn log_packet<W: Write>(
 fn log_other_packet<W: Write>(
     alloc: Global,
     style: &Style,
-    log: &mut Log<Kept>,
+    log: &mut Log<CollectedPieces>,
     packet: Packet<'_>,
     out: &mut Output<W>,
 ) -> Result<(), LineError>
@@ -216,7 +216,7 @@ fn log_other_packet<W: Write>(
 fn log_arrival<W: Write>(
     alloc: Global,
     style: &Style,
-    log: &mut Log<Kept>,
+    log: &mut Log<CollectedPieces>,
     arrival: &Arrival<'_>,
     out: &mut Output<W>,
 ) -> Result<(), LineError>
@@ -228,15 +228,15 @@ fn log_arrival<W: Write>(
             None => break,
         }
     }
-    hear_arrival(alloc, style, log, arrival, out)?;
+    analyze_arrival(alloc, style, log, arrival, out)?;
     end_crowded(alloc, style, log, arrival.time(), out)
 }
 
 /// Passes an arrival to its connection. If memory is refused, connections are closed early.
-fn hear_arrival<W: Write>(
+fn analyze_arrival<W: Write>(
     alloc: Global,
     style: &Style,
-    log: &mut Log<Kept>,
+    log: &mut Log<CollectedPieces>,
     arrival: &Arrival<'_>,
     out: &mut Output<W>,
 ) -> Result<(), LineError>
@@ -260,7 +260,7 @@ fn hear_arrival<W: Write>(
 fn end_crowded<W: Write>(
     alloc: Global,
     style: &Style,
-    log: &mut Log<Kept>,
+    log: &mut Log<CollectedPieces>,
     time: u64,
     out: &mut Output<W>,
 ) -> Result<(), LineError>
@@ -279,7 +279,7 @@ fn end_crowded<W: Write>(
 fn end_own<W: Write>(
     alloc: Global,
     style: &Style,
-    log: &mut Log<Kept>,
+    log: &mut Log<CollectedPieces>,
     arrival: &Arrival<'_>,
     out: &mut Output<W>,
 ) -> Result<bool, LineError>
@@ -305,7 +305,7 @@ fn end_own<W: Write>(
 fn end_oldest<W: Write>(
     alloc: Global,
     style: &Style,
-    log: &mut Log<Kept>,
+    log: &mut Log<CollectedPieces>,
     time: u64,
     out: &mut Output<W>,
 ) -> Result<bool, LineError>
@@ -324,7 +324,7 @@ fn end_oldest<W: Write>(
 fn end_refused<W: Write>(
     alloc: Global,
     style: &Style,
-    log: &mut Log<Kept>,
+    log: &mut Log<CollectedPieces>,
     arrival: &Arrival<'_>,
     out: &mut Output<W>,
 ) -> Result<(), LineError>
@@ -343,9 +343,9 @@ fn end_refused<W: Write>(
 fn log_inside<W: Write>(
     alloc: Global,
     style: &Style,
-    log: &mut Log<Kept>,
+    log: &mut Log<CollectedPieces>,
     packet: Packet<'_>,
-    joined: &Joined,
+    joined: &CompletedDatagram,
     out: &mut Output<W>,
 ) -> Result<bool, LineError>
     ensures { Tells out.old.has_failed out.new.has_failed result }
@@ -366,7 +366,7 @@ fn log_inside<W: Write>(
 fn log_joined_datagram<W: Write>(
     alloc: Global,
     style: &Style,
-    log: &mut Log<Kept>,
+    log: &mut Log<CollectedPieces>,
     packet: Packet<'_>,
     out: &mut Output<W>,
 ) -> Result<(), LineError>
@@ -390,7 +390,7 @@ fn log_joined_datagram<W: Write>(
 struct Logger<'a, W> {
     alloc: Global,
     style: &'a Style,
-    log: Log<Kept>,
+    log: Log<CollectedPieces>,
     out: Output<W>,
 }
 
@@ -422,13 +422,13 @@ fn log_packets<I: Read, W: Write>(logger: &mut Logger<'_, W>, reader: &mut I) ->
 fn print_left<W: Write>(
     alloc: Global,
     style: &Style,
-    log: &mut Log<Kept>,
+    log: &mut Log<CollectedPieces>,
     out: &mut Output<W>,
 ) -> Result<(), LineError>
     ensures { Tells out.old.has_failed out.new.has_failed result }
 {
     'left: for _ in 0..u64::MAX {
-        match log.take_left()? {
+        match log.take_remaining()? {
             Some(connection) => print_one(alloc, style, &mut log.counts, connection, out)?,
             None => break,
         }
@@ -450,7 +450,7 @@ fn log_source<R: Runtime + AllocGlobal, I: Read + Source, W: Write>(
         Ok(()) => Exit::Clean,
         Err(failure) => {
             let failure = failure.of_source(reader.front());
-            tell(rt, name, failure, logger.log.counts.packets)
+            report(rt, name, failure, logger.log.counts.packets)
         }
     }
 }
@@ -466,7 +466,7 @@ fn log_left<R: Runtime + AllocGlobal, W: Write>(
 {
     match print_left(logger.alloc, logger.style, &mut logger.log, &mut logger.out) {
         Ok(()) => Exit::Clean,
-        Err(e) => tell(rt, name, Failure::from(e), logger.log.counts.packets),
+        Err(e) => report(rt, name, Failure::from(e), logger.log.counts.packets),
     }
 }
 
@@ -496,26 +496,26 @@ fn tell_counts<R: Runtime>(rt: &R, name: &str, counts: &Counts, exit: Exit) -> E
     if is_of_none || matches!(exit, Exit::Closed) {
         return exit;
     }
-    match counts.tell(rt, name) {
+    match counts.report(rt, name) {
         Ok(()) => exit,
         Err(_) => Exit::Failed,
     }
 }
 
 /// Returns what is kept of connections until it is printed.
-fn kept_for(style: &Style) -> Option<Pieces> {
+fn kept_for(style: &Style) -> Option<PieceKind> {
     match &style.lines {
-        Lines::Connections(_) if style.has_chains() => Some(Pieces::Chains),
+        Lines::Connections(_) if style.has_chains() => Some(PieceKind::Chains),
         Lines::Connections(_) => None,
-        Lines::Messages(_) if style.suites.are_numbered() => Some(Pieces::NumberedMessages),
-        Lines::Messages(_) => Some(Pieces::Messages),
-        Lines::Certificates(_) => Some(Pieces::Certificates),
+        Lines::Messages(_) if style.suites.are_numbered() => Some(PieceKind::NumberedMessages),
+        Lines::Messages(_) => Some(PieceKind::Messages),
+        Lines::Certificates(_) => Some(PieceKind::Certificates),
     }
 }
 
 /// What the arguments ask for.
 #[derive(Drop)]
-pub struct Asked {
+pub struct RunOptions {
     /// How lines are written.
     pub style: Style,
     /// Which wrong checksums drop a packet.
@@ -529,7 +529,11 @@ pub struct Asked {
 }
 
 /// Returns an empty log by the options, with these keys for the hashes of its tables.
-fn log_of(alloc: Global, asked: &Asked, keys: RandomState) -> Result<Log<Kept>, AllocError> {
+fn log_of(
+    alloc: Global,
+    asked: &RunOptions,
+    keys: RandomState,
+) -> Result<Log<CollectedPieces>, AllocError> {
     let mut log = Log::new(alloc, keys, kept_for(&asked.style))?;
     log.set_checksums(asked.checksums);
     log.set_memory(asked.memory);
@@ -537,7 +541,7 @@ fn log_of(alloc: Global, asked: &Asked, keys: RandomState) -> Result<Log<Kept>, 
         log.set_part(part);
     }
     if asked.is_by_network {
-        log.tell_networks_apart(keys)?;
+        log.separate_networks(keys)?;
     }
     Ok(log)
 }
@@ -545,20 +549,20 @@ fn log_of(alloc: Global, asked: &Asked, keys: RandomState) -> Result<Log<Kept>, 
 /// Returns an empty log by the options, or reports why there is none.
 fn begin_log<R: Runtime + AllocGlobal + RandomSource>(
     rt: &R,
-    asked: &Asked,
+    asked: &RunOptions,
     name: &str,
-) -> Result<Log<Kept>, Exit>
+) -> Result<Log<CollectedPieces>, Exit>
     ensures { HasFailed result }
 {
     let keys = match RandomState::new(rt) {
         Ok(keys) => keys,
         Err(e) => {
-            return Err(tell(rt, "the system's random numbers", Failure::Reading(e), 0));
+            return Err(report(rt, "the system's random numbers", Failure::Reading(e), 0));
         }
     };
     match log_of(rt.alloc(), asked, keys) {
         Ok(log) => Ok(log),
-        Err(_) => Err(tell(rt, name, Failure::OutOfMemory, 0)),
+        Err(_) => Err(report(rt, name, Failure::OutOfMemory, 0)),
     }
 }
 
@@ -571,7 +575,7 @@ fn begin_log<R: Runtime + AllocGlobal + RandomSource>(
 /// - `Failed` if memory ran out, or a read or a write failed.
 pub fn log_input<R: Runtime + AllocGlobal + RandomSource, I: Read + Source, W: Write>(
     rt: &R,
-    asked: &Asked,
+    asked: &RunOptions,
     name: &str,
     reader: &mut I,
     out: Output<W>,
@@ -609,7 +613,7 @@ fn log_next<R: Runtime + AllocGlobal, O: Opener, W: Write>(
 {
     match opener.open(number) {
         Ok(mut reader) => log_source(rt, name, logger, &mut reader),
-        Err(e) => tell(rt, name, Failure::Opening(e), 0),
+        Err(e) => report(rt, name, Failure::Opening(e), 0),
     }
 }
 
@@ -632,7 +636,7 @@ fn log_last<R: Runtime + AllocGlobal, W: Write>(
 /// read whole, the next one still is.
 pub fn log_joined<R: Runtime + AllocGlobal + RandomSource, O: Opener, W: Write>(
     rt: &R,
-    asked: &Asked,
+    asked: &RunOptions,
     opener: &O,
     out: Output<W>,
 ) -> (Exit, Output<W>)
@@ -668,7 +672,7 @@ pub fn log_joined<R: Runtime + AllocGlobal + RandomSource, O: Opener, W: Write>(
 /// Logs the capture in a file. Its progress is shown on a terminal.
 pub fn log_file<R: Runtime + AllocGlobal + RandomSource, W: Write>(
     rt: &R,
-    asked: &Asked,
+    asked: &RunOptions,
     path: &str,
     out: Output<W>,
 ) -> (Exit, Output<W>)
@@ -676,21 +680,21 @@ pub fn log_file<R: Runtime + AllocGlobal + RandomSource, W: Write>(
 {
     match fs::open(rt, path) {
         Ok(file) => {
-            let mut reader = Watched::new(rt, path, path, file);
+            let mut reader = ProgressReader::new(rt, path, path, file);
             log_input(rt, asked, path, &mut reader, out)
         }
-        Err(e) => (tell(rt, path, Failure::Opening(e), 0), out),
+        Err(e) => (report(rt, path, Failure::Opening(e), 0), out),
     }
 }
 
 /// Logs the capture on standard input.
 pub fn log_standard_input<R: Runtime + AllocGlobal + RandomSource, W: Write>(
     rt: &R,
-    asked: &Asked,
+    asked: &RunOptions,
     out: Output<W>,
 ) -> (Exit, Output<W>)
     ensures { HasWritten out.has_failed result.0 result.1.has_failed }
 {
-    let mut reader = Watched::new(rt, STANDARD_INPUT_NAME, STANDARD_INPUT, rt.reader());
+    let mut reader = ProgressReader::new(rt, STANDARD_INPUT_NAME, STANDARD_INPUT, rt.reader());
     log_input(rt, asked, STANDARD_INPUT_NAME, &mut reader, out)
 }

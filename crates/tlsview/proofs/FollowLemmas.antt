@@ -14,16 +14,16 @@ use Rattle.tls_states.specs.declared.state.TlsState.{TlsState}
 use Rattle.tlsview.specs.Transition.{goes_to_server, state_after, changes_cipher}
 use Rattle.tlsview.specs.Out.{Messages, messages_of, message_line, content_of}
 use Rattle.tlsview.specs.Shown.{IsShown}
-use Rattle.tlsview.specs.declared.direction.Direction.{Direction}
-use Rattle.tlsview.specs.declared.records.Next.TheVariants as next
+use Rattle.tlsview.specs.declared.direction.LineDirection.{LineDirection}
+use Rattle.tlsview.specs.declared.records.NextRecord.TheVariants as next
 
-same_symbols : (d : Direction) (ms : List TlsMessage)
+same_symbols : (d : LineDirection) (ms : List TlsMessage)
     → map (λ m. symbol_of_viewed m (goes_to_server d)) (map view_message ms)
     ≡ map (λ m. symbols.symbol_of m (goes_to_server d)) ms
 same_symbols d [] = refl
 same_symbols d (m ∷ ms) = ap (λ w. symbols.symbol_of m (goes_to_server d) ∷ w) (same_symbols d ms)
 
-pub followed : (d : Direction) (q : TlsState) (ms : List TlsMessage)
+pub followed : (d : LineDirection) (q : TlsState) (ms : List TlsMessage)
     → run q (map (λ m. symbols.symbol_of m (goes_to_server d)) ms) ≡ state_after d q
     (map view_message ms)
 followed d q ms = ap (run q) (sym (same_symbols d ms))
@@ -34,7 +34,7 @@ changed [] = refl
 changed (m ∷ ms) = ap (λ t. changes_cipher (view_message m) || t) (changed ms)
 
 -- The messages of a record that isn't encrypted, printed and followed.
-pub messages_shown : (d : Direction) (text text' : List ℕ) (q q' : TlsState)
+pub messages_shown : (d : LineDirection) (text text' : List ℕ) (q q' : TlsState)
     (enc enc' to_server : Bool) (v : RawRecord)
     (r : Bytes) (ms s1 s2 s3 : List TlsMessage)
     → enc ≡ false → reading (record_content v.header) v.fragment ≡ Ok (map view_message ms, r)

@@ -9,13 +9,13 @@ use Rattle.tls_records.specs.Record.{Plaintext, RawRecord, plaintext, raw_record
 use Rattle.tls_records.proofs.ContentLemmas.{plaintext_is_raw_then_content}
 use Rattle.tlsview.specs.Fault.{Refused}
 use Rattle.tlsview.specs.Out.{Half, Part, Messages, messages_of, content_of, content_part, record_part}
-use Rattle.tlsview.specs.declared.direction.Direction.{Direction}
+use Rattle.tlsview.specs.declared.direction.LineDirection.{LineDirection}
 
 abbrev with_messages : RawRecord × Bytes → Answer (List Message) → Answer Plaintext
 with_messages x a = a and_then λ m. Ok (record { header = x.0.header; messages = m.0 }, x.1)
 
 -- what a raw record prints if it isn't encrypted
-plain_part : (d : Direction) (h : Half) (x : RawRecord × Bytes) (k : Answer (List Message))
+plain_part : (d : LineDirection) (h : Half) (x : RawRecord × Bytes) (k : Answer (List Message))
     (behind : Half → Part Half)
     → h.is_encrypted ≡ false
     → reading (record_content x.0.header) x.0.fragment ≡ k
@@ -24,7 +24,7 @@ plain_part d h x k behind plain e =
     ap (λ t. content_part d h x.1 (content_of t x.0) behind) plain
     ∙ ap (λ a. content_part d h x.1 (messages_of a) behind) e
 
-pub plain_read : (d : Direction) (h : Half) (p : Plaintext) (rest : Bytes)
+pub plain_read : (d : LineDirection) (h : Half) (p : Plaintext) (rest : Bytes)
     (behind : Half → Part Half)
     → h.is_encrypted ≡ false → reading plaintext h.left ≡ Ok (p, rest)
     → record_part d h (reading raw_record h.left) behind ≡ content_part d h rest
@@ -48,7 +48,7 @@ plain_read d h p rest behind plain e =
     go (Ok x) g = held x (reading (record_content x.0.header) x.0.fragment) refl g
     go (Err f) g = absurd cc
 
-pub plain_refused : (d : Direction) (h : Half) (kind : ErrorKind) (behind : Half → Part Half)
+pub plain_refused : (d : LineDirection) (h : Half) (kind : ErrorKind) (behind : Half → Part Half)
     → h.is_encrypted ≡ false
     → reading plaintext h.left ≡ Err (Broken kind)
     → record_part d h (reading raw_record h.left) behind ≡ ([], Err (Refused (Broken kind)))

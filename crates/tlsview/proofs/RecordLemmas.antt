@@ -48,14 +48,14 @@ use Rattle.tlsview.specs.Out.{
   cipher_behind,
 }
 use Rattle.tlsview.specs.Shown.{IsShown, IsNext}
-use Rattle.tlsview.specs.declared.direction.Direction.{Direction}
-use Rattle.tlsview.specs.declared.records.Next as rust_next
-use Rattle.tlsview.specs.declared.records.Next.TheVariants as next
+use Rattle.tlsview.specs.declared.direction.LineDirection.{LineDirection}
+use Rattle.tlsview.specs.declared.records.NextRecord as rust_next
+use Rattle.tlsview.specs.declared.records.NextRecord.TheVariants as next
 
 abbrev then_part : List ℕ → Part Half → Part Half
 then_part text p = (text ++ p.0, p.1)
 
-same_part : (d : Direction) (h : Half) (f g : Half → Part Half)
+same_part : (d : LineDirection) (h : Half) (f g : Half → Part Half)
     → ((k : Half) → length k.left < length h.left → f k ≡ g k)
     → record_part d h (reading raw_record h.left) f ≡ record_part d h (reading raw_record h.left) g
 same_part d h f g same = go (reading raw_record h.left) refl
@@ -73,7 +73,7 @@ same_part d h f g same = go (reading raw_record h.left) refl
     go (Err (Broken k)) e = refl
 
 -- the count of records doesn't matter, once it is at least the count of bytes
-enough : (m n : ℕ) (d : Direction) (h : Half) → length h.left < m → length h.left < n
+enough : (m n : ℕ) (d : LineDirection) (h : Half) → length h.left < m → length h.left < n
     → records_part m d h ≡ records_part n d h
 enough zero n d h less more = absurd (omega (arith, less))
 enough (suc m) zero d h less more = absurd (omega (arith, more))
@@ -81,7 +81,7 @@ enough (suc m) (suc n) d h less more = same_part d h (records_part m d) (records
     (λ k short. enough m n d k (omega (arith, short, less)) (omega (arith, short, more)))
 
 -- the records of some bytes are the next one and those after it
-pub record_by_record : (d : Direction) (h : Half)
+pub record_by_record : (d : LineDirection) (h : Half)
     → half_part d h ≡ record_part d h (reading raw_record h.left) (half_part d)
 record_by_record d h = same_part d h (records_part (length h.left) d) (half_part d)
     (λ k short. enough (length h.left) (suc (length k.left)) d k short (omega arith))
@@ -89,17 +89,17 @@ record_by_record d h = same_part d h (records_part (length h.left) d) (half_part
 abbrev half_of : Bytes → Bool → TlsState → Half
 half_of b enc q = record { left = b; is_encrypted = enc; state = q }
 
-half_then : (d : Direction) (h : Half) (a : Answer RawRecord) → reading raw_record h.left ≡ a
+half_then : (d : LineDirection) (h : Half) (a : Answer RawRecord) → reading raw_record h.left ≡ a
     → half_part d h ≡ record_part d h a (half_part d)
 half_then d h a e = record_by_record d h ∙ ap (λ a. record_part d h a (half_part d)) e
 
 -- One more record was printed, and removed.
-pub record OneShown (d : Direction) (text text' : List ℕ) (h h' : Half) : Type 0 where
+pub record OneShown (d : LineDirection) (text text' : List ℕ) (h h' : Half) : Type 0 where
   pub text_is : text' ++ (half_part d h').0 ≡ text ++ (half_part d h).0
   pub ending_is : (half_part d h').1 ≡ (half_part d h).1
   pub fewer : length h'.left < length h.left
 
-one_content : (d : Direction) (text text' : List ℕ) (b r new : Bytes) (enc enc' : Bool)
+one_content : (d : LineDirection) (text text' : List ℕ) (b r new : Bytes) (enc enc' : Bool)
     (q q' : TlsState)
     (v : RawRecord) (c : Content)
     → reading raw_record b ≡ Ok (v, r) → content_of enc v ≡ Ok c → new ≡ r
@@ -124,7 +124,7 @@ one_content d text text' b r new enc enc' q q' v c read holds rest printed follo
       fewer = omega (arith, record_takes b r v read, ap length rest);
     }
 
-pub one_shown : (d : Direction) (text text' : List ℕ) (b new : Bytes) (enc enc' taken : Bool)
+pub one_shown : (d : LineDirection) (text text' : List ℕ) (b new : Bytes) (enc enc' taken : Bool)
     (q q' : TlsState)
     (n : rust_next.Next) → n ≡ next.Record enc'
     → IsNext d text q text' q' enc (reading raw_record b) n
@@ -153,12 +153,12 @@ one_shown d text text' b new enc enc' taken q q' n same is takes =
     go (Err (Broken k)) read s t = absurd s
 
 -- Nothing more is printed: the text, and the state then.
-pub record IsLast (d : Direction) (text text' : List ℕ) (h : Half)
+pub record IsLast (d : LineDirection) (text text' : List ℕ) (h : Half)
     (end : Result Half Fault) : Type 0 where
   pub text_is : text' ≡ text ++ (half_part d h).0
   pub ending_is : (half_part d h).1 ≡ end
 
-abbrev last_part : (d : Direction) (text text' : List ℕ) (h : Half) (end : Result Half Fault)
+abbrev last_part : (d : LineDirection) (text text' : List ℕ) (h : Half) (end : Result Half Fault)
     → text' ≡ text
     → half_part d h ≡ ([], end) → IsLast d text text' h end
 last_part d text text' h end same is = record {
@@ -167,7 +167,7 @@ last_part d text text' h end same is = record {
 }
 
 -- A direction with a length that is too large stays so.
-pub too_large_shown : (d : Direction) (text : List ℕ) (b s : Bytes) (enc : Bool) (q : TlsState)
+pub too_large_shown : (d : LineDirection) (text : List ℕ) (b s : Bytes) (enc : Bool) (q : TlsState)
     → IsTooLarge record_frame b
     → IsLast d text text (half_of (b ++ s) enc q) (Err (Refused (Broken TooLarge)))
 too_large_shown d text b s enc q large =

@@ -26,14 +26,14 @@ use Rattle.hex.specs.Hex.{decode_of}
 use Rattle.hex.proofs.HexLemmas.{decode_of-ok, decode_of-digits}
 use Rattle.tlsview.specs.Direction.{sign_of, direction_of}
 use Rattle.tlsview.specs.Statement.{with_direction, said_by, IsStatement}
-use Rattle.tlsview.specs.declared.direction.Direction.{Direction}
-use Rattle.tlsview.specs.declared.direction.Direction.TheVariants.{ToServer, FromServer}
+use Rattle.tlsview.specs.declared.direction.LineDirection.{LineDirection}
+use Rattle.tlsview.specs.declared.direction.LineDirection.TheVariants.{ToServer, FromServer}
 
-sign_back : (d : Direction) → direction_of (sign_of d) ≡ Some d
+sign_back : (d : LineDirection) → direction_of (sign_of d) ≡ Some d
 sign_back ToServer = refl
 sign_back FromServer = refl
 
-sign_stands : (sign : ℕ) (d : Direction) → direction_of sign ≡ Some d → sign ≡ sign_of d
+sign_stands : (sign : ℕ) (d : LineDirection) → direction_of sign ≡ Some d → sign ≡ sign_of d
 sign_stands sign d h = tests (eqb sign 62) (eqb sign 60) refl refl h
   where
     tests : (s t : Bool) → eqb sign 62 ≡ s → eqb sign 60 ≡ t
@@ -43,8 +43,8 @@ sign_stands sign d h = tests (eqb sign 62) (eqb sign 60) refl refl h
     tests false false e f g = cc
 
 -- the parts of a line whose digits are decoded
-decoded : (d : Option Direction) (digits : List ℕ) → IsSome (with_direction d digits)
-    → (e : Direction) × (d ≡ Some e) × (bytes : List ℕ) × (decode_of digits ≡ Ok bytes)
+decoded : (d : Option LineDirection) (digits : List ℕ) → IsSome (with_direction d digits)
+    → (e : LineDirection) × (d ≡ Some e) × (bytes : List ℕ) × (decode_of digits ≡ Ok bytes)
 decoded None digits h = cc h
 decoded (Some e) digits h = let found = go (decode_of digits) refl in (e, refl, found.0, found.1)
   where

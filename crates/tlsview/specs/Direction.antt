@@ -1,7 +1,7 @@
 -- The signs of the two directions.
 use Rattle.std.specs.Prelude.{ℕ, ◌==◌, if◌then◌else◌, Option, Some, None}
-use Rattle.tlsview.specs.declared.direction.Direction as rust
-use Rattle.tlsview.specs.declared.direction.Direction.TheVariants.{ToServer, FromServer}
+use Rattle.tlsview.specs.declared.direction.LineDirection as rust
+use Rattle.tlsview.specs.declared.direction.LineDirection.TheVariants.{ToServer, FromServer}
 
 -- `>` and `<`
 abbrev pub sign_of : rust.Direction → ℕ

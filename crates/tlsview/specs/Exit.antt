@@ -1,7 +1,7 @@
 -- The exit statuses of a run.
 use Rattle.std.specs.Prelude.{ℕ}
-use Rattle.tlsview.specs.declared.exit.Exit as rust
-use Rattle.tlsview.specs.declared.exit.Exit.TheVariants.{Clean, Fault, BadLine, Failed}
+use Rattle.tlsview.specs.declared.exit.ViewExit as rust
+use Rattle.tlsview.specs.declared.exit.ViewExit.TheVariants.{Clean, Fault, BadLine, Failed}
 
 abbrev pub status_of : rust.Exit → ℕ
 status_of Clean = 0

@@ -4,8 +4,8 @@ use Rattle.std.specs.Fmt.{decimal}
 use Rattle.layouts.specs.Meaning.{Refusal, Broken, Lacks}
 use Rattle.layouts.specs.declared.result.ErrorKind.{ErrorKind}
 use Rattle.layouts.specs.declared.result.ErrorKind.TheVariants.{TooLarge, LengthValue, Verify, Switch, Tag, Complete}
-use Rattle.tlsview.specs.declared.fault.Fault as rust
-use Rattle.tlsview.specs.declared.fault.Fault.TheVariants as rust_fault
+use Rattle.tlsview.specs.declared.fault.ViewFault as rust
+use Rattle.tlsview.specs.declared.fault.ViewFault.TheVariants as rust_fault
 
 -- a refused record, or a malformed line
 pub data Fault : Type 0 where

@@ -38,10 +38,10 @@ use Rattle.tlsview.specs.Statement.{Said, said_by}
 use Rattle.tlsview.specs.Fault.{Fault, Refused, BadLine, fault_line, fault_text, fault_status}
 use Rattle.tlsview.specs.Names.{message_name}
 use Rattle.tlsview.specs.Transition.{state_after, changes_cipher}
-use Rattle.tlsview.specs.declared.conversation.Side.{Side}
-use Rattle.tlsview.specs.declared.conversation.Conversation.{Conversation}
-use Rattle.tlsview.specs.declared.direction.Direction.{Direction}
-use Rattle.tlsview.specs.declared.direction.Direction.TheVariants.{ToServer, FromServer}
+use Rattle.tlsview.specs.declared.conversation.ViewedSide.{ViewedSide}
+use Rattle.tlsview.specs.declared.conversation.ViewedConversation.{ViewedConversation}
+use Rattle.tlsview.specs.declared.direction.LineDirection.{LineDirection}
+use Rattle.tlsview.specs.declared.direction.LineDirection.TheVariants.{ToServer, FromServer}
 
 -- the content of a record: an encrypted one isn't parsed
 pub data Content : Type 0 where
@@ -57,10 +57,10 @@ abbrev pub content_of : Bool → RawRecord → Result Content Refusal
 content_of true v = Ok Encrypted
 content_of false v = messages_of (reading (record_content v.header) v.fragment)
 
-abbrev pub message_line : Direction → Message → List ℕ
+abbrev pub message_line : LineDirection → Message → List ℕ
 message_line d message = sign_of d ∷ 32 ∷ (message_name message ++ codes "\n")
 
-abbrev pub content_text : Direction → Content → List ℕ
+abbrev pub content_text : LineDirection → Content → List ℕ
 content_text d Encrypted = sign_of d ∷ 32 ∷ (codes "Encrypted" ++ codes "\n")
 content_text d (Messages ms) = flat_map (message_line d) ms
 
@@ -72,7 +72,7 @@ pub record Half : Type 0 where
   pub state : TlsState
 
 -- an encrypted record changes nothing
-abbrev pub state_behind : Direction → TlsState → Content → TlsState
+abbrev pub state_behind : LineDirection → TlsState → Content → TlsState
 state_behind d state Encrypted = state
 state_behind d state (Messages ms) = state_after d state ms
 
@@ -80,7 +80,7 @@ abbrev pub cipher_behind : Content → Bool
 cipher_behind Encrypted = false
 cipher_behind (Messages ms) = list_any changes_cipher ms
 
-abbrev pub half_behind : Direction → Half → Content → Bytes → Half
+abbrev pub half_behind : LineDirection → Half → Content → Bytes → Half
 half_behind d h c rest = record {
   left = rest;
   is_encrypted = h.is_encrypted || cipher_behind c;
@@ -92,7 +92,7 @@ half_behind d h c rest = record {
 abbrev pub Part : Type 0 → Type 0
 Part A = List ℕ × Result A Fault
 
-abbrev pub content_part : Direction → Half → Bytes → Result Content Refusal → (Half → Part Half)
+abbrev pub content_part : LineDirection → Half → Bytes → Result Content Refusal → (Half → Part Half)
     → Part Half
 content_part d h rest (Err e) behind = ([], Err (Refused e))
 content_part d h rest (Ok c) behind = (
@@ -101,60 +101,62 @@ content_part d h rest (Ok c) behind = (
 )
 
 -- the next record, and those after it; an unfinished record is left to read
-abbrev pub record_part : Direction → Half → Answer RawRecord → (Half → Part Half) → Part Half
+abbrev pub record_part : LineDirection → Half → Answer RawRecord → (Half → Part Half) → Part Half
 record_part d h (Ok x) behind = content_part d h x.1 (content_of h.is_encrypted x.0) behind
 record_part d h (Err (Lacks n)) behind = ([], Ok h)
 record_part d h (Err (Broken kind)) behind = ([], Err (Refused (Broken kind)))
 
 -- the records in order, fewer than n of them
-abbrev pub records_part : ℕ → Direction → Half → Part Half
+abbrev pub records_part : ℕ → LineDirection → Half → Part Half
 records_part zero d h = ([], Ok h)
 records_part (suc n) d h = record_part d h (reading raw_record h.left) (records_part n d)
 
 -- all whole records: there are no more of them than bytes
-abbrev pub half_part : Direction → Half → Part Half
+abbrev pub half_part : LineDirection → Half → Part Half
 half_part d h = records_part (suc (length h.left)) d h
 
 -- one direction of a conversation, and the conversation after it is read
-abbrev pub half : Side → TlsState → Half
+abbrev pub half : ViewedSide → TlsState → Half
 half side state = record { left = side.stream; is_encrypted = side.is_encrypted; state = state }
 
-abbrev pub side_of : Direction → Conversation → Side
+abbrev pub side_of : LineDirection → ViewedConversation → ViewedSide
 side_of ToServer c = c.to_server
 side_of FromServer c = c.from_server
 
-abbrev pub side_behind : Half → Side
+abbrev pub side_behind : Half → ViewedSide
 side_behind h = record { stream = h.left; is_encrypted = h.is_encrypted }
 
-abbrev pub conversation_behind : Direction → Conversation → Half → Conversation
+abbrev pub conversation_behind : LineDirection → ViewedConversation → Half → ViewedConversation
 conversation_behind ToServer c h =
     record { to_server = side_behind h; from_server = c.from_server; context = h.state }
 conversation_behind FromServer c h =
     record { to_server = c.to_server; from_server = side_behind h; context = h.state }
 
-abbrev pub result_behind : Direction → Conversation → Result Half Fault → Result Conversation Fault
+abbrev pub result_behind : LineDirection → ViewedConversation → Result Half Fault
+    → Result ViewedConversation Fault
 result_behind d c (Ok h) = Ok (conversation_behind d c h)
 result_behind d c (Err fault) = Err fault
 
-abbrev pub with_half : Direction → Conversation → Part Half → Part Conversation
+abbrev pub with_half : LineDirection → ViewedConversation → Part Half → Part ViewedConversation
 with_half d c p = (p.0, result_behind d c p.1)
 
 -- more bytes of a direction, after those that it has left
-abbrev pub fed : Side → Bytes → Side
+abbrev pub fed : ViewedSide → Bytes → ViewedSide
 fed side bytes = record { stream = side.stream ++ bytes; is_encrypted = side.is_encrypted }
 
-abbrev pub said_part : Conversation → Option Said → Part Conversation
+abbrev pub said_part : ViewedConversation → Option Said → Part ViewedConversation
 said_part c None = ([], Err BadLine)
 said_part c (Some said) =
     with_half said.0 c (half_part said.0 (half (fed (side_of said.0 c) said.1) c.context))
 
 -- an empty line is skipped
-abbrev pub line_part : Conversation → List ℕ → Part Conversation
+abbrev pub line_part : ViewedConversation → List ℕ → Part ViewedConversation
 line_part c [] = ([], Ok c)
 line_part c (b ∷ bs) = said_part c (said_by (b ∷ bs))
 
 -- a line's part, and then the other lines, unless it ends the run
-abbrev pub followed_by : ℕ → Part Conversation → (Conversation → List ℕ × ℕ) → List ℕ × ℕ
+abbrev pub followed_by : ℕ → Part ViewedConversation → (ViewedConversation → List ℕ × ℕ)
+    → List ℕ × ℕ
 followed_by k (text, Ok c) others = (text ++ (others c).0, (others c).1)
 followed_by k (text, Err fault) others = (text ++ fault_line k fault, fault_status fault)
 
@@ -177,18 +179,18 @@ abbrev pub end_part : Option ℕ → TlsState → List ℕ × ℕ
 end_part (Some n) state = (codes "end: " ++ fault_text (Refused (Lacks n)) ++ codes "\n", 1)
 end_part None state = (codes "state " ++ state_name state ++ codes "\n", 0)
 
-abbrev pub end_of : Conversation → List ℕ × ℕ
+abbrev pub end_of : ViewedConversation → List ℕ × ℕ
 end_of c = end_part (either_missing (missing c.to_server.stream) (missing c.from_server.stream))
     c.context
 
 -- the lines from line k on, each without one carriage return at its end
-abbrev pub out_from : ℕ → Conversation → List (List ℕ) → List ℕ × ℕ
+abbrev pub out_from : ℕ → ViewedConversation → List (List ℕ) → List ℕ × ℕ
 out_from k c [] = end_of c
 out_from k c (line ∷ lines) =
     followed_by k (line_part c (strip_last 13 line)) (λ c. out_from (k + 1) c lines)
 
 -- nothing was read
-abbrev pub silence : Conversation
+abbrev pub silence : ViewedConversation
 silence = record {
   to_server = record { stream = []; is_encrypted = false };
   from_server =

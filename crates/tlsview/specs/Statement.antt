@@ -4,14 +4,14 @@ use Rattle.std.specs.List.{AllPass}
 use Rattle.std.specs.Result.{result_ok}
 use Rattle.hex.specs.Hex.{decode_of, is_hex_digit}
 use Rattle.tlsview.specs.Direction.{sign_of, direction_of}
-use Rattle.tlsview.specs.declared.direction.Direction.{Direction}
+use Rattle.tlsview.specs.declared.direction.LineDirection.{LineDirection}
 
 -- the direction and the bytes of a line
 abbrev pub Said : Type 0
-Said = Direction × List ℕ
+Said = LineDirection × List ℕ
 
 -- the bytes of the digits, in this direction
-abbrev pub with_direction : Option Direction → List ℕ → Option Said
+abbrev pub with_direction : Option LineDirection → List ℕ → Option Said
 with_direction None digits = None
 with_direction (Some direction) digits =
     option_map (λ bytes. (direction, bytes)) (result_ok (decode_of digits))
@@ -24,7 +24,7 @@ said_by _ = None
 
 -- a sign, a space, and an even number of digits
 pub record IsStatement (line : List ℕ) : Type 0 where
-  pub direction : Direction
+  pub direction : LineDirection
   pub digits : List ℕ
   pub spelled : line ≡ sign_of direction ∷ 32 ∷ digits
   pub even : length digits % 2 ≡ 0

@@ -4,15 +4,15 @@ use Rattle.tls_hs.specs.Message as messages
 use Rattle.tls_states.specs.Symbols.{symbol_of_viewed}
 use Rattle.tls_states.specs.Steps.{run}
 use Rattle.tls_states.specs.declared.state.TlsState.{TlsState}
-use Rattle.tlsview.specs.declared.direction.Direction.{Direction}
-use Rattle.tlsview.specs.declared.direction.Direction.TheVariants.{ToServer, FromServer}
+use Rattle.tlsview.specs.declared.direction.LineDirection.{LineDirection}
+use Rattle.tlsview.specs.declared.direction.LineDirection.TheVariants.{ToServer, FromServer}
 
-abbrev pub goes_to_server : Direction → Bool
+abbrev pub goes_to_server : LineDirection → Bool
 goes_to_server ToServer = true
 goes_to_server FromServer = false
 
 -- the state after messages of one direction
-abbrev pub state_after : Direction → TlsState → List messages.Message → TlsState
+abbrev pub state_after : LineDirection → TlsState → List messages.Message → TlsState
 state_after d state ms = run state (map (λ m. symbol_of_viewed m (goes_to_server d)) ms)
 
 -- the message after which all records of its direction are encrypted

@@ -8,7 +8,7 @@ use tls_stream::Reassembler;
 
 /// One direction of a conversation.
 #[derive(Drop)]
-pub struct Side {
+pub struct ViewedSide {
     /// The bytes that are still to be read.
     pub stream: Reassembler,
     /// Whether it has sent its ChangeCipherSpec, so that its further records are encrypted.
@@ -17,32 +17,32 @@ pub struct Side {
 
 /// Both directions, and the state of the handshake.
 #[derive(Drop)]
-pub struct Conversation {
-    pub to_server: Side,
-    pub from_server: Side,
+pub struct ViewedConversation {
+    pub to_server: ViewedSide,
+    pub from_server: ViewedSide,
     pub context: ParseContext,
 }
 
-impl Side {
-    fn new(alloc: Global) -> Side
+impl ViewedSide {
+    fn new(alloc: Global) -> ViewedSide
         ensures stream { result.stream ≡ [] }
         ensures plain { result.is_encrypted ≡ false }
     {
-        Side {
+        ViewedSide {
             stream: Reassembler::new(alloc),
             is_encrypted: false,
         }
     }
 }
 
-impl Conversation {
+impl ViewedConversation {
     /// A conversation of which nothing was read.
-    pub fn new(alloc: Global) -> Conversation
+    pub fn new(alloc: Global) -> ViewedConversation
         ensures { result ≡ silence }
     {
-        Conversation {
-            to_server: Side::new(alloc),
-            from_server: Side::new(alloc),
+        ViewedConversation {
+            to_server: ViewedSide::new(alloc),
+            from_server: ViewedSide::new(alloc),
             context: ParseContext::new(),
         }
     }

@@ -5,19 +5,19 @@ ghost use Rattle.tlsview.specs.Transition.{goes_to_server as is_to_server};
 
 /// The direction of bytes.
 #[derive(Clone, Copy, Debug, PartialEq, Eq)]
-pub enum Direction {
+pub enum LineDirection {
     ToServer,
     FromServer,
 }
 
-impl Direction {
+impl LineDirection {
     /// The direction of a line's first byte.
     pub fn from_sign(sign: u8) -> Option<Self>
         ensures { result ≡ direction_of sign }
     {
         match sign {
-            b'>' => Some(Direction::ToServer),
-            b'<' => Some(Direction::FromServer),
+            b'>' => Some(LineDirection::ToServer),
+            b'<' => Some(LineDirection::FromServer),
             _ => None,
         }
     }
@@ -27,8 +27,8 @@ impl Direction {
         ensures { result.now ≡ sign_of self ∷ 32 ∷ [] }
     {
         match self {
-            Direction::ToServer => "> ",
-            Direction::FromServer => "< ",
+            LineDirection::ToServer => "> ",
+            LineDirection::FromServer => "< ",
         }
     }
 
@@ -37,8 +37,8 @@ impl Direction {
         ensures { result ≡ is_to_server self }
     {
         match self {
-            Direction::ToServer => true,
-            Direction::FromServer => false,
+            LineDirection::ToServer => true,
+            LineDirection::FromServer => false,
         }
     }
 }

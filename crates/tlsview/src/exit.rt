@@ -4,7 +4,7 @@ ghost use Rattle.tlsview.specs.Exit.{status_of};
 
 /// How a run ends; each case has an exit status.
 #[derive(Clone, Copy, Debug, PartialEq, Eq)]
-pub enum Exit {
+pub enum ViewExit {
     /// All lines were printed.
     Clean,
     /// A record was refused.
@@ -15,15 +15,15 @@ pub enum Exit {
     Failed,
 }
 
-impl From<Exit> for u8 {
+impl From<ViewExit> for u8 {
     ghost from_gives = { λ exit status. status ≡ status_of exit };
 
-    fn from(exit: Exit) -> u8 {
+    fn from(exit: ViewExit) -> u8 {
         match exit {
-            Exit::Clean => 0,
-            Exit::Fault => 1,
-            Exit::BadLine => 2,
-            Exit::Failed => 3,
+            ViewExit::Clean => 0,
+            ViewExit::Fault => 1,
+            ViewExit::BadLine => 2,
+            ViewExit::Failed => 3,
         }
     }
 }

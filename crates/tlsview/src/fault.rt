@@ -4,14 +4,14 @@ ghost use Rattle.layouts.specs.Answers.{IsNotOutOfMemory, IsRefusal, refusal_of}
 ghost use Rattle.tlsview.specs.Fault.{kind_name as name_of_kind, Refused, fault_status, fault_text, view_fault};
 ghost use Rattle.tlsview.specs.Exit.{status_of};
 
-use crate::exit::Exit;
+use crate::exit::ViewExit;
 use layouts::{Err, Error, ErrorKind, Needed};
 use std::alloc::AllocError;
 use std::fmt;
 
 /// What ends a run before its last line.
 #[derive(Clone, Copy, Debug, PartialEq, Eq)]
-pub enum Fault {
+pub enum ViewFault {
     /// A record lacks this many bytes.
     Incomplete(usize),
     /// A record breaks a rule.
@@ -33,7 +33,7 @@ fn kind_name(kind: ErrorKind) -> &'static str
     }
 }
 
-impl Fault {
+impl ViewFault {
     /// The fault of a refusal, unless there was no memory.
     pub fn of_refusal(refusal: Err<Error<&[u8]>>) -> Result<Self, AllocError>
         requires { IsNotOutOfMemory refusal → IsRefusal refusal }
@@ -43,35 +43,35 @@ impl Fault {
         ensures err { OnErr result (refusal.entry ≡ Err.OutOfMemory) }
     {
         match refusal {
-            Err::Incomplete(Needed::Size(missing)) => Ok(Fault::Incomplete(missing)),
-            Err::Error(error) => Ok(Fault::Error(error.code)),
+            Err::Incomplete(Needed::Size(missing)) => Ok(ViewFault::Incomplete(missing)),
+            Err::Error(error) => Ok(ViewFault::Error(error.code)),
             Err::OutOfMemory => Err(AllocError),
             Err::Incomplete(Needed::Unknown) | Err::Failure(_) => unreachable!(),
         }
     }
 
     /// How a run with this fault ends.
-    pub fn exit(self) -> Exit
+    pub fn exit(self) -> ViewExit
         ensures { status_of result ≡ fault_status (view_fault self) }
     {
         match self {
-            Fault::Incomplete(_) | Fault::Error(_) => Exit::Fault,
-            Fault::BadLine => Exit::BadLine,
+            ViewFault::Incomplete(_) | ViewFault::Error(_) => ViewExit::Fault,
+            ViewFault::BadLine => ViewExit::BadLine,
         }
     }
 }
 
-impl fmt::Display for Fault {
+impl fmt::Display for ViewFault {
     ghost output = { λ fault. Some (fault_text (view_fault fault)) };
 
     fn fmt<W: fmt::Write>(&self, f: &mut fmt::Formatter<W>) -> fmt::Result {
         match self {
-            Fault::Incomplete(missing) => write!(f, "incomplete {missing}"),
-            Fault::Error(kind) => {
+            ViewFault::Incomplete(missing) => write!(f, "incomplete {missing}"),
+            ViewFault::Error(kind) => {
                 let name = kind_name(*kind);
                 write!(f, "error {name}")
             }
-            Fault::BadLine => write!(f, "bad line"),
+            ViewFault::BadLine => write!(f, "bad line"),
         }
     }
 }

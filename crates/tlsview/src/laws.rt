@@ -6,9 +6,9 @@ ghost use Rattle.tlsview.specs.Out.{Half, half_part, out, record_part};
 ghost use Rattle.tlsview.specs.Plain.{PlaintextIsPrinted, PlaintextIsRefused};
 ghost use Rattle.tlsview.specs.Exit.{status_of};
 ghost use Rattle.tlsview.specs.Statement.{IsStatement, said_by};
-ghost use Rattle.tlsview.specs.declared.direction.Direction.{Direction};
+ghost use Rattle.tlsview.specs.declared.direction.LineDirection.{LineDirection};
 
-use crate::exit::Exit;
+use crate::exit::ViewExit;
 use crate::program::view;
 use std::alloc::Global;
 
@@ -19,7 +19,7 @@ pub fn statement_form()
 
 /// The next record is taken off what a direction has left, and then the rest is read likewise.
 pub fn record_by_record()
-    ensures { (direction : Direction) (h : Half)
+    ensures { (direction : LineDirection) (h : Half)
         → half_part direction h ≡ record_part direction h (reading raw_record h.left)
         (half_part direction) }
 {}
@@ -27,13 +27,13 @@ pub fn record_by_record()
 /// A record that isn't encrypted is parsed as `parse_tls_plaintext` does: its messages are printed,
 /// and its refusal is the fault.
 pub fn plain_records_are_plaintext()
-    ensures read { (direction : Direction) (h : Half) → PlaintextIsPrinted direction h }
-    ensures refused { (direction : Direction) (h : Half) → PlaintextIsRefused direction h }
+    ensures read { (direction : LineDirection) (h : Half) → PlaintextIsPrinted direction h }
+    ensures refused { (direction : LineDirection) (h : Half) → PlaintextIsRefused direction h }
 {}
 
 /// For a slice and a vector the run is `out`.
 pub fn view_bytes(alloc: Global, input: &[u8]) -> (Vec<u8>, u8)
-    ensures { result.1 ≢ status_of Exit.Failed → (result.0.items, result.1) ≡ out input.now }
+    ensures { result.1 ≢ status_of ViewExit.Failed → (result.0.items, result.1) ≡ out input.now }
 {
     let mut reader = input;
     let mut writer = Vec::new(alloc);

@@ -4,11 +4,11 @@ ghost use Rattle.tlsview.specs.Exit.{status_of};
 ghost use Rattle.tlsview.specs.Run.{WritesFront, WritesOut};
 ghost use Rattle.tlsview.specs.Transfer.{most_reads};
 
-use crate::exit::Exit;
+use crate::exit::ViewExit;
 use crate::report::report_of;
 use crate::sink::Sink;
 use crate::tally::Tally;
-use crate::transfer::{Failure, read_whole, write_whole};
+use crate::transfer::{TransferFailure, read_whole, write_whole};
 use std::alloc::Global;
 use std::io::{Read, Write};
 
@@ -22,7 +22,7 @@ pub fn run<R: Read, W: Write>(
     alloc: Global,
     r: &mut Tally<'_, R>,
     w: &mut Sink<'_, W>,
-) -> Result<Exit, Failure>
+) -> Result<ViewExit, TransferFailure>
     requires fresh_reader { (r.old.calls ≡ 0) × (r.old.has_failed ≡ false) }
     requires fresh_writer { w.old.has_failed ≡ false }
     ensures same_reader { r.new.reader.ghost_name ≡ r.old.reader.ghost_name }
@@ -30,15 +30,16 @@ pub fn run<R: Read, W: Write>(
     ensures told { IfOk result (λ exit.
         WritesOut R.remaining W.contents r.old.reader.now r.new.reader.now w.old.writer.now
         w.new.writer.now (status_of exit)) }
-    ensures exit { IfOk result (λ exit. exit ≢ Exit.Failed) }
+    ensures exit { IfOk result (λ exit. exit ≢ ViewExit.Failed) }
 
     // It fails if there is no memory, if the reader fails or uses all its calls, or if the writer
     // fails.
-    ensures cause { IfErr result (λ e. (e ≡ Failure.Memory)
-        ⊎ (((e ≡ Failure.Reading) × ((r.new.has_failed ≡ true) ⊎ (r.new.calls ≡ most_reads)))
-        ⊎ ((e ≡ Failure.Writing) × (w.new.has_failed ≡ true)))) }
-    ensures unwritten { IfErr result (λ e. e ≢ Failure.Writing → w.new.writer.now ≡ w.old.writer.now) }
-    ensures partly_written { IfErr result (λ e. e ≡ Failure.Writing
+    ensures cause { IfErr result (λ e. (e ≡ TransferFailure.Memory)
+        ⊎ (((e ≡ TransferFailure.Reading)
+        × ((r.new.has_failed ≡ true) ⊎ (r.new.calls ≡ most_reads)))
+        ⊎ ((e ≡ TransferFailure.Writing) × (w.new.has_failed ≡ true)))) }
+    ensures unwritten { IfErr result (λ e. e ≢ TransferFailure.Writing → w.new.writer.now ≡ w.old.writer.now) }
+    ensures partly_written { IfErr result (λ e. e ≡ TransferFailure.Writing
         → WritesFront R.remaining W.contents r.old.reader.now r.new.reader.now w.old.writer.now
         w.new.writer.now) }
 {
@@ -59,19 +60,19 @@ pub fn run<R: Read, W: Write>(
 /// The contract of [`run`] gives the fault of a failed run.
 pub fn view<R: Read, W: Write>(alloc: Global, r: &mut R, w: &mut W) -> u8
     // A run that doesn't fail has read all, and has written and returned what `out` gives.
-    ensures told { result ≢ status_of Exit.Failed
+    ensures told { result ≢ status_of ViewExit.Failed
         → WritesOut R.remaining W.contents r.old r.new w.old w.new result }
-    ensures status { result ≤ status_of Exit.Failed }
+    ensures status { result ≤ status_of ViewExit.Failed }
     // A run that fails hasn't written; or it has read all, and written a proper prefix of what
     // `out` gives.
-    ensures failed { result ≡ status_of Exit.Failed
+    ensures failed { result ≡ status_of ViewExit.Failed
         → (w.new ≡ w.old) ⊎ WritesFront R.remaining W.contents r.old r.new w.old w.new }
 {
     let mut reader = Tally::new(r);
     let mut writer = Sink::new(w);
     let exit = match run(alloc, &mut reader, &mut writer) {
         Ok(exit) => exit,
-        Err(_) => Exit::Failed,
+        Err(_) => ViewExit::Failed,
     };
     u8::from(exit)
 }

@@ -11,9 +11,9 @@ ghost use Rattle.tlsview.specs.Shown.{AreShown, IsNextShown, IsRecordShown};
 ghost use Rattle.tlsview.specs.Out.{message_line, fed, half};
 ghost use Rattle.tlsview.specs.Transition.{changes_cipher};
 
-use crate::conversation::Side;
-use crate::direction::Direction;
-use crate::fault::Fault;
+use crate::conversation::ViewedSide;
+use crate::direction::LineDirection;
+use crate::fault::ViewFault;
 use crate::names::add_message_name;
 use layouts::{Err, ErrorKind};
 use std::alloc::{AllocError, Global};
@@ -23,17 +23,17 @@ use tls_states::ParseContext;
 use tls_stream::FeedError;
 
 /// What comes next in a direction.
-pub enum Next {
+pub enum NextRecord {
     /// A record, which is printed; the bool is whether the direction's next records are encrypted.
     Record(bool),
     /// No whole record.
     Nothing,
     /// A fault, which ends the run.
-    Fault(Fault),
+    Fault(ViewFault),
 }
 
 /// Prints a line of the direction.
-fn add_line(text: &mut String, direction: Direction, name: &str) -> Result<(), AllocError>
+fn add_line(text: &mut String, direction: LineDirection, name: &str) -> Result<(), AllocError>
     ensures { OnOk result (string_bytes text.new
         ≡ string_bytes text.old ++ (sign_of direction ∷ 32 ∷ (name.now ++ codes "\n"))) }
 {
@@ -45,7 +45,7 @@ fn add_line(text: &mut String, direction: Direction, name: &str) -> Result<(), A
 /// Prints a line for a message.
 fn show_message(
     text: &mut String,
-    direction: Direction,
+    direction: LineDirection,
     message: &TlsMessage,
 ) -> Result<(), AllocError>
     ensures { OnOk result
@@ -60,7 +60,7 @@ fn show_message(
 /// Prints a line for each message.
 fn show_messages(
     text: &mut String,
-    direction: Direction,
+    direction: LineDirection,
     messages: &[TlsMessage],
 ) -> Result<(), AllocError>
     ensures { OnOk result (string_bytes text.new
@@ -106,11 +106,11 @@ fn change_cipher(messages: &[TlsMessage]) -> bool
 fn show_record(
     alloc: Global,
     text: &mut String,
-    direction: Direction,
+    direction: LineDirection,
     is_encrypted: bool,
     context: &mut ParseContext,
     raw: &TlsRawRecord,
-) -> Result<Next, AllocError>
+) -> Result<NextRecord, AllocError>
     ensures { IfOk result
         (IsRecordShown direction (string_bytes text.old) context.old (string_bytes text.new)
         context.new
@@ -118,16 +118,16 @@ fn show_record(
 {
     if is_encrypted {
         add_line(text, direction, "Encrypted")?;
-        return Ok(Next::Record(true));
+        return Ok(NextRecord::Record(true));
     }
     match parse_tls_record_with_header(alloc, raw.bytes, &raw.hdr) {
         Ok((_, messages)) => {
             show_messages(text, direction, messages.as_slice())?;
             follow_messages(context, direction.goes_to_server(), messages.as_slice());
             let is_encrypted = change_cipher(messages.as_slice());
-            Ok(Next::Record(is_encrypted))
+            Ok(NextRecord::Record(is_encrypted))
         }
-        Err(refusal) => Ok(Next::Fault(Fault::of_refusal(refusal)?)),
+        Err(refusal) => Ok(NextRecord::Fault(ViewFault::of_refusal(refusal)?)),
     }
 }
 
@@ -135,10 +135,10 @@ fn show_record(
 fn show_next(
     alloc: Global,
     text: &mut String,
-    direction: Direction,
-    side: &Side,
+    direction: LineDirection,
+    side: &ViewedSide,
     context: &mut ParseContext,
-) -> Result<Next, AllocError>
+) -> Result<NextRecord, AllocError>
     ensures { IfOk result
         (IsNextShown direction (string_bytes text.old) context.old (string_bytes text.new)
         context.new
@@ -146,8 +146,8 @@ fn show_next(
 {
     match side.stream.front() {
         Ok((_, raw)) => show_record(alloc, text, direction, side.is_encrypted, context, &raw),
-        Err(Err::Incomplete(_)) => Ok(Next::Nothing),
-        Err(Err::Error(error)) => Ok(Next::Fault(Fault::Error(error.code))),
+        Err(Err::Incomplete(_)) => Ok(NextRecord::Nothing),
+        Err(Err::Error(error)) => Ok(NextRecord::Fault(ViewFault::Error(error.code))),
         Err(Err::Failure(_) | Err::OutOfMemory) => unreachable!(),
     }
 }
@@ -156,10 +156,10 @@ fn show_next(
 fn show_records(
     alloc: Global,
     text: &mut String,
-    direction: Direction,
-    side: &mut Side,
+    direction: LineDirection,
+    side: &mut ViewedSide,
     context: &mut ParseContext,
-) -> Result<Option<Fault>, AllocError>
+) -> Result<Option<ViewFault>, AllocError>
     ensures { IfOk result
         (AreShown direction (string_bytes text.old) (half side.old context.old)
         (string_bytes text.new) (half side.new context.new)) }
@@ -167,12 +167,12 @@ fn show_records(
     'records: loop {
         let next = show_next(alloc, text, direction, side, context)?;
         match next {
-            Next::Record(is_encrypted) => {
+            NextRecord::Record(is_encrypted) => {
                 side.is_encrypted = is_encrypted;
                 side.stream.take_front();
             }
-            Next::Nothing => return Ok(None),
-            Next::Fault(fault) => return Ok(Some(fault)),
+            NextRecord::Nothing => return Ok(None),
+            NextRecord::Fault(fault) => return Ok(Some(fault)),
         }
     }
 }
@@ -182,18 +182,18 @@ fn show_records(
 pub fn show_bytes(
     alloc: Global,
     text: &mut String,
-    direction: Direction,
-    side: &mut Side,
+    direction: LineDirection,
+    side: &mut ViewedSide,
     context: &mut ParseContext,
     bytes: &[u8],
-) -> Result<Option<Fault>, AllocError>
+) -> Result<Option<ViewFault>, AllocError>
     ensures { IfOk result
         (AreShown direction (string_bytes text.old) (half (fed side.old bytes.now) context.old)
         (string_bytes text.new) (half side.new context.new)) }
 {
     match side.stream.feed(bytes) {
         Ok(()) => show_records(alloc, text, direction, side, context),
-        Err(FeedError::TooLarge) => Ok(Some(Fault::Error(ErrorKind::TooLarge))),
+        Err(FeedError::TooLarge) => Ok(Some(ViewFault::Error(ErrorKind::TooLarge))),
         Err(FeedError::OutOfMemory) => Err(AllocError),
     }
 }

@@ -5,13 +5,13 @@ ghost use Rattle.tlsview.specs.Out.{missing, out};
 ghost use Rattle.tlsview.specs.Shown.{IsEndShown, IsLineShown};
 ghost use Rattle.tlsview.specs.Exit.{status_of};
 
-use crate::conversation::{Conversation, Side};
-use crate::direction::Direction;
-use crate::exit::Exit;
-use crate::fault::Fault;
+use crate::conversation::{ViewedConversation, ViewedSide};
+use crate::direction::LineDirection;
+use crate::exit::ViewExit;
+use crate::fault::ViewFault;
 use crate::lines::{first_line, without_return};
 use crate::records::show_bytes;
-use crate::statement::said;
+use crate::statement::parse_line;
 use layouts::{Err, Needed};
 use std::alloc::{AllocError, Global};
 
@@ -19,7 +19,7 @@ use std::alloc::{AllocError, Global};
 #[derive(Drop)]
 pub struct Report {
     pub text: String,
-    pub exit: Exit,
+    pub exit: ViewExit,
 }
 
 /// Prints the messages of a line, and returns the fault that ends the run there. The line's bytes
@@ -27,10 +27,10 @@ pub struct Report {
 fn show_line(
     alloc: Global,
     text: &mut String,
-    conversation: &mut Conversation,
+    conversation: &mut ViewedConversation,
     bytes: &mut Vec<u8>,
     line: &[u8],
-) -> Result<Option<Fault>, AllocError>
+) -> Result<Option<ViewFault>, AllocError>
     ensures { IfOk result
         (IsLineShown line.now (string_bytes text.old) conversation.old (string_bytes text.new)
         conversation.new) }
@@ -38,12 +38,12 @@ fn show_line(
     if line.is_empty() {
         return Ok(None);
     }
-    let Some(direction) = said(line, bytes)? else {
-        return Ok(Some(Fault::BadLine));
+    let Some(direction) = parse_line(line, bytes)? else {
+        return Ok(Some(ViewFault::BadLine));
     };
     let bytes = bytes.as_slice();
     match direction {
-        Direction::ToServer => show_bytes(
+        LineDirection::ToServer => show_bytes(
             alloc,
             text,
             direction,
@@ -51,7 +51,7 @@ fn show_line(
             &mut conversation.context,
             bytes,
         ),
-        Direction::FromServer => show_bytes(
+        LineDirection::FromServer => show_bytes(
             alloc,
             text,
             direction,
@@ -63,7 +63,7 @@ fn show_line(
 }
 
 /// How many bytes the direction's unfinished record lacks.
-fn missing_of(side: &Side) -> Option<usize>
+fn missing_of(side: &ViewedSide) -> Option<usize>
     ensures { result ≡ missing side.now.stream }
 {
     if side.stream.held().is_empty() {
@@ -76,7 +76,7 @@ fn missing_of(side: &Side) -> Option<usize>
 }
 
 /// Prints the end of a run that had no fault before.
-fn show_end(text: &mut String, conversation: &Conversation) -> Result<Exit, AllocError>
+fn show_end(text: &mut String, conversation: &ViewedConversation) -> Result<ViewExit, AllocError>
     ensures { IfOk result
         (IsEndShown (string_bytes text.old) (string_bytes text.new) conversation.now) }
 {
@@ -86,25 +86,25 @@ fn show_end(text: &mut String, conversation: &Conversation) -> Result<Exit, Allo
     };
     match missing {
         Some(missing) => {
-            let fault = Fault::Incomplete(missing);
+            let fault = ViewFault::Incomplete(missing);
             writeln!(text, "end: {fault}")?;
-            Ok(Exit::Fault)
+            Ok(ViewExit::Fault)
         }
         None => {
             let name = conversation.context.state().name();
             writeln!(text, "state {name}")?;
-            Ok(Exit::Clean)
+            Ok(ViewExit::Clean)
         }
     }
 }
 
-/// The printed text for an input, and how the run ends. It never returns [`Exit::Failed`].
+/// The printed text for an input, and how the run ends. It never returns [`ViewExit::Failed`].
 pub fn report_of(alloc: Global, input: &[u8]) -> Result<Report, AllocError>
-    ensures exit { IfOk result (λ report. report.exit ≢ Exit.Failed) }
+    ensures exit { IfOk result (λ report. report.exit ≢ ViewExit.Failed) }
     ensures told { IfOk result (λ report. (string_bytes report.text, status_of report.exit) ≡ out input.now) }
 {
     let mut text = String::new(alloc);
-    let mut conversation = Conversation::new(alloc);
+    let mut conversation = ViewedConversation::new(alloc);
     let mut bytes = Vec::new(alloc);
     let mut rest = input;
     let mut number: usize = 1;

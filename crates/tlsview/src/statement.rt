@@ -2,19 +2,19 @@
 ghost use Rattle.std.specs.Prelude.{◌≡◌, Option, None, Some, IfOk, MatchOption};
 ghost use Rattle.tlsview.specs.Statement.{said_by};
 
-use crate::direction::Direction;
+use crate::direction::LineDirection;
 use std::alloc::AllocError;
 
 /// Parses a line: a sign, a space, and an even number of hexadecimal digits, whose bytes it leaves
 /// in `bytes`. `None` if the line is malformed.
-pub fn said(line: &[u8], bytes: &mut Vec<u8>) -> Result<Option<Direction>, AllocError>
+pub fn parse_line(line: &[u8], bytes: &mut Vec<u8>) -> Result<Option<LineDirection>, AllocError>
     ensures { IfOk result (λ found. MatchOption found (said_by line.now ≡ None)
         (λ direction. said_by line.now ≡ Some (direction, bytes.new.items))) }
 {
     let [sign, b' ', digits @ ..] = line else {
         return Ok(None);
     };
-    let Some(direction) = Direction::from_sign(*sign) else {
+    let Some(direction) = LineDirection::from_sign(*sign) else {
         return Ok(None);
     };
     bytes.resize(digits.len() / 2, 0)?;

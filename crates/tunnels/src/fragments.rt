@@ -13,11 +13,11 @@ use crate::tunnel::{ETHERNET, IPV4, IPV6, MAX_TUNNELS, Tunnels};
 use crate::walk::{
     Inside, LINK_ETHERNET, Layer, Unwrapped, datagram_layer, follow, inner_layer, packet_layer,
 };
-use capture::{Datagram, Fragment, parse_fragment_v4, parse_fragment_v6, parse_link};
+use capture::{IpDatagram, IpFragment, parse_fragment_v4, parse_fragment_v6, parse_link};
 use layouts::{ErrorKind, IResult, refused};
 
 /// Parses a fragment of this EtherType.
-fn fragment_of_type(i: &[u8], kind: u16) -> IResult<&[u8], Fragment>
+fn fragment_of_type(i: &[u8], kind: u16) -> IResult<&[u8], IpFragment>
     ensures { Gives view_fragment (fragment_of_type_layout kind) i.now result }
 {
     match kind {
@@ -28,7 +28,7 @@ fn fragment_of_type(i: &[u8], kind: u16) -> IResult<&[u8], Fragment>
 }
 
 /// Parses the fragment in a packet of this link type.
-fn packet_fragment(i: &[u8], link_type: u16) -> IResult<&[u8], Fragment>
+fn packet_fragment(i: &[u8], link_type: u16) -> IResult<&[u8], IpFragment>
     ensures { Gives view_fragment (packet_fragment_layout link_type) i.now result }
 {
     let (i, kind) = parse_link(i, link_type)?;
@@ -36,7 +36,7 @@ fn packet_fragment(i: &[u8], link_type: u16) -> IResult<&[u8], Fragment>
 }
 
 /// Parses the fragment in a tunnel that carries this EtherType.
-fn inner_fragment(i: &[u8], kind: u16) -> IResult<&[u8], Fragment>
+fn inner_fragment(i: &[u8], kind: u16) -> IResult<&[u8], IpFragment>
     ensures { Gives view_fragment (inner_fragment_layout kind) i.now result }
 {
     if kind == ETHERNET {
@@ -49,10 +49,10 @@ fn inner_fragment(i: &[u8], kind: u16) -> IResult<&[u8], Fragment>
 /// most `most - 1` further tunnels.
 #[tactic(auto, using(crate::proofs::WalkLemmas::in_front, crate::proofs::WalkLemmas::no_more, crate::proofs::WalkLemmas::found_behind, crate::proofs::WalkLemmas::not_behind, crate::proofs::WalkLemmas::none_behind, crate::proofs::WalkLemmas::unread_behind))]
 fn find<'a>(
-    fragment: IResult<&'a [u8], Fragment<'a>>,
+    fragment: IResult<&'a [u8], IpFragment<'a>>,
     read: IResult<&'a [u8], Layer<'a>>,
     most: u8,
-) -> Option<Fragment<'a>>
+) -> Option<IpFragment<'a>>
     requires is_fragment { IsAnswer fragment }
     requires is_answer { IsAnswer read }
     ensures { found most (answer_of view_fragment fragment.entry) (answer_of view_layer read.entry)
@@ -77,7 +77,7 @@ fn find<'a>(
 /// Returns the fragment in the packet `i` of a capture with this link type, behind its tunnels. It
 /// is the datagram for which [`innermost`](crate::innermost) returns a fragment. `None` if that
 /// isn't a fragment: no outer datagram is tried.
-pub fn innermost_fragment(i: &[u8], link_type: u16) -> Option<Fragment>
+pub fn innermost_fragment(i: &[u8], link_type: u16) -> Option<IpFragment>
     ensures { option_map view_fragment result ≡ fragment_in_packet link_type i.now }
 {
     find(
@@ -89,7 +89,7 @@ pub fn innermost_fragment(i: &[u8], link_type: u16) -> Option<Fragment>
 
 /// Returns the fragment in a reassembled datagram, behind its tunnels. `tunnels` are those in which
 /// its fragments came.
-pub fn fragment_in<'a>(datagram: Datagram<'a>, tunnels: &Tunnels) -> Option<Fragment<'a>>
+pub fn fragment_in<'a>(datagram: IpDatagram<'a>, tunnels: &Tunnels) -> Option<IpFragment<'a>>
     ensures { option_map view_fragment result ≡ fragment_in_datagram tunnels.now
         (view_datagram datagram.entry) }
 {
@@ -105,7 +105,7 @@ pub fn fragment_in<'a>(datagram: Datagram<'a>, tunnels: &Tunnels) -> Option<Frag
 
 /// Returns the innermost datagram in a reassembled datagram, and all the tunnels around it.
 /// `tunnels` are those in which its fragments came.
-pub fn inside_of<'a>(datagram: Datagram<'a>, tunnels: &Tunnels) -> Unwrapped<'a>
+pub fn inside_of<'a>(datagram: IpDatagram<'a>, tunnels: &Tunnels) -> Unwrapped<'a>
     ensures { tunnels.now.count ≤ 8
         → view_unwrapped result ≡ unwrapped_in tunnels.now (view_datagram datagram.entry) }
 {

@@ -11,7 +11,7 @@ ghost use Rattle.tunnels.specs.Walk.{Held, datagram_layer as datagram_layer_of, 
 use crate::carriers::{by_ports, by_protocol};
 use crate::labels::{parse_backbone, parse_mpls};
 use crate::tunnel::{ETHERNET, Header, IPV4, IPV6, MAX_TUNNELS, Tunnels};
-use capture::{Content, Datagram, parse_ipv4, parse_ipv6, parse_link};
+use capture::{Content, IpDatagram, parse_ipv4, parse_ipv6, parse_link};
 use layouts::IResult;
 
 /// The EtherTypes of MPLS: unicast and multicast.
@@ -37,7 +37,7 @@ pub(crate) enum Layer<'a> {
     /// A tunnel header.
     Wraps(Header<'a>),
     /// A datagram without a tunnel header in it.
-    Holds(Datagram<'a>),
+    Holds(IpDatagram<'a>),
     /// Another protocol.
     Unknown,
 }
@@ -46,7 +46,7 @@ pub(crate) enum Layer<'a> {
 #[derive(Clone, Copy, Debug, PartialEq)]
 pub enum Inside<'a> {
     /// The innermost datagram.
-    Datagram(Datagram<'a>),
+    Datagram(IpDatagram<'a>),
     /// Another protocol, not parsed.
     Other,
     /// Truncated, or a header breaks a rule.
@@ -66,7 +66,7 @@ pub struct Unwrapped<'a> {
 
 /// Returns the tunnel header parsed in a datagram, or the datagram if there is none.
 #[inline(always)]
-fn wrapped_or<'a>(datagram: Datagram<'a>, header: IResult<&'a [u8], Header<'a>>) -> Layer<'a>
+fn wrapped_or<'a>(datagram: IpDatagram<'a>, header: IResult<&'a [u8], Header<'a>>) -> Layer<'a>
     requires { IsAnswer header }
     ensures { view_layer result ≡ wrapped_or_by (view_datagram datagram.entry)
         (answer_of view_header header.entry) }
@@ -79,7 +79,7 @@ fn wrapped_or<'a>(datagram: Datagram<'a>, header: IResult<&'a [u8], Header<'a>>)
 
 /// Returns the tunnel header in a datagram, or the datagram if there is none.
 #[inline(always)]
-pub(crate) fn datagram_layer(datagram: Datagram<'_>) -> Layer<'_>
+pub(crate) fn datagram_layer(datagram: IpDatagram<'_>) -> Layer<'_>
     ensures { view_layer result ≡ datagram_layer_of (view_datagram datagram.entry) }
 {
     match &datagram.content {
@@ -235,7 +235,7 @@ fn may_be_plain(i: &[u8]) -> bool {
 /// Parses the IPv4 datagram at the front if it has no options and holds TCP.
 #[tactic(auto, using(crate::proofs::WalkLemmas::holds), unfolding(crate::specs::Walk::layer_of_type))]
 #[inline(always)]
-fn plain_ipv4(i: &[u8]) -> Option<Datagram>
+fn plain_ipv4(i: &[u8]) -> Option<IpDatagram>
     ensures { IfSome result
         (λ datagram. followed 8 [] (reading (layer_of_type_layout 0x0800) i.now)
         ≡ record { tunnels = []; inside = Held (view_datagram datagram) }) }
@@ -258,7 +258,11 @@ fn plain_ipv4(i: &[u8]) -> Option<Datagram>
 /// [`innermost_into`] has the answer. Both empty `tunnels`.
 #[tactic(auto, unfolding(crate::specs::Walk::packet_layer))]
 #[inline(always)]
-pub fn plain_segment<'a>(i: &'a [u8], link_type: u16, tunnels: &mut Tunnels) -> Option<Datagram<'a>>
+pub fn plain_segment<'a>(
+    i: &'a [u8],
+    link_type: u16,
+    tunnels: &mut Tunnels,
+) -> Option<IpDatagram<'a>>
     ensures { IfSome result
         (λ datagram. unwrapped link_type i.now
         ≡ record { tunnels = listed tunnels.new; inside = Held (view_datagram datagram) }) }

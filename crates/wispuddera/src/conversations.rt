@@ -4,6 +4,6 @@
 pub use dtls_stream::{datagram_message, dtls_event, dtls_event_with};
 pub use tls_flow::{Direction, Flow, Kind, Outcome, Stop};
 pub use tls_stream::{
-    Conversation, DEFAULT_LIMIT, Event, Fault, Said, chooses_tls13, outcome_of, said_event_with,
-    said_message, tls_event,
+    Conversation, DEFAULT_LIMIT, Event, Fault, SideEvent, chooses_tls13, outcome_of,
+    stream_event_with, stream_message, tls_event,
 };

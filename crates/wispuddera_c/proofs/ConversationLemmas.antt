@@ -34,7 +34,7 @@ use Rattle.tls_flow.specs.Symbols.{symbols_of}
 use Rattle.tls_flow.specs.Messages.{direction}
 use Rattle.tls_flow.specs.Steps.{follow, silence}
 use Rattle.tls_flow.specs.Table.{is_failed, is_waiting, outcome_at}
-use Rattle.tls_flow.specs.declared.event.Event.{Event}
+use Rattle.tls_flow.specs.declared.event.FlowEvent.{FlowEvent}
 use Rattle.tls_flow.specs.declared.symbol.Direction.{Direction}
 use Rattle.tls_flow.specs.declared.state.Outcome.{Outcome}
 use Rattle.tls_flow.proofs.FlowLemmas.{stopped_of_flow, told_of_flow}
@@ -54,8 +54,8 @@ use Rattle.wispuddera_c.specs.Course.{flow_of, state_in, stop_of}
 use Rattle.wispuddera_c.specs.Said.{takes_session}
 use Rattle.wispuddera_c.specs.Side.{IsHeardAs, IsWithin, Waits, ear_of}
 use Rattle.wispuddera_c.specs.declared.conversation.Conversation.{Conversation}
-use Rattle.wispuddera_c.specs.declared.said.Heard.{Heard}
-use Rattle.wispuddera_c.specs.declared.side.Known.{Known}
+use Rattle.wispuddera_c.specs.declared.said.ReadEvent.{ReadEvent}
+use Rattle.wispuddera_c.specs.declared.side.ReadingState.{ReadingState}
 use Rattle.wispuddera_c.specs.declared.side.Side.{Side}
 
 -- One side is replaced, and everything else stays.
@@ -138,18 +138,18 @@ known_or : (known chooses : Bool) → known || chooses ≡ (known || (not known 
 known_or true chooses = refl
 known_or false chooses = refl
 
-abbrev chosen_by : Event → Bool
+abbrev chosen_by : FlowEvent → Bool
 chosen_by e = chooses_tls13 e.symbol.kind e.symbol.direction
 
 -- d is c after the event e, with which v was said.
-module _ (c d : Conversation) (e : Event) (limit : d.limit ≡ c.limit)
+module _ (c d : Conversation) (e : FlowEvent) (limit : d.limit ≡ c.limit)
     (tls13 : d.is_tls13 ≡ (c.is_tls13 || chosen_by e))
     (flow : flow_of d.course ≡ follow (flow_of c.course) e) where
-  told : (event : Event) → e ≡ event → (b : Bytes) (s n : Side) → n ≡ s
+  told : (event : FlowEvent) → e ≡ event → (b : Bytes) (s n : Side) → n ≡ s
       → IsToldIf (not c.is_tls13 && chosen_by event) (ear_of (known_of c) b s)
       (ear_of (known_of d) b n)
   told event is b s n same =
-      let known : ◌≡◌ {A = Known}
+      let known : ◌≡◌ {A = ReadingState}
       (record { limit = c.limit; is_tls13 = c.is_tls13 || chosen_by event }) (known_of d) =
       ap₂ (λ l t. record { limit = l; is_tls13 = t }) (sym limit)
       (sym (tls13 ∙ ap (λ x. c.is_tls13 || chosen_by x) is)) in
@@ -157,7 +157,7 @@ module _ (c d : Conversation) (e : Event) (limit : d.limit ≡ c.limit)
       (ap (λ k. ear_of k b s) known ∙ ap (λ x. ear_of (known_of d) b x) (sym same))
       (told_if c.limit c.is_tls13 (chosen_by event) b s)
 
-  tls13_is : (event : Event) → e ≡ event
+  tls13_is : (event : FlowEvent) → e ≡ event
       → d.is_tls13 ≡ (c.is_tls13 || (not c.is_tls13 && chosen_by event))
   tls13_is event is =
       tls13 ∙ ap (λ x. c.is_tls13 || chosen_by x) is ∙ known_or c.is_tls13 (chosen_by event)
@@ -194,7 +194,7 @@ module _ (c d : Conversation) (e : Event) (limit : d.limit ≡ c.limit)
         flow = flow ∙ ap (follow (flow_of c.course)) event;
       }
 
-  pub events_with : (event : Event) (es : List Event) → e ≡ event → AreEvents es c
+  pub events_with : (event : FlowEvent) (es : List FlowEvent) → e ≡ event → AreEvents es c
       → AreEvents (es ++ event ∷ []) d
   events_with event es is so_far =
       flow ∙ ap₂ follow so_far is ∙ sym (run_on follow silence es (event ∷ []))
@@ -207,7 +207,7 @@ within_behind false room s c m d is sides within =
     subst (IsWithin room) (sym (sides.1 ∙ ap (λ (x : Conversation). x.server) is)) within
 
 -- What is learned is returned, and followed.
-module _ (t : Bool) (b b' : Bytes) (c m d : Conversation) (s : Side) (h : Heard)
+module _ (t : Bool) (b b' : Bytes) (c m d : Conversation) (s : Side) (h : ReadEvent)
     (is : m ≡ with_side t s c)
     (within : IsWithin (length b') s) (sides : (d.client ≡ m.client) × (d.server ≡ m.server))
     (limit : d.limit ≡ m.limit) (tls13 : d.is_tls13 ≡ (m.is_tls13 || chosen_by h.event))
@@ -246,7 +246,8 @@ module _ (t : Bool) (b b' : Bytes) (c m d : Conversation) (s : Side) (h : Heard)
         },
       )
 
-  pub next_with : (old : Side) (k : Known) (side : Direction) → old ≡ side_at t c → k ≡ known_of c
+  pub next_with : (old : Side) (k : ReadingState) (side : Direction) → old ≡ side_at t c
+      → k ≡ known_of c
       → side ≡ direction t → IsHeardAs side k b old b' s h → IsNext t b b' c d h.said
   next_with old k side old_is k_is side_is heard =
       next_of (subst (λ x. IsHeardAs (direction t) (known_of c) b x b' s h) old_is
@@ -254,18 +255,18 @@ module _ (t : Bool) (b b' : Bytes) (c m d : Conversation) (s : Side) (h : Heard)
       (subst (λ x. IsHeardAs x k b old b' s h) side_is heard)))
 
 -- The outcome, by its events.
-pub outcome_with : (es : List Event) (c : Conversation) (o : Outcome) → AreEvents es c
+pub outcome_with : (es : List FlowEvent) (c : Conversation) (o : Outcome) → AreEvents es c
     → o ≡ outcome_at (state_in c.course.flow) → IsOutcome o (symbols_of es)
 outcome_with es c o are is = (told_of_flow es silence (flow_of c.course) are refl o).0 (sym is)
 
-pub stop_with : (es : List Event) (c : Conversation) → AreEvents es c
+pub stop_with : (es : List FlowEvent) (c : Conversation) → AreEvents es c
     → is_failed (outcome_at (state_in c.course.flow)) ≡ true
     → IsStop (Some (stop_of c.course.stop)) es
 stop_with es c are failed =
     subst (λ t. IsStop (cond t (Some (stop_of c.course.stop)) None) es) failed
     (stopped_of_flow es silence (flow_of c.course) are refl)
 
-pub no_stop_with : (es : List Event) (c : Conversation) → AreEvents es c
+pub no_stop_with : (es : List FlowEvent) (c : Conversation) → AreEvents es c
     → is_failed (outcome_at (state_in c.course.flow)) ≡ false → IsStop None es
 no_stop_with es c are failed =
     subst (λ t. IsStop (cond t (Some (stop_of c.course.stop)) None) es) failed

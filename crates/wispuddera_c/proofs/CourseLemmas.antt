@@ -19,7 +19,7 @@ use Rattle.std.proofs.Common.{
 use Rattle.std.specs.Option.{is_some}
 use Rattle.tls_flow.specs.Steps.{counted, follow, follow_by, silence}
 use Rattle.tls_flow.specs.Table.{is_failed, is_waiting, outcome_at, step}
-use Rattle.tls_flow.specs.declared.event.Event.{Event}
+use Rattle.tls_flow.specs.declared.event.FlowEvent.{FlowEvent}
 use Rattle.tls_flow.specs.declared.flow.Flow.{Flow as Followed}
 use Rattle.tls_flow.specs.declared.flow.Stop.{Stop as FlowStop}
 use Rattle.tls_flow.specs.declared.state.Outcome.{Outcome}
@@ -43,7 +43,7 @@ not_failed outcome.Unknown is = absurd cc
 not_failed outcome.NoHandshake is = absurd cc
 not_failed (outcome.Tls13 a b) is = absurd cc
 
-abbrev event_stop : Event → ℕ → FlowStop
+abbrev event_stop : FlowEvent → ℕ → FlowStop
 event_stop e n = record { event = e; place = n }
 
 -- By whether the event stops it.
@@ -56,7 +56,7 @@ stops false stopped x a b z is none = sym none
 
 -- A flow that goes on from a state alone has the same state, and stops exactly when the whole one
 -- does.
-module _ (q : State) (n : ℕ) (s : FlowStop) (e : Event) where
+module _ (q : State) (n : ℕ) (s : FlowStop) (e : FlowEvent) where
   abbrev from_state : Bool → Followed
   from_state t = follow_by t (record { state = q; events = 0; stop = None }) e
 

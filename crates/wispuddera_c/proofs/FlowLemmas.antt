@@ -4,7 +4,7 @@ use Rattle.std.proofs.lemmas.List.{map-append}
 use Rattle.tls_flow.specs.Conversations.{IsOutcome}
 use Rattle.tls_flow.specs.Steps.{follow, follow_by, silence}
 use Rattle.tls_flow.specs.Table.{step, outcome_at, is_waiting}
-use Rattle.tls_flow.specs.declared.event.Event.{Event as FlowEvent}
+use Rattle.tls_flow.specs.declared.event.FlowEvent.{FlowEvent}
 use Rattle.tls_flow.specs.declared.flow.Flow.{Flow as Followed}
 use Rattle.tls_flow.specs.declared.state.Outcome.{Outcome}
 use Rattle.tls_flow.specs.declared.state.State.{State}

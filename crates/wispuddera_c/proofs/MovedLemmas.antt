@@ -19,7 +19,7 @@ use Rattle.tls_stream.specs.Stream.{behind, fed, joined_to, view_source}
 use Rattle.tls_stream.specs.declared.view.Source as rust
 use Rattle.tls_stream.specs.declared.view.Source.TheVariants as source
 use Rattle.wispuddera_c.specs.Side.{IsWithin, stream_of}
-use Rattle.wispuddera_c.specs.declared.side.Known.{Known}
+use Rattle.wispuddera_c.specs.declared.side.ReadingState.{ReadingState}
 use Rattle.wispuddera_c.specs.declared.side.Side.{Side}
 
 both : {a b c d : Bytes} → a ≡ b → c ≡ d
@@ -27,7 +27,8 @@ both : {a b c d : Bytes} → a ≡ b → c ≡ d
 both e f = ap₂ (λ x y. record { part = x; unread = y }) e f
 
 -- A fragment is joined to the part.
-pub joined_stream : (k : Known) (b b' : Bytes) (s : Side) (kind n : ℕ) → IsWithin (length b) s
+pub joined_stream : (k : ReadingState) (b b' : Bytes) (s : Side) (kind n : ℕ)
+    → IsWithin (length b) s
     → s.unread + 5 + n ≤ s.end
     → b' ≡ paste b s.part_end (drop (s.unread + 5) b) (s.unread + 5 + n - (s.unread + 5))
     → stream_of k b'
@@ -51,7 +52,7 @@ joined_stream k b b' s kind n within whole is =
     ∙ joined_unread b s.part s.part_end s.unread s.end n within.0 within.1 whole within.3))
 
 -- The bytes in use are moved to the beginning.
-pub moved_stream : (k : Known) (b c d : Bytes) (s : Side) → IsWithin (length b) s
+pub moved_stream : (k : ReadingState) (b c d : Bytes) (s : Side) → IsWithin (length b) s
     → c ≡ paste b 0 (drop s.part b) (s.part_end - s.part)
     → d ≡ paste c (s.part_end - s.part) (drop s.unread c) (s.end - s.unread)
     → stream_of k d
@@ -81,7 +82,7 @@ moved_stream k b c d s within first second =
     ∙ moved_unread b s.part s.part_end s.unread s.end within.0 within.1 within.2 within.3))
 
 -- A piece is appended.
-pub fed_stream : (k : Known) (b b' piece : Bytes) (s : Side) → IsWithin (length b) s
+pub fed_stream : (k : ReadingState) (b b' piece : Bytes) (s : Side) → IsWithin (length b) s
     → b' ≡ paste b s.end piece (length piece)
     → stream_of k b' (record s { end = s.end + length piece }) ≡ fed (stream_of k b s) piece
 fed_stream k b b' piece s within is =
@@ -100,7 +101,7 @@ fed_stream k b b' piece s within is =
     ∙ fed_unread b piece s.end (length piece) refl within.3 s.unread within.2))
 
 -- A returned event is removed.
-pub message_off : (k : Known) (b : Bytes) (s : Side) (from : rust.Source) (m : Bor Bytes)
+pub message_off : (k : ReadingState) (b : Bytes) (s : Side) (from : rust.Source) (m : Bor Bytes)
     → from ≡ source.Message m
     → stream_of k b (record s { part = s.part + length m.now }) ≡ behind (stream_of k b s)
     (view_source from)
@@ -115,7 +116,7 @@ message_off k b s from m is =
     (front_off b s.part s.part_end (length m.now))
     ∙ ap (λ x. behind (stream_of k b s) (view_source x)) (sym is)
 
-pub record_off : (k : Known) (b : Bytes) (s : Side) (from : rust.Source) (r : Bor Bytes)
+pub record_off : (k : ReadingState) (b : Bytes) (s : Side) (from : rust.Source) (r : Bor Bytes)
     → from ≡ source.Record r
     → stream_of k b
     (record s {

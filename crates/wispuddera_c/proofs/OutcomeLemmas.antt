@@ -26,7 +26,7 @@ use Rattle.tls_flow.specs.Steps.{follow, silence}
 use Rattle.tls_flow.specs.Table.{outcome_at}
 use Rattle.tls_flow.proofs.FlowLemmas.{told_of_flow}
 use Rattle.tls_flow.specs.declared.state.Outcome.{Outcome}
-use Rattle.tls_flow.specs.declared.event.Event.{Event as FlowEvent}
+use Rattle.tls_flow.specs.declared.event.FlowEvent.{FlowEvent}
 use Rattle.tls_flow.specs.declared.flow.Flow.{Flow}
 use Rattle.tls_flow.specs.declared.symbol.Symbol.{Symbol}
 use Rattle.tls_words.specs.Words.{run}

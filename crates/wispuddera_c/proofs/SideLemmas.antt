@@ -100,9 +100,9 @@ use Rattle.tls_stream.specs.Frames.{Shape, frame_of, front, up_to}
 use Rattle.tls_stream.specs.Records.{message_frame}
 use Rattle.tls_stream.proofs.FrontLemmas.{first_in, front_joins}
 use Rattle.wispuddera_c.specs.Said.{IsSaidBy, Shows}
-use Rattle.wispuddera_c.specs.declared.said.Heard.{Heard}
+use Rattle.wispuddera_c.specs.declared.said.ReadEvent.{ReadEvent}
 use Rattle.wispuddera_c.specs.Side.{IsHeardAs, StandInFront, Waits, bytes_of, ear_of, held_in, standing_by, stream_of}
-use Rattle.wispuddera_c.specs.declared.side.Known.{Known}
+use Rattle.wispuddera_c.specs.declared.side.ReadingState.{ReadingState}
 use Rattle.wispuddera_c.specs.declared.side.Side.{Side}
 
 -- The next event, and the stream after it.
@@ -243,7 +243,7 @@ source_is d v s is =
     frame_source d v s (frame_of (front (messages_of d.limit d.kind) d.held.part)) refl (sym is)
 
 -- What a side says, if no fault ended it.
-says_on : (k : Known) (b : Bytes) (s : Side) (t : Bytes) → s.is_over ≡ false
+says_on : (k : ReadingState) (b : Bytes) (s : Side) (t : Bytes) → s.is_over ≡ false
     → says (ear_of k b s) t ≡ events (fed (stream_of k b s) t)
 says_on k b s t speaks =
     ap (λ o. says
@@ -260,7 +260,7 @@ fed_nothing d =
     (append-nil d.held.unread)
 
 -- A side that was made ready.
-module _ (k : Known) (b b' : Bytes) (s s' : Side) (speaks : s.is_over ≡ false)
+module _ (k : ReadingState) (b b' : Bytes) (s s' : Side) (speaks : s.is_over ≡ false)
     (over : s'.is_over ≡ s.is_over)
     (same : SaysTheSame (stream_of k b' s') (stream_of k b s)) where
   said_before : (t : Bytes) → says (ear_of k b s) t ≡ events (fed (stream_of k b' s') t)
@@ -272,9 +272,9 @@ module _ (k : Known) (b b' : Bytes) (s s' : Side) (speaks : s.is_over ≡ false)
       said_before t ∙ first_event (stream_of k b' s') (stream_of k b' n) v t is
       ∙ ap (λ vs. v ∷ vs) (sym (says_on k b' n t (still ∙ over ∙ speaks)))
 
-  pub heard_fault : (f : Fault) → SaysOnly (stream_of k b' s') (Failed f ∷ [])
+  pub event_of_fault : (f : Fault) → SaysOnly (stream_of k b' s') (Failed f ∷ [])
       → IsFirst (ear_of k b s) (Failed f) (ear_of k b' (record s' { is_over = true }))
-  heard_fault f only = λ t. said_before t ∙ only t
+  event_of_fault f only = λ t. said_before t ∙ only t
 
   pub waits : events (stream_of k b' s') ≡ [] → Waits k b s b' s'
   waits none = record {
@@ -288,14 +288,14 @@ fed_twice d p t =
     ap (λ u. events (record d { held = record { part = d.held.part; unread = u } }))
     (append_assoc d.held.unread p t)
 
-pub fed_is : (k : Known) (b b' : Bytes) (s s' : Side) (p : Bytes) → s.is_over ≡ false
+pub fed_is : (k : ReadingState) (b b' : Bytes) (s s' : Side) (p : Bytes) → s.is_over ≡ false
     → s'.is_over ≡ s.is_over
     → stream_of k b' s' ≡ fed (stream_of k b s) p → IsFed (ear_of k b s) p (ear_of k b' s')
 fed_is k b b' s s' p speaks over is = λ t.
     says_on k b s (p ++ t) speaks ∙ sym (fed_twice (stream_of k b s) p t)
     ∙ ap (λ d. events (fed d t)) (sym is) ∙ sym (says_on k b' s' t (over ∙ speaks))
 
-pub fed_over : (k : Known) (b : Bytes) (s : Side) (p : Bytes) → s.is_over ≡ true
+pub fed_over : (k : ReadingState) (b : Bytes) (s : Side) (p : Bytes) → s.is_over ≡ true
     → IsFed (ear_of k b s) p (ear_of k b s)
 fed_over k b s p ended = λ t.
     let silent : (u : Bytes) → says (ear_of k b s) u ≡ [] = λ u.
@@ -309,7 +309,7 @@ fed_over k b s p ended = λ t.
     silent (p ++ t) ∙ sym (silent t)
 
 -- A fragment is joined as required.
-pub joins_next : (k : Known) (b b' : Bytes) (s s' : Side) (d : Stream) (kind n : ℕ)
+pub joins_next : (k : ReadingState) (b b' : Bytes) (s s' : Side) (d : Stream) (kind n : ℕ)
     → d ≡ stream_of k b s
     → IsNext d (next.Joins kind n)
     → stream_of k b' s' ≡ joined_to (stream_of k b s) kind n
@@ -326,7 +326,8 @@ joins_next k b b' s s' d kind n view is joined =
     )
 
 -- What was removed from a side that was made ready is what it said.
-pub some_heard : (side : Direction) (k : Known) (b b' : Bytes) (s s' n : Side) (r : Option Heard)
+pub some_heard : (side : Direction) (k : ReadingState) (b b' : Bytes) (s s' n : Side)
+    (r : Option ReadEvent)
     → s.is_over ≡ false
     → s'.is_over ≡ s.is_over → SaysTheSame (stream_of k b' s') (stream_of k b s)
     → n.is_over ≡ s'.is_over

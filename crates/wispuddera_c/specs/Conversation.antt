@@ -27,7 +27,7 @@ use Rattle.tls_flow.specs.Conversations.{IsStop}
 use Rattle.tls_flow.specs.Messages.{direction}
 use Rattle.tls_flow.specs.Steps.{follow, silence}
 use Rattle.tls_flow.specs.Table.{is_waiting, outcome_at}
-use Rattle.tls_flow.specs.declared.event.Event.{Event}
+use Rattle.tls_flow.specs.declared.event.FlowEvent.{FlowEvent}
 use Rattle.tls_flow.specs.declared.symbol.Direction.{Direction}
 use Rattle.tls_flow.specs.declared.state.Outcome.{Outcome}
 use Rattle.tls_flow.specs.declared.state.Outcome.TheVariants as outcome
@@ -39,7 +39,7 @@ use Rattle.wispuddera_c.specs.Status.{none}
 use Rattle.wispuddera_c.specs.declared.conversation.Conversation.{Conversation}
 use Rattle.wispuddera_c.specs.declared.course.Stop.{Stop}
 use Rattle.wispuddera_c.specs.declared.said.Said.{Said}
-use Rattle.wispuddera_c.specs.declared.side.Known.{Known}
+use Rattle.wispuddera_c.specs.declared.side.ReadingState.{ReadingState}
 use Rattle.wispuddera_c.specs.declared.side.Side.{Side}
 
 abbrev pub side_at : Bool → Conversation → Side
@@ -50,7 +50,7 @@ abbrev pub with_side : Bool → Side → Conversation → Conversation
 with_side true s c = record c { client = s }
 with_side false s c = record c { server = s }
 
-abbrev pub known_of : Conversation → Known
+abbrev pub known_of : Conversation → ReadingState
 known_of c = record { limit = c.limit; is_tls13 = c.is_tls13 }
 
 -- The conversation of the struct and the buffers of client and server.
@@ -68,7 +68,7 @@ said_in true b o c = joined b o c
 said_in false b o c = joined o b c
 
 -- These were the events so far.
-abbrev pub AreEvents : List Event → Conversation → Type 0
+abbrev pub AreEvents : List FlowEvent → Conversation → Type 0
 AreEvents events c = flow_of c.course ≡ run follow silence events
 
 -- The side got another piece, which changed its buffer from b to b', for any buffer of the other
@@ -95,7 +95,7 @@ pub record IsBehindIt (to_server : Bool) (b b' : Bytes) (c d : Conversation) (ou
   pub within : IsWithin (length b') (side_at to_server d)
   pub other_side : side_at (not to_server) d ≡ side_at (not to_server) c
   pub session : d.has_session ≡ session_behind c v
-  pub events : (es : List Event) → AreEvents es c
+  pub events : (es : List FlowEvent) → AreEvents es c
       → AreEvents (es ++ event_of (direction to_server) v ∷ []) d
 
 abbrev pub IsNext : Bool → Bytes → Bytes → Conversation → Conversation → Said → Type 0
@@ -117,7 +117,7 @@ pub record IsWaiting (to_server : Bool) (b b' : Bytes) (c d : Conversation) : Ty
   pub session : d.has_session ≡ c.has_session
 
 -- The struct shows what ended a conversation of these events without success, or nothing did.
-pub record IsStopTold (events : List Event) (status : ℕ) (c : Stop) : Type 0 where
+pub record IsStopTold (events : List FlowEvent) (status : ℕ) (c : Stop) : Type 0 where
   pub told : status ≡ 0 → IsStop (Some (stop_of c)) events
   pub none : status ≢ 0 → (status ≡ none) × IsStop None events
 

@@ -2,7 +2,7 @@
 use Rattle.std.specs.Prelude.{ℕ, List, map, None, ◌==◌, if◌then◌else◌, true, false}
 use Rattle.tls_flow.specs.Symbols.{symbol, Word}
 use Rattle.tls_flow.specs.Messages.{direction}
-use Rattle.tls_flow.specs.declared.event.Event.{Event as FlowEvent}
+use Rattle.tls_flow.specs.declared.event.FlowEvent.{FlowEvent}
 use Rattle.tls_flow.specs.declared.symbol.Symbol.{Symbol}
 use Rattle.tls_flow.specs.declared.symbol.Kind.{Kind}
 use Rattle.tls_flow.specs.declared.symbol.Kind.TheVariants as kind

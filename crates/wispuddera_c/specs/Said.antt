@@ -17,7 +17,7 @@ use Rattle.tls_hs.specs.ServerHello.{ServerHello, server_hello}
 use Rattle.wispuddera_c.specs.Outcome.{kind_of_number}
 use Rattle.wispuddera_c.specs.Place.{StandsAt}
 use Rattle.wispuddera_c.specs.Status.{kind_status}
-use Rattle.wispuddera_c.specs.declared.said.Heard.{Heard}
+use Rattle.wispuddera_c.specs.declared.said.ReadEvent.{ReadEvent}
 use Rattle.wispuddera_c.specs.declared.said.Said.{Said}
 
 abbrev pub form_number : Saying → ℕ
@@ -78,7 +78,7 @@ pub record Tells (side : Direction) (b : Bytes) (c : Said) (v : Saying) : Type 0
   pub content : (x : Bytes) × StandsAt b c.content x × IsSaidBy v x
 
 -- The conversation learns the event v of a side, whose bytes are in b.
-pub record Shows (side : Direction) (b : Bytes) (h : Heard) (v : Saying) : Type 0 where
+pub record Shows (side : Direction) (b : Bytes) (h : ReadEvent) (v : Saying) : Type 0 where
   pub told : Tells side b h.said v
   pub event : h.event ≡ event_of side v
   pub session : h.takes_session ≡ takes_session v

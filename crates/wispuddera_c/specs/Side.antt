@@ -2,9 +2,9 @@
 use Rattle.std.specs.Prelude.{◌≡◌, ℕ, ◌≤◌, ◌+◌, ◌-◌, Bool, true, false, None, [], length, take}
 use Rattle.std.specs.List.{between}
 use Rattle.tls_stream.specs.Ears.{IsFirst, SaysAs, says}
-use Rattle.tls_stream.specs.declared.ear.Ear.{Ear}
-use Rattle.tls_stream.specs.declared.ear.Standing.{Standing}
-use Rattle.tls_stream.specs.declared.ear.Standing.TheVariants.{Speaks, Over}
+use Rattle.tls_stream.specs.declared.side_reader.SideReader.{SideReader}
+use Rattle.tls_stream.specs.declared.side_reader.Standing.{Standing}
+use Rattle.tls_stream.specs.declared.side_reader.Standing.TheVariants.{Speaks, Over}
 use Rattle.tls_stream.specs.Held.{Held}
 use Rattle.tls_stream.specs.Item.{Event as Saying}
 use Rattle.tls_stream.specs.Stream.{Source, OfMessage, OfRecord}
@@ -12,8 +12,8 @@ use Rattle.tls_stream.specs.declared.stream.Stream.{Stream}
 use Rattle.layouts.specs.Bytes.{Bytes}
 use Rattle.tls_flow.specs.declared.symbol.Direction.{Direction}
 use Rattle.wispuddera_c.specs.Said.{Shows}
-use Rattle.wispuddera_c.specs.declared.said.Heard.{Heard}
-use Rattle.wispuddera_c.specs.declared.side.Known.{Known}
+use Rattle.wispuddera_c.specs.declared.said.ReadEvent.{ReadEvent}
+use Rattle.wispuddera_c.specs.declared.side.ReadingState.{ReadingState}
 use Rattle.wispuddera_c.specs.declared.side.Side.{Side}
 
 -- The offsets lie within this many bytes, and the part comes before the unread bytes.
@@ -41,7 +41,7 @@ silent_side = record {
 }
 
 -- The stream of the buffer.
-abbrev pub stream_of : Known → Bytes → Side → Stream
+abbrev pub stream_of : ReadingState → Bytes → Side → Stream
 stream_of k b s = record {
   limit = k.limit;
   is_tls13 = k.is_tls13;
@@ -56,7 +56,7 @@ standing_by true = Over
 standing_by false = Speaks
 
 -- The side of the struct and its buffer.
-abbrev pub ear_of : Known → Bytes → Side → Ear
+abbrev pub ear_of : ReadingState → Bytes → Side → SideReader
 ear_of k b s = record {
   direction = record { stream = stream_of k b s; fault = None };
   standing = standing_by s.is_over;
@@ -73,11 +73,11 @@ StandInFront h (OfMessage y) = take (length y) h.part ≡ y
 StandInFront h (OfRecord y) = (5 ≤ length y) × (take (length y) h.unread ≡ y)
 
 -- It says an event first, whatever follows, and then what the changed struct says.
-abbrev pub IsHeardAs : Direction → Known → Bytes → Side → Bytes → Side → Heard → Type 0
+abbrev pub IsHeardAs : Direction → ReadingState → Bytes → Side → Bytes → Side → ReadEvent → Type 0
 IsHeardAs side k b s b' s' h = (v : Saying) × IsFirst (ear_of k b s) v (ear_of k b' s')
     × Shows side b' h v
 
 -- It says nothing for now, and later the same as before.
-pub record Waits (k : Known) (b : Bytes) (s : Side) (b' : Bytes) (s' : Side) : Type 0 where
+pub record Waits (k : ReadingState) (b : Bytes) (s : Side) (b' : Bytes) (s' : Side) : Type 0 where
   pub nothing : says (ear_of k b s) [] ≡ []
   pub same : SaysAs (ear_of k b s) (ear_of k b' s')

@@ -8,7 +8,7 @@ ghost use Rattle.tls_flow.specs.Conversations.{IsOutcome};
 ghost use Rattle.tls_flow.specs.Symbols.{symbols_of};
 ghost use Rattle.tls_flow.specs.Steps.{follow as follow_by};
 ghost use Rattle.tls_flow.specs.Table.{is_failed, is_waiting, outcome_at};
-ghost use Rattle.tls_flow.specs.declared.event.Event.{Event as FlowEvent};
+ghost use Rattle.tls_flow.specs.declared.event.FlowEvent.{FlowEvent};
 ghost use Rattle.tls_flow.specs.declared.state.Outcome.{Outcome};
 ghost use Rattle.wispuddera_c.specs.Conversation.{AreEvents, IsGiven, IsNext, IsStopTold, IsWaiting, is_established, is_resumed, joined, known_of, side_at, with_side};
 ghost use Rattle.wispuddera_c.specs.Course.{flow_of, state_in};
@@ -19,9 +19,9 @@ ghost use Rattle.wispuddera_c.specs.Status.{no_room, none, outside};
 use crate::course::{Course, Stop};
 use crate::outcome::number_of_outcome;
 use crate::said::Said;
-use crate::side::{Known, Side};
+use crate::side::{ReadingState, Side};
 use crate::status::{NO_ROOM, NONE, OUTSIDE, READ};
-use tls_flow::{Direction, Event as FlowEvent, Kind, Outcome};
+use tls_flow::{Direction, FlowEvent, Kind, Outcome};
 
 /// A TLS conversation whose sides' bytes arrive in pieces.
 #[repr(C)]
@@ -43,10 +43,10 @@ pub struct Conversation {
 
 impl Conversation {
     /// The state that decides how its sides are read.
-    fn known(&self) -> Known
+    fn known(&self) -> ReadingState
         ensures { result ≡ known_of self.now }
     {
-        Known {
+        ReadingState {
             limit: self.limit,
             is_tls13: self.is_tls13,
         }
@@ -197,7 +197,7 @@ pub extern "C" fn wispuddera_conversation_next(
     if side.is_over {
         return NONE;
     }
-    let heard = side.hear(buffer, conversation.known(), Direction::of(to_server));
+    let heard = side.next_event(buffer, conversation.known(), Direction::of(to_server));
     conversation.put(to_server, side);
     match heard {
         Some(heard) => {

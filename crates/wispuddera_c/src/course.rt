@@ -8,7 +8,7 @@ ghost use Rattle.wispuddera_c.specs.Course.{flow_of, state_in, stop_of as stop_i
 use crate::flow::{Flow, number_of_state, state_of};
 use crate::outcome::{Event, number_of};
 use tls_base::TlsAlertDescription;
-use tls_flow::{Direction, Event as FlowEvent, Flow as Followed, State};
+use tls_flow::{Direction, Flow as Followed, FlowEvent, State};
 
 /// What ended a handshake without success, and how many events came before it.
 #[repr(C)]

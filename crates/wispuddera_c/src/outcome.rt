@@ -11,7 +11,7 @@ ghost use Rattle.tls_words.specs.Words.{run};
 ghost use Rattle.wispuddera_c.specs.Outcome.{event_of, kind_of_number, symbol_of, outcome_number, word_of};
 
 use tls_base::{TlsAlertDescription, TlsAlertSeverity, TlsHandshakeType, TlsMessageAlert};
-use tls_flow::{Direction, Event as FlowEvent, Flow, Kind, Outcome};
+use tls_flow::{Direction, Flow, FlowEvent, Kind, Outcome};
 
 /// An event of a side: the number of its kind, and whether it goes to the server.
 #[repr(C)]

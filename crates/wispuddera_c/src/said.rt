@@ -19,7 +19,7 @@ use crate::status::status_of;
 use layouts::InPlace;
 use tls_base::{TlsExtensionType, TlsHandshakeType};
 use tls_ext::{extensions, first_content};
-use tls_flow::{Direction, Event as FlowEvent, Kind};
+use tls_flow::{Direction, FlowEvent, Kind};
 use tls_hs::{RawHandshake, parse_tls_handshake_server_hello};
 use tls_stream::{Event as Saying, Fault};
 
@@ -40,7 +40,7 @@ pub struct Said {
 
 /// What a conversation learns from a side.
 #[derive(Clone, Copy)]
-pub struct Heard {
+pub struct ReadEvent {
     /// The struct for the caller.
     pub said: Said,
     /// The event for the flow.
@@ -143,12 +143,12 @@ fn takes_up(event: &Saying<'_>) -> bool
 }
 
 /// What a conversation learns from an event whose bytes are at this place.
-pub fn heard_of(event: &Saying<'_>, content: Place, side: Direction) -> Heard
+pub fn event_at(event: &Saying<'_>, content: Place, side: Direction) -> ReadEvent
     ensures { (b x : Bytes) → StandsAt b content x → IsSaidBy (view_event event.now) x
         → Shows side b result (view_event event.now) }
 {
     let followed = event_said(event, side);
-    Heard {
+    ReadEvent {
         said: Said {
             content,
             fault: 0,
@@ -162,10 +162,10 @@ pub fn heard_of(event: &Saying<'_>, content: Place, side: Direction) -> Heard
 
 /// What a conversation learns from a fault, after which the side says nothing. The flow follows it
 /// as an unknown message.
-pub fn heard_fault(fault: Fault, side: Direction) -> Heard
+pub fn event_of_fault(fault: Fault, side: Direction) -> ReadEvent
     ensures { (b : Bytes) → Shows side b result (Failed fault) }
 {
-    Heard {
+    ReadEvent {
         said: Said {
             content: Place {
                 offset: 0,

@@ -7,7 +7,7 @@ ghost use Rattle.wispuddera_c.specs.Said.{Shows};
 ghost use Rattle.wispuddera_c.specs.Side.{IsHeardAs, IsWithin, StandInFront, Waits, bytes_of, count_held, ear_of, held_in, silent_side, stream_of};
 
 use crate::place::Place;
-use crate::said::{Heard, heard_fault, heard_of};
+use crate::said::{ReadEvent, event_at, event_of_fault};
 use tls_flow::Direction;
 use tls_stream::{Fault, Next, Source, StreamView};
 
@@ -34,7 +34,7 @@ pub struct Side {
 
 /// The state of a conversation that decides how its sides are read.
 #[derive(Clone, Copy)]
-pub struct Known {
+pub struct ReadingState {
     /// The limit for the body of a handshake message, in bytes.
     pub limit: usize,
     /// Whether TLS 1.3 was chosen.
@@ -78,7 +78,8 @@ impl Side {
     /// Moves the bytes in use to the beginning of the buffer.
     fn make_room(&mut self, buffer: &mut [u8])
         requires { IsWithin (length buffer.old) self.old }
-        ensures same { (k : Known) → stream_of k buffer.new self.new ≡ stream_of k buffer.old self.old }
+        ensures same { (k : ReadingState)
+            → stream_of k buffer.new self.new ≡ stream_of k buffer.old self.old }
         ensures front { self.new.end ≡ count_held self.old }
         ensures within { IsWithin (length buffer.new) self.new }
         ensures over { self.new.is_over ≡ self.old.is_over }
@@ -97,7 +98,8 @@ impl Side {
     fn make_room_for(&mut self, buffer: &mut [u8], n: usize)
         requires within { IsWithin (length buffer.old) self.old }
         requires fits { count_held self.old + n ≤ length buffer.old }
-        ensures same { (k : Known) → stream_of k buffer.new self.new ≡ stream_of k buffer.old self.old }
+        ensures same { (k : ReadingState)
+            → stream_of k buffer.new self.new ≡ stream_of k buffer.old self.old }
         ensures room { self.new.end + n ≤ length buffer.new }
         ensures within { IsWithin (length buffer.new) self.new }
         ensures over { self.new.is_over ≡ self.old.is_over }
@@ -111,7 +113,7 @@ impl Side {
     pub fn append(&mut self, buffer: &mut [u8], piece: &[u8])
         requires within { IsWithin (length buffer.old) self.old }
         requires room { count_held self.old + length piece.now ≤ length buffer.old }
-        ensures fed { (k : Known)
+        ensures fed { (k : ReadingState)
             → stream_of k buffer.new self.new ≡ fed (stream_of k buffer.old self.old) piece.now }
         ensures within { IsWithin (length buffer.new) self.new }
         ensures over { self.new.is_over ≡ self.old.is_over }
@@ -123,7 +125,7 @@ impl Side {
     }
 
     /// A view of the stream, which decides what comes next.
-    fn view<'a>(&self, buffer: &'a [u8], known: Known) -> StreamView<'a>
+    fn view<'a>(&self, buffer: &'a [u8], known: ReadingState) -> StreamView<'a>
         requires { IsWithin (length buffer.now) self.now }
         ensures { result ≡ stream_of known buffer.now self.now }
     {
@@ -142,7 +144,7 @@ impl Side {
     fn join(&mut self, buffer: &mut [u8], kind: u8, n: usize)
         requires within { IsWithin (length buffer.old) self.old }
         requires whole { self.old.unread + 5 + n ≤ self.old.end }
-        ensures joined { (k : Known) → stream_of k buffer.new self.new ≡ joined_to
+        ensures joined { (k : ReadingState) → stream_of k buffer.new self.new ≡ joined_to
             (stream_of k buffer.old self.old) kind n }
         ensures within { IsWithin (length buffer.new) self.new }
         ensures over { self.new.is_over ≡ self.old.is_over }
@@ -156,7 +158,7 @@ impl Side {
 
     /// Joins fragments until an event is available: true; or false if more bytes are needed. An
     /// `Err` is the fault that is the next event and the last.
-    fn settle(&mut self, buffer: &mut [u8], known: Known) -> Result<bool, Fault>
+    fn settle(&mut self, buffer: &mut [u8], known: ReadingState) -> Result<bool, Fault>
         requires { IsWithin (length buffer.old) self.old }
         ensures same { SaysTheSame (stream_of known buffer.new self.new)
             (stream_of known buffer.old self.old) }
@@ -178,7 +180,7 @@ impl Side {
     fn take_off(&mut self, buffer: &[u8], source: Source<'_>) -> Place
         requires within { IsWithin (length buffer.now) self.old }
         requires front { StandInFront (held_in buffer.now self.old) (view_source source) }
-        ensures taken { (k : Known) → stream_of k buffer.now self.new ≡ behind
+        ensures taken { (k : ReadingState) → stream_of k buffer.now self.new ≡ behind
             (stream_of k buffer.now self.old) (view_source source.entry) }
         ensures stands { StandsAt buffer.now result (bytes_of (view_source source.entry)) }
         ensures within { IsWithin (length buffer.now) self.new }
@@ -206,7 +208,12 @@ impl Side {
     }
 
     /// Returns the next event and removes it; `None` if there is none.
-    fn take_first(&mut self, buffer: &[u8], known: Known, side: Direction) -> Option<Heard>
+    fn take_first(
+        &mut self,
+        buffer: &[u8],
+        known: ReadingState,
+        side: Direction,
+    ) -> Option<ReadEvent>
         requires { IsWithin (length buffer.now) self.old }
         ensures some { IfSome result
             (λ h. (v : Saying)
@@ -219,14 +226,19 @@ impl Side {
         match self.view(buffer, known).first() {
             Some((event, source)) => {
                 let content = self.take_off(buffer, source);
-                Some(heard_of(&event, content, side))
+                Some(event_at(&event, content, side))
             }
             None => None,
         }
     }
 
     /// Returns the side's next event or fault, and removes it; `None` if more bytes are needed.
-    pub fn hear(&mut self, buffer: &mut [u8], known: Known, side: Direction) -> Option<Heard>
+    pub fn next_event(
+        &mut self,
+        buffer: &mut [u8],
+        known: ReadingState,
+        side: Direction,
+    ) -> Option<ReadEvent>
         requires within { IsWithin (length buffer.old) self.old }
         requires speaks { self.old.is_over ≡ false }
         ensures some { IfSome result (λ h. IsHeardAs side known buffer.old self.old buffer.new self.new h) }
@@ -238,7 +250,7 @@ impl Side {
             Ok(false) => None,
             Err(fault) => {
                 self.is_over = true;
-                Some(heard_fault(fault, side))
+                Some(event_of_fault(fault, side))
             }
         }
     }

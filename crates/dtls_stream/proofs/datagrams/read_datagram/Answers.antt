@@ -27,12 +27,13 @@ records-preserved c a h st =
     c.records.left.now c.in-Ok.rest.now
     (view_raw_record c.in-Ok.raw) (view_events c.args.events.now.items)
     (view_events c.records.events.items)
-    (view_events c.hear_record.new.events.items) c.records.messages c.hear_record.new.messages
+    (view_events c.read_record_events.new.events.items) c.records.messages
+    c.read_record_events.new.messages
     (omega arith) c.in-Ok.ensures.read (c.records.invariant a h st)
-    c.in_ok-hear_record-in-Ok.ensures.told
+    c.in_ok-read_record_events-in-Ok.ensures.told
 
-pub returns-in_err-hear_record-in-Ok-clause-stopped : goal.returns-in_err-hear_record-in-Ok-clause-stopped
-returns-in_err-hear_record-in-Ok-clause-stopped c a h st =
+pub returns-in_err-read_record_events-in-Ok-clause-stopped : goal.returns-in_err-read_record_events-in-Ok-clause-stopped
+returns-in_err-read_record_events-in-Ok-clause-stopped c a h st =
     any_err c.from_residual.result
     (reading_cut a h (fragments_of c.args.datagram.now) (datagram a h c.args.datagram.now)
     (length c.args.datagram.now - c.records.taken)
@@ -40,9 +41,10 @@ returns-in_err-hear_record-in-Ok-clause-stopped c a h st =
     c.records.left.now c.in-Ok.rest.now
     (view_raw_record c.in-Ok.raw) (view_events c.args.events.now.items)
     (view_events c.records.events.items)
-    (view_events c.hear_record.new.events.items) c.records.messages c.hear_record.new.messages
+    (view_events c.read_record_events.new.events.items) c.records.messages
+    c.read_record_events.new.messages
     (omega arith) c.in-Ok.ensures.read (c.records.invariant a h st)
-    c.in_err-hear_record-in-Ok.ensures.stopped)
+    c.in_err-read_record_events-in-Ok.ensures.stopped)
 
 pub returns-in-Err-clause-told : goal.returns-in-Err-clause-told
 returns-in-Err-clause-told c a h st =

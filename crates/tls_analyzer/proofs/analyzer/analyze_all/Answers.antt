@@ -5,10 +5,10 @@ pub loop-side-preserved : goal.loop-side-preserved
 loop-side-preserved c = (
   c.loop-side.invariant.0,
   c.loop-side.invariant.1,
-  piece_heard c.loop-side.invariant.0 c.loop-side.analyzer c.hear.new.self c.args.pieces.now
+  piece_heard c.loop-side.invariant.0 c.loop-side.analyzer c.analyze.new.self c.args.pieces.now
       c.loop-side.side-index _
       c.loop-side-test.true
-      c.loop-side.invariant.2 c.in_ok-hear.ensures,
+      c.loop-side.invariant.2 c.in_ok-analyze.ensures,
 )
 
 pub returns : goal.returns

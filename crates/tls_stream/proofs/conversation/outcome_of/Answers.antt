@@ -6,8 +6,8 @@ use Rattle.tls_stream.proofs.conversation.outcome_of.Goals as goal
 pub loop-side-preserved : goal.loop-side-preserved
 loop-side-preserved c =
     piece_heard c.args.limit c.args.pieces.now c.loop-side.side-index _ c.loop-side.conversation
-    c.hear.new.self
-    c.loop-side-test.true c.loop-side.invariant c.in_ok-hear.ensures.heard
+    c.follow_piece.new.self
+    c.loop-side-test.true c.loop-side.invariant c.in_ok-follow_piece.ensures.heard
 
 pub returns : goal.returns
 returns c =

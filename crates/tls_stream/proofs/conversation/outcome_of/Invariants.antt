@@ -1,6 +1,6 @@
 -- the pieces so far were followed
 use Rattle.std.proofs.Common.{List, take}
-use Rattle.tls_flow.specs.declared.event.Event.{Event}
+use Rattle.tls_flow.specs.declared.event.FlowEvent.{FlowEvent}
 use Rattle.tls_stream.specs.Conversations.{Hears, IsBegun, views}
 use Rattle.tls_stream.proofs.ConversationLemmas.{AreHeard}
 use Rattle.tls_stream.proofs.conversation.outcome_of.Given as goal

@@ -13,7 +13,8 @@ returns-clause-shows c = λ there end.
       signed_bytes = in_c_stands b _ c.in_c-signed_bytes.result _ c.in_c-signed_bytes.ensures
           there.signed_bytes;
       serial_number =
-          in_c_stands b _ c.in_c-serial_number.result _ c.in_c-serial_number.ensures t.serial_number;
+          in_c_stands b _ c.in_c-serial_number.result _ c.in_c-serial_number.ensures
+          t.serial_number;
       signature_algorithm =
           in_c_stands b _ c.in_c-signature_algorithm.result _ c.in_c-signature_algorithm.ensures
           there.signature_algorithm.algorithm;
@@ -26,7 +27,8 @@ returns-clause-shows c = λ there end.
           (c.held_in_c-key_parameters.ensures b _ (may_stand b _ _ t.key.algorithm.parameters));
       public_key = in_c_stands b _ c.in_c-public_key.result _ c.in_c-public_key.ensures t.key.key;
       extensions =
-          items_in_c extension b _ c.in_c-extensions.result _ c.in_c-extensions.ensures t.extensions;
+          items_in_c extension b _ c.in_c-extensions.result _ c.in_c-extensions.ensures
+          t.extensions;
       signature = in_c_stands b _ c.in_c-signature.result _ c.in_c-signature.ensures
           there.signature_value;
       not_before = search rules;

@@ -6,7 +6,8 @@ use Rattle.connections.proofs.connection.Connection.take_datagram.Goals.{then-sh
 pub returns-clause-taken : goal.returns-clause-taken
 returns-clause-taken g c =
     let d = c.args.datagram.now in let old = c.args.self.now in
-    let shown = c.shows_damage.ensures ∙ ap (λ x. shows_damage x d.checksum old) c.side_of.ensures in
+    let shown = c.shows_damage.ensures
+    ∙ ap (λ x. shows_damage x d.checksum old) c.side_of.ensures in
     elim c.if-shows_damage.branch [
       | then-shows_damage w ↦
           subst (λ b. TakesBehind b d old c.accept_datagram.new.self)

@@ -49,4 +49,5 @@ returns-in-Some-clause-accounted g c =
     })
     c.in-Some.connection.now c.drop_segment.new.self
     (rw c.between-five_tuple.ensures at c.in-Some.ensures.value)
-    (ap (λ x. x.weight) c.drop_segment.ensures.changes ∙ ap (λ x. x.weight) c.get_mut.ensures.value))
+    (ap (λ x. x.weight) c.drop_segment.ensures.changes
+    ∙ ap (λ x. x.weight) c.get_mut.ensures.value))

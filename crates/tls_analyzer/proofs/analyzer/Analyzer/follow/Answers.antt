@@ -14,7 +14,8 @@ loop-preserved g c =
     on_next c.args.self.now c.loop.self c.take_next.new.self c.args.side c.args.piece.now
     c.loop.counter
     c.loop.invariant (search rules)
-    (subst (λ b. IsTaken (front_of (ear c.loop.self.hearer.conversation c.args.side)) c.loop.self
+    (subst (λ b. IsTaken (front_of (ear c.loop.self.conversation_state.conversation c.args.side))
+    c.loop.self
     c.args.side b
     c.take_next.new.self)
     (search rules) c.in_ok-take_next.ensures.taken)
@@ -43,7 +44,8 @@ returns-then-is_over-2 g c =
           (on_none c.args.self.now c.loop.self w.take_next.new.self c.args.side c.args.piece.now
           c.loop.counter
           c.loop.invariant (search rules)
-          (subst (λ b. IsTaken (front_of (ear c.loop.self.hearer.conversation c.args.side))
+          (subst (λ b. IsTaken
+          (front_of (ear c.loop.self.conversation_state.conversation c.args.side))
           c.loop.self c.args.side b
           w.take_next.new.self)
           (search rules) w.in_ok-take_next.ensures.taken)))

@@ -4,15 +4,15 @@ use Rattle.tls_analyzer.proofs.datagram_analyzer.DatagramAnalyzer.follow.Goals a
 
 pub returns-in-ToServer : goal.returns-in-ToServer
 returns-in-ToServer g c k is =
-    client_answers k c.args.self.now c.args.side c.hear.new.account c.hear.new.self
+    client_answers k c.args.self.now c.args.side c.analyze.new.account c.analyze.new.self
     (view_raw_record c.args.record)
-    c.hear.result c.in-ToServer.is c.hear.ensures.told c.hear.ensures.same is
+    c.analyze.result c.in-ToServer.is c.analyze.ensures.told c.analyze.ensures.same is
 
 pub returns-in-FromServer : goal.returns-in-FromServer
 returns-in-FromServer g c k is =
-    server_answers k c.args.self.now c.args.side c.hear-in-FromServer.new.account
-    c.hear-in-FromServer.new.self
+    server_answers k c.args.self.now c.args.side c.analyze-in-FromServer.new.account
+    c.analyze-in-FromServer.new.self
     (view_raw_record c.args.record)
-    c.hear-in-FromServer.result c.in-FromServer.is c.hear-in-FromServer.ensures.told
-    c.hear-in-FromServer.ensures.same
+    c.analyze-in-FromServer.result c.in-FromServer.is c.analyze-in-FromServer.ensures.told
+    c.analyze-in-FromServer.ensures.same
     is

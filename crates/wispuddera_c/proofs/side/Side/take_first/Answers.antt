@@ -20,7 +20,7 @@ returns-in-Some-clause-some c =
       source_first d (view_event c.in-Some.event) (view_source c.in-Some.source) here
           ∙ ap (λ e. Some (view_event c.in-Some.event, e))
           (sym (c.take_off-content.ensures.taken c.args.known)),
-      c.heard_of.ensures c.args.buffer.now (bytes_of (view_source c.in-Some.source))
+      c.event_at.ensures c.args.buffer.now (bytes_of (view_source c.in-Some.source))
           c.take_off-content.ensures.stands
           (source_is d (view_event c.in-Some.event) (view_source c.in-Some.source) here).said,
     )

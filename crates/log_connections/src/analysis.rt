@@ -1,0 +1,562 @@
+//! The TLS or DTLS analysis of a connection.
+ghost use Rattle.std.specs.Prelude.{◌≡◌, ◌||◌, OnOk, drop};
+ghost use Rattle.tls_detection.specs.Front.{held_datagram as held_datagram_of};
+ghost use Rattle.connections.specs.Stream.{is_cut_short};
+ghost use Rattle.log_connections.specs.Analysis.{HearsAt, HearsDatagram, HearsNone, HearsStream, HearsSsl2, IsSpokenBy, PassesOver, begins_in, direction_of as direction_by, is_over_in, preamble_of};
+
+use crate::audience::Audience;
+use crate::fronts::{Beginning, Fronts, begins_at};
+use connections::{Attachment, Protocol, Side, Stream};
+use ssl2_hello::parse_ssl2_client_hello;
+use std::alloc::{AllocError, Global};
+use std::mem::{self, size_of};
+use tls_analyzer::{Analyzer, DatagramAnalyzer, DatagramRecordCounter, Observer, RecordCounter};
+use tls_detection::{first_message, held_datagram};
+use tls_flow::{Direction, Outcome, Stop};
+use tls_summary::{CertificateCache, HandshakeSummary};
+use tunnels::{Tunnel, Tunnels};
+
+/// The types of the first handshake messages of client and server (RFC 8446, section 4).
+const CLIENT_HELLO: u8 = 1;
+
+const SERVER_HELLO: u8 = 2;
+
+/// An upper bound for a connection's memory besides its handshake summary, in bytes.
+pub const ANALYSIS_COST: usize = 2048;
+
+/// An upper bound for a keeper's memory besides what it keeps, in bytes.
+pub const COLLECTOR_COST: usize = 512;
+
+/// An upper bound for the buffers of a conversation, in bytes. On each side this is twice the sum
+/// of a message in fragments, a record, the part that was processed but not yet moved out, and what
+/// arrives at once behind a gap.
+const MAX_BUFFERS: usize = 2_621_440;
+
+/// What a [`PieceCollector`] keeps of a connection.
+#[derive(Clone, Copy, Debug, PartialEq, Eq)]
+pub enum PieceKind {
+    /// Its messages, in which cipher suites have names.
+    Messages,
+    /// Its messages, in which cipher suites have numbers.
+    NumberedMessages,
+    /// The certificates of its chains, each until it is taken.
+    Certificates,
+    /// Its chains, until it ends.
+    Chains,
+}
+
+/// Keeps the pieces of a connection until they are taken. It gets each event that counts.
+pub trait PieceCollector: Drop + Observer {
+    /// Returns the collector for a new connection.
+    fn begin(alloc: Global, pieces: PieceKind) -> Self;
+
+    /// Returns the bytes of memory that it takes for what it keeps beyond a packet.
+    fn capacity(&self) -> usize;
+}
+
+/// The analysis of both sides' bytes, by transport.
+#[derive(Drop)]
+enum TransportAnalyzer {
+    /// TLS over TCP, and the search for its beginning.
+    Stream(Analyzer, Fronts),
+    /// DTLS over UDP.
+    Datagrams(DatagramAnalyzer),
+}
+
+/// The analysis of a connection.
+#[derive(Drop)]
+pub struct TlsAnalysis<K> {
+    alloc: Global,
+    protocol: Protocol,
+    said: TransportAnalyzer,
+    // Whether the originator is the TLS server.
+    is_turned: bool,
+    // How many bytes of both streams were analyzed. The buffers of a conversation take at most
+    // twice as many.
+    heard: usize,
+    /// Whether it was ended early, as the longest-idle connection when memory ran short.
+    pub is_ended_early: bool,
+    // The collector, if pieces are kept. Boxed, since most logs keep none.
+    collector: Option<Box<K>>,
+    // The tunnels of the first packet that was in any. Boxed, since most packets are in none.
+    tunnels: Option<Box<Tunnels>>,
+    // Over TCP, the records of each side, encrypted ones included.
+    from_originator: RecordCounter,
+    from_responder: RecordCounter,
+    // Over UDP, the records in the datagrams of each side.
+    by_originator: DatagramRecordCounter,
+    by_responder: DatagramRecordCounter,
+}
+
+/// Returns an upper bound for the buffers of a conversation of which this many bytes were analyzed.
+/// Their memory grows by doubling.
+fn buffers_of(heard: usize) -> usize {
+    heard.saturating_mul(2).min(MAX_BUFFERS)
+}
+
+/// Returns what is behind the first `n` bytes.
+#[tactic(auto, using(crate::proofs::FrontLemmas::behind_all))]
+fn behind(bytes: &[u8], n: usize) -> &[u8]
+    ensures { result.now ≡ drop n bytes.now }
+{
+    if n == 0 {
+        return bytes;
+    }
+    let (_, rest) = bytes.split_at(n.min(bytes.len()));
+    rest
+}
+
+/// Returns the direction in which a side speaks. `is_turned` means that the originator is the
+/// server.
+fn direction_of(is_turned: bool, side: Side) -> Direction
+    ensures { result ≡ direction_by is_turned side }
+{
+    match (side, is_turned) {
+        (Side::Originator, false) | (Side::Responder, true) => Direction::ToServer,
+        (Side::Responder, false) | (Side::Originator, true) => Direction::FromServer,
+    }
+}
+
+impl<K: PieceCollector> Attachment for TlsAnalysis<K> {
+    fn begin(alloc: Global, protocol: Protocol) -> TlsAnalysis<K> {
+        let said = match protocol {
+            Protocol::Tcp => TransportAnalyzer::Stream(Analyzer::new(alloc), Fronts::NONE),
+            Protocol::Udp => TransportAnalyzer::Datagrams(DatagramAnalyzer::new(alloc)),
+        };
+        TlsAnalysis {
+            alloc,
+            protocol,
+            said,
+            is_turned: false,
+            heard: 0,
+            is_ended_early: false,
+            collector: None,
+            tunnels: None,
+            from_originator: RecordCounter::new(),
+            from_responder: RecordCounter::new(),
+            by_originator: DatagramRecordCounter::new(),
+            by_responder: DatagramRecordCounter::new(),
+        }
+    }
+
+    fn capacity(&self) -> usize {
+        let said = match &self.said {
+            TransportAnalyzer::Stream(analyzer, _) => analyzer
+                .capacity()
+                .saturating_add(buffers_of(self.heard)),
+            TransportAnalyzer::Datagrams(analyzer) => analyzer.capacity(),
+        };
+        let collector = match &self.collector {
+            Some(collector) => collector.capacity().saturating_add(COLLECTOR_COST),
+            None => 0,
+        };
+        let tunnels = if self.tunnels.is_some() {
+            size_of::<Tunnels>()
+        } else {
+            0
+        };
+        said.saturating_add(collector)
+            .saturating_add(tunnels)
+            .saturating_add(ANALYSIS_COST)
+    }
+}
+
+impl<K: PieceCollector> TlsAnalysis<K> {
+    /// Returns whether it is TLS or DTLS. If other bytes came before TLS, both sides have to speak
+    /// it.
+    pub fn is_tls_or_dtls(&self) -> bool
+        ensures { IsSpokenBy result self.now.said }
+    {
+        match &self.said {
+            TransportAnalyzer::Stream(analyzer, fronts) => analyzer.is_tls()
+                && fronts.are_answered(),
+            TransportAnalyzer::Datagrams(analyzer) => analyzer.is_dtls(),
+        }
+    }
+
+    /// Returns the handshake summary.
+    pub fn handshake(&self) -> &HandshakeSummary {
+        match &self.said {
+            TransportAnalyzer::Stream(analyzer, _) => analyzer.handshake(),
+            TransportAnalyzer::Datagrams(analyzer) => analyzer.handshake(),
+        }
+    }
+
+    /// Returns a letter for each event, as in Zeek's ssl_history.
+    pub fn history(&self) -> &[u8] {
+        match &self.said {
+            TransportAnalyzer::Stream(analyzer, _) => analyzer.history(),
+            TransportAnalyzer::Datagrams(analyzer) => analyzer.history(),
+        }
+    }
+
+    /// Returns the state of the handshake.
+    pub fn outcome(&self) -> Outcome {
+        match &self.said {
+            TransportAnalyzer::Stream(analyzer, _) => analyzer.outcome(),
+            TransportAnalyzer::Datagrams(analyzer) => analyzer.outcome(),
+        }
+    }
+
+    /// Returns the event that ended the handshake without success, if one did.
+    pub fn stop(&self) -> Option<Stop> {
+        match &self.said {
+            TransportAnalyzer::Stream(analyzer, _) => analyzer.stop(),
+            TransportAnalyzer::Datagrams(analyzer) => analyzer.stop(),
+        }
+    }
+
+    /// Returns whether the readable part of the handshake is complete.
+    pub fn is_established(&self) -> bool {
+        match &self.said {
+            TransportAnalyzer::Stream(analyzer, _) => analyzer.is_established(),
+            TransportAnalyzer::Datagrams(analyzer) => analyzer.is_established(),
+        }
+    }
+
+    /// Returns whether a session was resumed.
+    pub fn is_resumed(&self) -> bool {
+        match &self.said {
+            TransportAnalyzer::Stream(analyzer, _) => analyzer.is_resumed(),
+            TransportAnalyzer::Datagrams(analyzer) => analyzer.is_resumed(),
+        }
+    }
+
+    /// Returns whether the first messages of a side weren't captured, by the message numbers of
+    /// DTLS.
+    pub fn lacks_front(&self, side: Side) -> bool {
+        match &self.said {
+            TransportAnalyzer::Stream(_, _) => false,
+            TransportAnalyzer::Datagrams(analyzer) => analyzer.lacks_front(self.direction(side)),
+        }
+    }
+
+    /// Returns whether a side's datagram begins another DTLS association.
+    pub(crate) fn begins_another(&self, side: Side, payload: &[u8]) -> bool {
+        match &self.said {
+            TransportAnalyzer::Stream(_, _) => false,
+            TransportAnalyzer::Datagrams(analyzer) => {
+                self.direction(side) == Direction::ToServer
+                    && analyzer.begins_another(held_datagram(payload))
+            }
+        }
+    }
+
+    /// Keeps the pieces that come from here on.
+    pub(crate) fn keep(&mut self, pieces: PieceKind) -> Result<(), AllocError>
+        ensures { self.new.said ≡ self.old.said }
+    {
+        if self.collector.is_none() {
+            let collector = K::begin(self.alloc, pieces);
+            self.collector = Some(Box::new(self.alloc, collector)?);
+        }
+        Ok(())
+    }
+
+    /// Notes the tunnels of a packet, unless an earlier packet was in any.
+    pub(crate) fn note_tunnels(&mut self, tunnels: &Tunnels) -> Result<(), AllocError>
+        ensures { self.new.said ≡ self.old.said }
+    {
+        if self.tunnels.is_none() && !tunnels.is_empty() {
+            self.tunnels = Some(Box::new(self.alloc, *tunnels)?);
+        }
+        Ok(())
+    }
+
+    /// Returns the tunnels of the first packet that was in any, outermost first.
+    pub fn tunnels(&self) -> &[Tunnel] {
+        match &self.tunnels {
+            Some(tunnels) => tunnels.as_slice(),
+            None => &[],
+        }
+    }
+
+    /// Returns the collector, if pieces are kept.
+    pub fn collector(&mut self) -> Option<&mut K> {
+        match &mut self.collector {
+            Some(collector) => Some(&mut **collector),
+            None => None,
+        }
+    }
+
+    /// Returns the collector, if there is one.
+    pub fn kept(&self) -> Option<&K> {
+        match &self.collector {
+            Some(collector) => Some(&**collector),
+            None => None,
+        }
+    }
+
+    /// Returns how many records a side sent: over TCP up to the first missing bytes, over UDP those
+    /// of all its datagrams.
+    pub fn records(&self, side: Side) -> u64 {
+        match (self.protocol, side) {
+            (Protocol::Tcp, Side::Originator) => self.from_originator.count(),
+            (Protocol::Tcp, Side::Responder) => self.from_responder.count(),
+            (Protocol::Udp, Side::Originator) => self.by_originator.count(),
+            (Protocol::Udp, Side::Responder) => self.by_responder.count(),
+        }
+    }
+
+    /// Returns the direction in which a side speaks: the originator is the client, unless its first
+    /// message is a server's.
+    pub(crate) fn direction(&self, side: Side) -> Direction
+        ensures { result ≡ direction_by self.now.is_turned side }
+    {
+        direction_of(self.is_turned, side)
+    }
+
+    /// Returns how many bytes came before a side's TLS; 0 if no TLS was found.
+    pub fn preamble(&self, side: Side) -> u64
+        ensures { result ≡ preamble_of side self.now.said }
+    {
+        match &self.said {
+            TransportAnalyzer::Stream(_, fronts) => fronts.preamble(side),
+            TransportAnalyzer::Datagrams(_) => 0,
+        }
+    }
+
+    /// Decides which side is the client, by the first analyzed bytes of the connection. A
+    /// ServerHello counts only if the opening wasn't captured: a server that opens the connection
+    /// waits for the client's hello.
+    fn see_client(&mut self, side: Side, bytes: &[u8], is_opened: bool)
+        ensures { self.new ≡ record self.old { is_turned = self.new.is_turned } }
+    {
+        let is_first = match &self.said {
+            TransportAnalyzer::Stream(_, fronts) => fronts.are_silent(),
+            TransportAnalyzer::Datagrams(_) => false,
+        };
+        if !is_first {
+            return;
+        }
+        self.is_turned = match first_message(bytes) {
+            Some(CLIENT_HELLO) => side == Side::Responder,
+            Some(SERVER_HELLO) => side == Side::Originator && !is_opened,
+            _ => false,
+        };
+    }
+
+    /// Counts the records in a side's next bytes.
+    pub(crate) fn count_records(&mut self, side: Side, bytes: &[u8])
+        ensures { self.new ≡ record self.old
+            { from_originator = self.new.from_originator; from_responder = self.new.from_responder } }
+    {
+        match side {
+            Side::Originator => self.from_originator.add(bytes),
+            Side::Responder => self.from_responder.add(bytes),
+        }
+    }
+
+    /// Analyzes a side's bytes behind the `n` bytes before its TLS.
+    #[tactic(auto, unfolding(crate::specs::Analysis::HearsAt))]
+    fn analyze_at(
+        &mut self,
+        stream: &mut Stream,
+        side: Side,
+        is_opened: bool,
+        n: usize,
+        known: &mut CertificateCache,
+    ) -> Result<(), AllocError>
+        ensures { OnOk result
+            (HearsAt side (direction_by self.new.is_turned side) n stream.old stream.new
+            self.old.said self.new.said) }
+    {
+        let all = stream.available();
+        let bytes = behind(all, n);
+        self.see_client(side, bytes, is_opened);
+        let direction = self.direction(side);
+        let TransportAnalyzer::Stream(analyzer, fronts) = &mut self.said else {
+            return Ok(());
+        };
+        fronts.begin(side, n);
+        self.heard = self.heard.saturating_add(bytes.len());
+        let mut audience = Audience {
+            collector: mem::replace(&mut self.collector, None),
+            known,
+        };
+        let is_heard = analyzer.analyze_with(self.alloc, direction, bytes, &mut audience);
+        let Audience {
+            collector,
+            known: _,
+        } = audience;
+        self.collector = collector;
+        is_heard?;
+        let is_over = analyzer.is_over(direction);
+        self.count_records(side, bytes);
+        let len = all.len();
+        stream.take(len);
+        if is_over {
+            stream.stop();
+        }
+        Ok(())
+    }
+
+    /// Analyzes the SSL 2.0 ClientHello with which a side begins. What is behind it is analyzed
+    /// with the next bytes.
+    #[tactic(auto, unfolding(crate::specs::Analysis::HearsSsl2))]
+    fn analyze_ssl2(&mut self, stream: &mut Stream, side: Side) -> Result<(), AllocError>
+        ensures { OnOk result
+            (HearsSsl2 side (direction_by self.new.is_turned side) stream.old stream.new
+            self.old.said self.new.said) }
+    {
+        let bytes = stream.available();
+        let Ok((rest, hello)) = parse_ssl2_client_hello(bytes) else {
+            return Ok(());
+        };
+        let n = bytes.len().saturating_sub(rest.len());
+        let TransportAnalyzer::Stream(analyzer, fronts) = &mut self.said else {
+            return Ok(());
+        };
+        if fronts.are_silent() {
+            self.is_turned = side == Side::Responder;
+        }
+        let direction = direction_of(self.is_turned, side);
+        fronts.begin(side, 0);
+        analyzer.analyze_ssl2(self.alloc, direction, &hello)?;
+        stream.take(n);
+        Ok(())
+    }
+
+    /// Analyzes a side as one that doesn't speak TLS, and stops reading its stream.
+    #[tactic(auto, unfolding(crate::specs::Analysis::HearsNone))]
+    fn skip_side(&mut self, stream: &mut Stream, side: Side) -> Result<(), AllocError>
+        ensures { OnOk result
+            (HearsNone side (direction_by self.new.is_turned side) stream.old stream.new
+            self.old.said self.new.said) }
+    {
+        let direction = self.direction(side);
+        let TransportAnalyzer::Stream(analyzer, fronts) = &mut self.said else {
+            return Ok(());
+        };
+        fronts.leave(side);
+        analyzer.skip_side(self.alloc, direction)?;
+        stream.stop();
+        Ok(())
+    }
+
+    /// Skips bytes of a side before its TLS.
+    #[tactic(auto, unfolding(crate::specs::Analysis::PassesOver))]
+    fn pass_over(&mut self, stream: &mut Stream, side: Side, n: usize)
+        ensures passed { PassesOver side n stream.old stream.new self.old.said self.new.said }
+        ensures turned { self.new.is_turned ≡ self.old.is_turned }
+    {
+        if let TransportAnalyzer::Stream(_, fronts) = &mut self.said {
+            fronts.pass(side, n);
+            stream.take(n);
+        }
+    }
+
+    /// Returns where a side's TLS begins in its next bytes. They are its last, or the last before
+    /// an urgent byte, if they `are_last`.
+    fn beginning(&self, bytes: &[u8], side: Side, are_last: bool) -> Beginning
+        ensures { result ≡ begins_in side are_last self.now.said bytes.now }
+    {
+        match &self.said {
+            TransportAnalyzer::Stream(analyzer, fronts) => {
+                begins_at(analyzer.is_tls(), are_last, fronts.of(side), bytes)
+            }
+            TransportAnalyzer::Datagrams(_) => Beginning::Waits,
+        }
+    }
+
+    /// Returns whether a side is analyzed no further.
+    fn is_over(&self, side: Side) -> bool
+        ensures { result ≡ is_over_in side (direction_by self.now.is_turned side) self.now.said }
+    {
+        match &self.said {
+            TransportAnalyzer::Stream(analyzer, fronts) => {
+                fronts.has_begun(side) && analyzer.is_over(self.direction(side))
+            }
+            TransportAnalyzer::Datagrams(_) => false,
+        }
+    }
+
+    /// Analyzes the next bytes of a side's stream, from where its TLS begins, and skips those
+    /// before. They are its last if they `are_last`. The connection's opening was captured if it
+    /// `is_opened`.
+    #[tactic(auto, using(crate::proofs::FrontLemmas::over_stays))]
+    pub(crate) fn analyze_stream(
+        &mut self,
+        stream: &mut Stream,
+        side: Side,
+        is_opened: bool,
+        are_last: bool,
+        known: &mut CertificateCache,
+    ) -> Result<(), AllocError>
+        ensures { OnOk result
+            (HearsStream side (are_last || is_cut_short stream.old stream.old.reading)
+            (direction_by self.new.is_turned side)
+            stream.old stream.new self.old.said self.new.said) }
+    {
+        // (most packets come after the whole handshake was analyzed)
+        if stream.available().is_empty() && self.is_over(side) {
+            stream.stop();
+            return Ok(());
+        }
+        self.hear_further(stream, side, is_opened, are_last, known)
+    }
+
+    /// Analyzes the next bytes of a side that has any, or may be analyzed further.
+    #[tactic(auto, unfolding(crate::specs::Analysis::HearsStream))]
+    fn hear_further(
+        &mut self,
+        stream: &mut Stream,
+        side: Side,
+        is_opened: bool,
+        are_last: bool,
+        known: &mut CertificateCache,
+    ) -> Result<(), AllocError>
+        ensures { OnOk result
+            (HearsStream side (are_last || is_cut_short stream.old stream.old.reading)
+            (direction_by self.new.is_turned side)
+            stream.old stream.new self.old.said self.new.said) }
+    {
+        let are_last = are_last || stream.is_cut();
+        match self.beginning(stream.available(), side, are_last) {
+            Beginning::Waits => Ok(()),
+            Beginning::PassesOver(n) => {
+                self.pass_over(stream, side, n);
+                Ok(())
+            }
+            Beginning::At(n) => self.analyze_at(stream, side, is_opened, n, known),
+            Beginning::InSsl2 => self.analyze_ssl2(stream, side),
+            Beginning::Nowhere => self.skip_side(stream, side),
+        }
+    }
+
+    /// Analyzes a side's datagram, or the DTLS datagram inside it.
+    pub(crate) fn analyze_datagram(
+        &mut self,
+        direction: Direction,
+        payload: &[u8],
+        known: &mut CertificateCache,
+    ) -> Result<(), AllocError>
+        ensures { OnOk result
+            (HearsDatagram direction (held_datagram_of payload.now) self.old.said self.new.said) }
+    {
+        let payload = held_datagram(payload);
+        let TransportAnalyzer::Datagrams(analyzer) = &mut self.said else {
+            return Ok(());
+        };
+        let mut audience = Audience {
+            collector: mem::replace(&mut self.collector, None),
+            known,
+        };
+        let is_heard = analyzer.analyze_with(self.alloc, direction, payload, &mut audience);
+        let Audience {
+            collector,
+            known: _,
+        } = audience;
+        self.collector = collector;
+        is_heard?;
+        // (the version and the connection ids may be in this datagram, before its encrypted
+        // records)
+        let id_len = analyzer.handshake().connection_id_len(direction);
+        let is_13 = analyzer.is_13();
+        match direction {
+            Direction::ToServer => self.by_originator.add(payload, id_len, is_13),
+            Direction::FromServer => self.by_responder.add(payload, id_len, is_13),
+        }
+        Ok(())
+    }
+}

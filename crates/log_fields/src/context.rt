@@ -1,0 +1,127 @@
+//! What the fields of a connection's line are computed from.
+use crate::certificates::certificate_of;
+use crate::summary::{Party, Summary};
+use connections::{Protocol, Side};
+use log_formats::suites::Suites;
+use std::alloc::Global;
+use std::cell::RefCell;
+use tls_fingerprints::DigestCache;
+use tls_summary::HandshakeSummary;
+use x509::Certificate;
+
+/// A connection at its first packet, or when a message or certificate was completed.
+#[derive(Clone, Copy)]
+pub struct Moment<'a> {
+    /// The allocator of texts.
+    pub alloc: Global,
+    /// The connection.
+    pub summary: &'a Summary<'a>,
+    /// The time, in nanoseconds since 1970-01-01 00:00 UTC.
+    pub time: u64,
+}
+
+/// One side of a connection, for the fields of what it sent.
+#[derive(Clone, Copy)]
+pub struct SideContext<'a> {
+    /// The allocator of texts.
+    pub alloc: Global,
+    /// The transport protocol.
+    pub protocol: Protocol,
+    /// The side.
+    pub party: &'a Party<'a>,
+}
+
+/// The text of JA3S, kept from the field of its digest to that of the text.
+#[derive(Drop)]
+pub struct KeptTexts {
+    pub ja3s: Option<String>,
+}
+
+/// A side's own certificate. It is parsed when the first field needs it: for most lines its text is
+/// cached.
+#[derive(Drop)]
+pub enum OwnCertificate<'a> {
+    /// The bytes, if it was sent.
+    Unread(Option<&'a [u8]>),
+    /// The certificate, if it was sent and can be parsed.
+    Read(Option<Certificate<'a>>),
+}
+
+impl<'a> OwnCertificate<'a> {
+    /// Returns the certificate in these bytes, unparsed.
+    fn new(bytes: Option<&'a [u8]>) -> OwnCertificate<'a> {
+        OwnCertificate::Unread(bytes)
+    }
+
+    /// Returns the certificate, if it was sent and can be parsed.
+    pub fn certificate(&mut self) -> Option<&Certificate<'a>> {
+        if let OwnCertificate::Unread(bytes) = self {
+            *self = OwnCertificate::Read(certificate_of(*bytes));
+        }
+        match self {
+            OwnCertificate::Read(Some(certificate)) => Some(certificate),
+            _ => None,
+        }
+    }
+}
+
+/// A connection, both sides' own certificates, and texts that later fields reuse.
+#[derive(Drop)]
+pub struct FieldContext<'a> {
+    /// The allocator of texts.
+    pub alloc: Global,
+    /// The names of cipher suites.
+    pub suites: &'a Suites,
+    /// A cache of digests from earlier lines.
+    pub digests: &'a RefCell<DigestCache>,
+    /// The connection.
+    pub summary: &'a Summary<'a>,
+    /// The handshake of both sides.
+    pub handshake: &'a HandshakeSummary,
+    /// The server's own certificate.
+    pub server: OwnCertificate<'a>,
+    /// The client's own certificate.
+    pub client: OwnCertificate<'a>,
+    /// Texts kept for later fields.
+    pub kept: KeptTexts,
+}
+
+impl<'a> FieldContext<'a> {
+    /// Returns a connection, with these names of suites and this cache of digests.
+    pub fn new(
+        alloc: Global,
+        suites: &'a Suites,
+        digests: &'a RefCell<DigestCache>,
+        summary: &'a Summary<'a>,
+    ) -> FieldContext<'a> {
+        let handshake = summary.handshake;
+        FieldContext {
+            alloc,
+            suites,
+            digests,
+            summary,
+            handshake,
+            server: OwnCertificate::new(handshake.server_certificate.as_deref()),
+            client: OwnCertificate::new(handshake.client_certificate.as_deref()),
+            kept: KeptTexts { ja3s: None },
+        }
+    }
+
+    /// Returns the connection at its first packet.
+    pub fn first_moment(&self) -> Moment<'a> {
+        Moment {
+            alloc: self.alloc,
+            summary: self.summary,
+            time: self.summary.first_time,
+        }
+    }
+
+    /// Returns a side of it.
+    pub fn sender(&self, side: Side) -> SideContext<'a> {
+        SideContext {
+            alloc: self.alloc,
+            protocol: self.summary.protocol,
+            party: self.summary.party(side),
+        }
+    }
+}

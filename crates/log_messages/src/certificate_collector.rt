@@ -1,0 +1,70 @@
+//! The unencrypted certificates of both sides, each kept until its line is written.
+use std::alloc::{AllocError, Global};
+use std::mem;
+use tls_base::TlsHandshakeType;
+use tls_flow::{Direction, HandshakeMessage};
+use tls_hs::certificates;
+
+/// A certificate, its sender and its place.
+#[derive(Drop)]
+pub struct SentCertificate {
+    /// The direction in which it was sent.
+    pub direction: Direction,
+    /// The number of certificates before it in its chain: 0 for its sender's own.
+    pub place: u64,
+    /// Its DER.
+    pub bytes: Vec<u8>,
+}
+
+/// Certificates that are kept until they are taken.
+#[derive(Drop)]
+pub struct CertificateCollector {
+    alloc: Global,
+    kept: Vec<SentCertificate>,
+}
+
+impl CertificateCollector {
+    /// Returns one that keeps nothing yet.
+    pub fn new(alloc: Global) -> CertificateCollector {
+        CertificateCollector {
+            alloc,
+            kept: Vec::new(alloc),
+        }
+    }
+
+    /// Keeps the certificates of a message, if it is a Certificate (RFC 5246, section 7.4.2).
+    ///
+    /// `AllocError` if memory runs out; certificates before that are kept.
+    pub fn add_message(
+        &mut self,
+        direction: Direction,
+        message: Option<&HandshakeMessage<'_>>,
+    ) -> Result<(), AllocError> {
+        let Some(message) = message else {
+            return Ok(());
+        };
+        if message.msg_type != TlsHandshakeType::Certificate {
+            return Ok(());
+        }
+        let Ok((_, chain)) = certificates(message.body) else {
+            return Ok(());
+        };
+        let mut place = 0u64;
+        for certificate in chain {
+            let mut bytes = Vec::new(self.alloc);
+            bytes.extend_from_slice(certificate.bytes)?;
+            self.kept.push(SentCertificate {
+                direction,
+                place,
+                bytes,
+            })?;
+            place = place.saturating_add(1);
+        }
+        Ok(())
+    }
+
+    /// Removes the certificates that are kept, and returns them.
+    pub fn take(&mut self) -> Vec<SentCertificate> {
+        mem::replace(&mut self.kept, Vec::new(self.alloc))
+    }
+}

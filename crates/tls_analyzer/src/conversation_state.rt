@@ -1,0 +1,195 @@
+//! A conversation with its flow, summary and history.
+ghost use Rattle.std.specs.Prelude.{◌≡◌, [], IfOk, OnOk};
+ghost use Rattle.std.specs.Option.{option_map};
+ghost use Rattle.ssl2_hello.specs.ClientHello.{view_client_hello as view_ssl2_hello};
+ghost use Rattle.tls_stream.specs.Conversations.{IsBegun, ear};
+ghost use Rattle.tls_stream.specs.Ears.{IsReady, front_of};
+ghost use Rattle.tls_stream.specs.FlowEvents.{event_of, view_said};
+ghost use Rattle.tls_flow.specs.Bytes.{view_heard};
+ghost use Rattle.tls_summary.specs.HandshakeSummary.{nothing, view_summary};
+ghost use Rattle.tls_flow.specs.Steps.{silence};
+ghost use Rattle.tls_analyzer.specs.Noting.{followed, is_sealed, noted, noted_with, stepped};
+ghost use Rattle.tls_analyzer.specs.History.{letter_of, with_letter};
+ghost use Rattle.tls_analyzer.specs.Hearing.{IsFed, IsHelloNoted, IsNextTaken};
+
+use crate::history::{add_letter, stream_letter};
+use crate::observer::Observer;
+use ssl2_hello::Ssl2ClientHello;
+use std::alloc::{AllocError, Global};
+use tls_flow::{Direction, Flow, HandshakeMessage, Kind};
+use tls_stream::{
+    Conversation, DEFAULT_LIMIT, Event, SideEvent, stream_event_with, stream_message,
+};
+use tls_summary::{CertificateCache, HandshakeSummary};
+
+/// A conversation, and what is derived from its events.
+#[derive(Drop)]
+pub(crate) struct ConversationState {
+    // Both sides, as far as they were followed. The conversation's own flow follows every hello;
+    // `flow` below leaves out those that don't belong to the handshake.
+    pub(crate) conversation: Conversation,
+    // The flow of the handshake.
+    pub(crate) flow: Flow,
+    // The summary of both sides.
+    pub(crate) handshake: HandshakeSummary,
+    // A letter for each event.
+    pub(crate) history: Vec<u8>,
+}
+
+/// Whether what follows in this direction is encrypted.
+fn is_encrypted(said: &SideEvent<'_>) -> bool
+    ensures { result ≡ is_sealed (view_said said.now) }
+{
+    match said {
+        SideEvent::Event(Event::Encrypted(_)) | SideEvent::Event(Event::ApplicationData(_)) => true,
+        SideEvent::Event(_) | SideEvent::Fault(_) => false,
+    }
+}
+
+/// Follows an event of a side, unless the summary before it shows that it is a hello that doesn't
+/// belong to the handshake.
+pub(crate) fn step(
+    flow: &mut Flow,
+    handshake: &HandshakeSummary,
+    side: Direction,
+    event: tls_flow::FlowEvent,
+)
+    ensures { flow.new ≡ stepped side flow.old (view_summary handshake.now) event }
+{
+    if !handshake.is_stray(side, event.symbol.kind) {
+        flow.update(event);
+    }
+}
+
+/// Updates the summary with an event of a side; `message` is its handshake message, if it is one.
+fn note(
+    handshake: &mut HandshakeSummary,
+    alloc: Global,
+    side: Direction,
+    said: &SideEvent<'_>,
+    message: Option<&HandshakeMessage<'_>>,
+    known: Option<&mut CertificateCache>,
+) -> Result<(), AllocError>
+    ensures { OnOk result
+        (view_summary handshake.new ≡ noted_with side (view_summary handshake.old)
+        (view_said said.now)
+        (option_map (λ m. view_heard m.now) message.entry)) }
+{
+    match said {
+        SideEvent::Event(Event::Handshake(_)) => {
+            if let Some(message) = message {
+                handshake.note_with(alloc, side, message, known)?;
+            }
+        }
+        SideEvent::Event(Event::Alert(alert)) => handshake.note_alert(alert.code),
+        SideEvent::Event(Event::ChangeCipherSpec)
+        | SideEvent::Event(Event::Heartbeat(_))
+        | SideEvent::Event(Event::ApplicationData(_))
+        | SideEvent::Event(Event::Encrypted(_))
+        | SideEvent::Fault(_) => {}
+    }
+    Ok(())
+}
+
+/// Follows an event of a side, updates the summary and appends its letter. Its message is parsed
+/// once for these and the observer.
+fn tell<W: Observer>(
+    flow: &mut Flow,
+    handshake: &mut HandshakeSummary,
+    history: &mut Vec<u8>,
+    alloc: Global,
+    side: Direction,
+    said: &SideEvent<'_>,
+    observer: &mut W,
+) -> Result<tls_flow::FlowEvent, AllocError>
+    ensures flow { OnOk result
+        (flow.new ≡ followed side flow.old (view_summary handshake.old) (view_said said.now)) }
+    ensures handshake { OnOk result
+        (view_summary handshake.new ≡ noted side (view_summary handshake.old) (view_said said.now)) }
+    ensures history { OnOk result
+        (history.new.items ≡ with_letter side history.old.items (letter_of (view_said said.now))) }
+    ensures event { IfOk result (λ e. e ≡ event_of side (view_said said.now)) }
+{
+    let message = stream_message(said);
+    let kind = Kind::of_message(message.as_ref());
+    let event = stream_event_with(said, kind, side);
+    step(flow, handshake, side, event);
+    let known = observer.certificate_cache();
+    note(handshake, alloc, side, said, message.as_ref(), known)?;
+    add_letter(history, side, stream_letter(said, kind))?;
+    observer.on_stream_event(side, said, message.as_ref())?;
+    Ok(event)
+}
+
+impl ConversationState {
+    /// An empty one. It doesn't allocate.
+    pub(crate) fn new(alloc: Global) -> ConversationState
+        ensures begun { IsBegun DEFAULT_LIMIT result.conversation }
+        ensures unfollowed { result.flow ≡ silence }
+        ensures unknown { view_summary result.handshake ≡ nothing }
+        ensures unlettered { result.history.items ≡ [] }
+    {
+        ConversationState {
+            conversation: Conversation::new(alloc),
+            flow: Flow::new(),
+            handshake: HandshakeSummary::new(),
+            history: Vec::new(alloc),
+        }
+    }
+
+    /// Appends a piece of this side's stream.
+    pub(crate) fn feed(&mut self, side: Direction, piece: &[u8]) -> Result<(), AllocError>
+        ensures fed { OnOk result (IsFed self.old side piece.now self.new) }
+        ensures ready { OnOk result (IsReady (ear self.new.conversation side)) }
+    {
+        self.conversation.feed(side, piece).map_err(|_e| AllocError)
+    }
+
+    /// Follows and records a ClientHello of SSL 2.0's form, with which a side begins.
+    pub(crate) fn analyze_ssl2(
+        &mut self,
+        alloc: Global,
+        side: Direction,
+        hello: &Ssl2ClientHello<'_>,
+    ) -> Result<(), AllocError>
+        ensures { OnOk result (IsHelloNoted self.old side (view_ssl2_hello hello.now) self.new) }
+    {
+        let event = tls_flow::FlowEvent::new(Kind::ClientHello, side);
+        step(&mut self.flow, &self.handshake, side, event);
+        self.handshake.note_ssl2_hello(alloc, side, hello)?;
+        add_letter(&mut self.history, side, Some(b'c'))
+    }
+
+    /// Follows the side's next event, updates the summary and removes the event. Returns whether it
+    /// is encrypted, and `None` if there is none.
+    pub(crate) fn take_next<W: Observer>(
+        &mut self,
+        alloc: Global,
+        side: Direction,
+        observer: &mut W,
+    ) -> Result<Option<bool>, AllocError>
+        ensures taken { IfOk result
+            (λ r. IsNextTaken (front_of (ear self.old.conversation side)) self.old side r self.new) }
+        ensures ready { OnOk result
+            (IsReady (ear self.old.conversation side) → IsReady (ear self.new.conversation side)) }
+    {
+        let (event, is_encrypted) = match self.conversation.front(side) {
+            Some(said) => {
+                let (flow, handshake) = (&mut self.flow, &mut self.handshake);
+                let event = tell(
+                    flow,
+                    handshake,
+                    &mut self.history,
+                    alloc,
+                    side,
+                    &said,
+                    observer,
+                )?;
+                (event, is_encrypted(&said))
+            }
+            None => return Ok(None),
+        };
+        self.conversation.take_front_as(side, event);
+        Ok(Some(is_encrypted))
+    }
+}

@@ -1,0 +1,13 @@
+//! What a side of a conversation says next.
+use crate::event::Event;
+use crate::fault::Fault;
+
+/// What a side of a conversation says next.
+#[derive(Clone, Debug, PartialEq, Drop)]
+pub enum SideEvent<'a> {
+    /// A handshake message, or a record that has none.
+    Event(Event<'a>),
+    /// A fault, which ends the side: nothing after it is read. The flow follows it as an unknown
+    /// message.
+    Fault(Fault),
+}

@@ -1,0 +1,151 @@
+//! What is kept of each connection, and the summary that its line is made of.
+use connections::{Connection, Side};
+use log_connections::{PieceCollector, PieceKind, TlsAnalysis};
+use log_fields::summary::{Party, Summary};
+use log_messages::{
+    CertificateCollector, CertificateLists, MessageCollector, SentCertificate, SentMessage,
+    SuiteText,
+};
+use std::alloc::{AllocError, Global};
+use tls_analyzer::Observer;
+use tls_flow::{Direction, HandshakeMessage};
+use tls_stream::SideEvent;
+
+/// The pieces of a connection that are kept until they are printed.
+#[derive(Drop)]
+pub enum CollectedPieces {
+    /// Its messages.
+    Messages(MessageCollector),
+    /// Its certificates.
+    Certificates(CertificateCollector),
+    /// The chains of both sides, for its line.
+    Chains(CertificateLists),
+}
+
+impl PieceCollector for CollectedPieces {
+    fn begin(alloc: Global, pieces: PieceKind) -> CollectedPieces {
+        match pieces {
+            PieceKind::Messages => CollectedPieces::Messages(MessageCollector::new(
+                alloc,
+                SuiteText::Name,
+            )),
+            PieceKind::NumberedMessages => CollectedPieces::Messages(MessageCollector::new(
+                alloc,
+                SuiteText::Number,
+            )),
+            PieceKind::Certificates => CollectedPieces::Certificates(CertificateCollector::new(
+                alloc,
+            )),
+            PieceKind::Chains => CollectedPieces::Chains(CertificateLists::new(alloc)),
+        }
+    }
+
+    fn capacity(&self) -> usize {
+        match self {
+            // (these are taken before the next packet)
+            CollectedPieces::Messages(_) | CollectedPieces::Certificates(_) => 0,
+            CollectedPieces::Chains(lists) => lists.capacity(),
+        }
+    }
+}
+
+impl Observer for CollectedPieces {
+    fn on_stream_event(
+        &mut self,
+        side: Direction,
+        said: &SideEvent<'_>,
+        message: Option<&HandshakeMessage<'_>>,
+    ) -> Result<(), AllocError> {
+        match self {
+            CollectedPieces::Messages(speech) => speech.on_stream_event(side, said, message),
+            CollectedPieces::Certificates(chains) => chains.add_message(side, message),
+            CollectedPieces::Chains(lists) => {
+                lists.add_message(side, message);
+                Ok(())
+            }
+        }
+    }
+
+    fn on_datagram_event(
+        &mut self,
+        side: Direction,
+        event: &dtls_stream::Event<'_>,
+        message: Option<&HandshakeMessage<'_>>,
+    ) -> Result<(), AllocError> {
+        match self {
+            CollectedPieces::Messages(speech) => speech.on_datagram_event(side, event, message),
+            CollectedPieces::Certificates(chains) => chains.add_message(side, message),
+            CollectedPieces::Chains(lists) => {
+                lists.add_message(side, message);
+                Ok(())
+            }
+        }
+    }
+}
+
+/// The state of a connection's TLS, with the pieces that are printed one by one.
+pub type Analysis = TlsAnalysis<CollectedPieces>;
+
+/// Takes the messages that are kept.
+pub fn take_messages(alloc: Global, attachment: &mut Analysis) -> Vec<SentMessage> {
+    match attachment.collector() {
+        Some(CollectedPieces::Messages(speech)) => speech.take(),
+        Some(CollectedPieces::Certificates(_) | CollectedPieces::Chains(_)) | None => Vec::new(
+            alloc,
+        ),
+    }
+}
+
+/// Takes the certificates that are kept.
+pub fn take_certificates(alloc: Global, attachment: &mut Analysis) -> Vec<SentCertificate> {
+    match attachment.collector() {
+        Some(CollectedPieces::Certificates(chains)) => chains.take(),
+        Some(CollectedPieces::Messages(_) | CollectedPieces::Chains(_)) | None => Vec::new(alloc),
+    }
+}
+
+/// Returns one side of a connection for its summary.
+fn party(connection: &Connection<Analysis>, side: Side) -> Party<'_> {
+    Party {
+        end: match side {
+            Side::Originator => connection.originator,
+            Side::Responder => connection.responder,
+        },
+        stream: connection.stream(side),
+        sent: connection.sent(side),
+        dropped: connection.dropped(side),
+        preamble: connection.attachment.preamble(side),
+        records: connection.attachment.records(side),
+        lacks_front: connection.attachment.lacks_front(side),
+    }
+}
+
+/// Returns the certificates that the sender of this direction sent, if chains are kept.
+fn chain(attachment: &Analysis, direction: Direction) -> &[u8] {
+    match attachment.kept() {
+        Some(CollectedPieces::Chains(lists)) => lists.of(direction),
+        Some(CollectedPieces::Messages(_) | CollectedPieces::Certificates(_)) | None => &[],
+    }
+}
+
+/// Returns the summary of a connection that its lines are made of.
+pub fn summary(connection: &Connection<Analysis>) -> Summary<'_> {
+    let heard = &connection.attachment;
+    Summary {
+        protocol: connection.protocol,
+        first_time: connection.first_time,
+        last_time: connection.last_time,
+        originator: party(connection, Side::Originator),
+        responder: party(connection, Side::Responder),
+        handshake: heard.handshake(),
+        client_chain: chain(heard, Direction::ToServer),
+        server_chain: chain(heard, Direction::FromServer),
+        history: heard.history(),
+        outcome: heard.outcome(),
+        stop: heard.stop(),
+        is_established: heard.is_established(),
+        is_resumed: heard.is_resumed(),
+        is_ended_early: heard.is_ended_early,
+        tunnels: heard.tunnels(),
+    }
+}
