@@ -7,7 +7,7 @@
 //!
 //! Promise: `Log` in `specs/` defines which connection a packet changes and which bytes its
 //! analysis gets, `TlsAnalysis` what the analysis does with them, and `Fronts` where TLS begins in
-//! a stream. The counts, the keeper's pieces and the memory limits have no clauses, only tests.
+//! a stream. Collected pieces and memory limits have no clauses, only tests.
 #![tactic(auto)]
 
 mod analysis;
