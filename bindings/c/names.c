@@ -1,11 +1,12 @@
-/* Prints the server name of each ClientHello of a client's stream of records: names < STREAM
+/* Prints the host name of each ClientHello in a client's stream of records: names < STREAM
  *
- * The stream may come in pieces of any length, and a hello may stand in several records. */
+ * The stream may arrive in pieces of any length, and a ClientHello may span records. */
 #include "wispuddera.h"
 
 #include <stdio.h>
 
-/* What is held of one direction. A record has at most 5 + 16640 bytes; here a message may have as many as 65540. */
+/* The buffers of one direction. A record has at most 5 + 16640 bytes. Here a message may have at
+ * most 65540. */
 typedef struct {
     uint8_t records[16645];
     uint8_t messages[65540];
@@ -25,8 +26,8 @@ static void show_name(const uint8_t *body, size_t count) {
     }
 }
 
-/* Joins a fragment to the messages, and shows those that are whole. Says why no more can be read, WISPUDDERA_INCOMPLETE if the
- * next one isn't whole yet. */
+/* Appends a fragment to the messages, and prints the host name of each complete ClientHello.
+ * Returns why it stopped: WISPUDDERA_INCOMPLETE if the next message is incomplete. */
 static uint32_t take_fragment(direction *d, const uint8_t *fragment, size_t count) {
     wispuddera_part message = WISPUDDERA_EMPTY;
     size_t taken = 0;
@@ -42,7 +43,8 @@ static uint32_t take_fragment(direction *d, const uint8_t *fragment, size_t coun
     return status;
 }
 
-/* Takes a piece, and the records that are whole with it. Handshakes are in the clear up to the first ChangeCipherSpec. */
+/* Appends a piece, and reads the records that it completes. Returns WISPUDDERA_NONE at the first
+ * ChangeCipherSpec, after which handshakes are encrypted. */
 static uint32_t take_piece(direction *d, const uint8_t *piece, size_t count) {
     while (count > 0) {
         wispuddera_record r = WISPUDDERA_EMPTY;

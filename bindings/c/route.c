@@ -1,12 +1,15 @@
-/* Where a proxy sends a connection, by the name that its client asks for: route NAME=PLACE.. < STREAM
+/* Prints the backend for a connection, by the host that its client asks for:
  *
- * It prints the place, `-` where no name fits, and reads no more than the client's first hello. */
+ *     route NAME=PLACE.. < STREAM
+ *
+ * It prints the PLACE of the NAME, or `-` if none matches, and reads only the first ClientHello. */
 #include "wispuddera.h"
 
 #include <stdio.h>
 #include <string.h>
 
-/* The name in the first hello of what came so far, in `room`, which has as many bytes: joined from its records. */
+/* Finds the host name in the first ClientHello of the bytes so far. The hello is joined from its
+ * records in `room`, which is as long as `bytes`; `name` is a place in `room`. */
 static uint32_t find_name(const uint8_t *bytes, size_t count, uint8_t *room, wispuddera_found *name) {
     wispuddera_record r = WISPUDDERA_EMPTY;
     size_t joined = 0, at = 0;
