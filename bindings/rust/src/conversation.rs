@@ -47,7 +47,7 @@ impl fmt::Display for Fault {
             Fault::UnknownType => "the type of a record is none of TLS",
             Fault::WrongChange => "a ChangeCipherSpec isn't one byte, 1",
             Fault::AboveLimit => "the length of a handshake message is above the limit",
-            Fault::Interrupted => "another record stands between two parts of a message",
+            Fault::Interrupted => "another record interrupts the message",
         })
     }
 }

@@ -26,7 +26,7 @@ OUTCOMES = {
     "tls13": "TLS 1.3, up to the ServerHello",
     "broken_off": "broken off by an alert",
     "waiting": "not finished",
-    "unknown": "a message that isn't known",
+    "unknown": "unknown message",
     "no_handshake": "messages that are no handshake",
 }
 
