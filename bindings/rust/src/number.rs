@@ -95,8 +95,8 @@ pub fn signature_schemes(content: &[u8]) -> Result<Numbers<'_>, Error> {
 /// such an extension it is `version`.
 ///
 /// # Errors
-/// If an extension up to supported_versions is truncated, or any extension if there is no such one;
-/// if the content of supported_versions is malformed.
+/// If an extension up to supported_versions is truncated, or any extension without that one; if its
+/// content is malformed.
 pub fn best_version(version: u16, block: &[u8]) -> Result<Option<u16>, Error> {
     let mut out = sys::Number::default();
     // SAFETY: the pointer and the length are those of a slice; `out` is initialized.

@@ -5,7 +5,7 @@ use crate::sys;
 use core::iter::FusedIterator;
 use core::marker::PhantomData;
 
-/// Items of which bytes hold a sequence, and which are parsed from the front.
+/// An item that is parsed from the front of bytes. [`Items`] iterates over a sequence of them.
 pub trait Read<'a>: Sized {
     /// Returns the item at the front, and the bytes after it.
     ///
