@@ -1,15 +1,16 @@
-//! Finds libwispuddera.a, which `bindings/build` makes: in the folder WISPUDDERA_LIB, else in bindings/out.
+//! Links libwispuddera.a, which `bindings/build` builds: from the folder WISPUDDERA_LIB, or else
+//! from bindings/out.
 use std::env;
 use std::path::PathBuf;
 
 fn main() {
     println!("cargo:rerun-if-env-changed=WISPUDDERA_LIB");
-    let here = PathBuf::from(env::var_os("CARGO_MANIFEST_DIR").expect("Cargo tells it"));
+    let here = PathBuf::from(env::var_os("CARGO_MANIFEST_DIR").expect("Cargo sets it"));
     let folder = env::var_os("WISPUDDERA_LIB").map_or_else(|| here.join("../out"), PathBuf::from);
     let library = folder.join("libwispuddera.a");
-    // The documentation needs no library; a program that is linked does, and this says where it comes from.
+    // Only a warning: `cargo doc` and `cargo check` need no library.
     if !library.is_file() {
-        println!("cargo:warning={} isn't there: bindings/build makes it, and WISPUDDERA_LIB names its folder", library.display());
+        println!("cargo:warning=there is no {}: run bindings/build, or set WISPUDDERA_LIB to its folder", library.display());
     }
     println!("cargo:rerun-if-changed={}", library.display());
     println!("cargo:rustc-link-search=native={}", folder.display());

@@ -135,7 +135,7 @@ class Outside(IndexError):
 
 @dataclass(frozen=True)
 class Record:
-    """A record (RFC 5246, section 6.2.1). `next` is the offset behind it."""
+    """A record (RFC 5246, section 6.2.1). `next` is the offset of what follows it."""
 
     content_type: int
     version: int
@@ -323,7 +323,7 @@ def _record(given: _Given, offset: int) -> Record:
 
 
 def record(data: Data, offset: int = 0) -> Record:
-    """The record at that offset (RFC 5246, section 6.2.1)."""
+    """The record at this offset (RFC 5246, section 6.2.1)."""
     return _record(_Given(data), offset)
 
 
@@ -353,7 +353,7 @@ def _message(given: _Given, offset: int) -> Message:
 
 
 def message(fragment: Data, offset: int = 0) -> Message:
-    """The handshake message at that offset of a record's fragment (RFC 5246, section 7.4)."""
+    """The handshake message at this offset of a record's fragment (RFC 5246, section 7.4)."""
     return _message(_Given(fragment), offset)
 
 
@@ -369,12 +369,12 @@ def _extension(given: _Given, offset: int) -> Extension:
 
 
 def extension(block: Data, offset: int = 0) -> Extension:
-    """The extension at that offset of a block of extensions (RFC 8446, section 4.2)."""
+    """The extension at this offset of a block of extensions (RFC 8446, section 4.2)."""
     return _extension(_Given(block), offset)
 
 
 def extensions(block: Data) -> Iterator[Extension]:
-    """The extensions of a block of them."""
+    """The extensions in a block of extensions."""
     return _walk(_extension, _Given(block))
 
 
@@ -438,7 +438,8 @@ def _numbers(given: _Given, at: Callable) -> tuple[int, ...]:
 
 
 def versions(content: Data) -> tuple[int, ...]:
-    """The versions in the content of a supported_versions of either hello (RFC 8446, section 4.2.1)."""
+    """The versions in the content of a supported_versions of either hello (RFC 8446, section
+    4.2.1)."""
     return _numbers(_Given(content), _c.version_at)
 
 
@@ -744,7 +745,8 @@ def _x509_name(given: _Given, offset: int) -> X509Name:
 
 
 def x509_names(value: Data) -> Iterator[X509Name]:
-    """The names in the value of a subjectAltName or an issuerAltName (RFC 5280, section 4.2.1.6)."""
+    """The names in the value of a subjectAltName or an issuerAltName (RFC 5280, section
+    4.2.1.6)."""
     given, out = _Given(value), _room.found
     _check(_c.find_x509_names(given.address, given.count, out), out.missing)
     return _walk(_x509_name, _Given(given.part(out.place)))
@@ -765,7 +767,7 @@ class _Stream:
         return self._held.length
 
     def _feed(self, piece: Data, take: Callable, out: ctypes.Structure, shown: Callable) -> list:
-        """The items that are complete with the piece. A refusal behind them is raised by the next
+        """The items that are complete with the piece. A refusal after them is raised by the next
         call, and by each later one."""
         rest, taken, whole = _Given(piece), ctypes.c_size_t(), []
         while self._refusal is None and rest.count:

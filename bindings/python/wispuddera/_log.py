@@ -304,7 +304,8 @@ class _Feed(threading.Thread):
 
 
 def _items(command: list[str], source: Optional[BinaryIO], is_stream: bool, shown: Callable[[bytes], Any]) -> Iterator[Any]:
-    # Standard error goes to a file, since an unread pipe would block the program. Its own session keeps Ctrl-C from it.
+    # Standard error goes to a file, since an unread pipe would block the program. The program has a
+    # session of its own, so that Ctrl-C doesn't reach it.
     given: dict[str, Any] = {"stdin": subprocess.PIPE, "bufsize": 0} if source is not None else {}
     feed = None
     with tempfile.TemporaryFile() as errors:

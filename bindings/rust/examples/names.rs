@@ -1,6 +1,6 @@
-//! Prints the server name of each ClientHello of a client's stream of records: names < STREAM
+//! Prints the host name of each ClientHello in a client's stream of records: names < STREAM
 //!
-//! The stream may come in pieces of any length, and a hello may stand in several records.
+//! The stream is read in pieces of any length, and a hello may be split over several records.
 use std::io::{self, Read};
 use std::process::ExitCode;
 use wispuddera::{server_name_of_hello, Error, Kind, MessageStream, RecordStream, RECORD_ROOM};
@@ -17,14 +17,15 @@ fn show_name(hello: &[u8]) {
     }
 }
 
-/// What is held of one direction.
+/// The buffered bytes of one direction.
 struct Direction {
     records: RecordStream<[u8; RECORD_ROOM]>,
     messages: MessageStream<[u8; 65540]>,
 }
 
 impl Direction {
-    /// Takes a piece, and shows the names of the hellos that are whole with it; whether the handshake is still in the clear.
+    /// Prints the names of the hellos that are complete with this piece. Returns whether the
+    /// handshake is still in the clear.
     fn take_piece(&mut self, mut piece: &[u8]) -> Result<bool, Error> {
         while !piece.is_empty() {
             piece = &piece[self.records.feed(piece)..];

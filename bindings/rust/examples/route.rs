@@ -1,6 +1,7 @@
-//! Where a proxy sends a connection, by the name that its client asks for: route NAME=PLACE.. < STREAM
+//! Prints where a proxy would send a connection, by its host name: route NAME=PLACE.. < STREAM
 //!
-//! It prints the place, `-` where no name fits, and reads no more than the client's first hello.
+//! It prints the place of the name, or `-` if none matches, and reads only the client's first
+//! message.
 use std::env;
 use std::io::{self, BufRead};
 use std::process::ExitCode;
@@ -10,7 +11,7 @@ const HANDSHAKE: u8 = 22;
 const CLIENT_HELLO: u8 = 1;
 const LIMIT: usize = 65536;
 
-/// The name that the first message asks for, if it is a hello and asks for one.
+/// The host name in the first message, if it is a ClientHello and has one.
 fn name_asked(bytes: impl BufRead) -> Result<Option<Vec<u8>>, Error> {
     let mut records = RecordStream::new([0; RECORD_ROOM]);
     let mut messages = MessageStream::new([0; LIMIT]);
@@ -28,7 +29,7 @@ fn name_asked(bytes: impl BufRead) -> Result<Option<Vec<u8>>, Error> {
                 return Ok(None);
             }
             return match server_name_of_hello(message.body) {
-                // No further bytes come to a whole message.
+                // The message is complete: more bytes couldn't help.
                 Err(Error::Incomplete { .. }) => Err(Error::Refused(Kind::Complete)),
                 name => Ok(name?.map(<[u8]>::to_vec)),
             };

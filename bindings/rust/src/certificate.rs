@@ -1,4 +1,4 @@
-//! Certificates of X.509 (RFC 5280), in DER. Nothing is verified.
+//! X.509 certificates (RFC 5280), in DER. Nothing is verified.
 use crate::error::{check, Error};
 use crate::part::{Items, Read};
 use crate::sys;
@@ -6,65 +6,66 @@ use crate::sys;
 /// The object identifier of subjectAltName, 2.5.29.17, without its tag and its length.
 pub const SUBJECT_ALT_NAME: &[u8] = &[0x55, 0x1d, 0x11];
 
-/// Which key a certificate has.
+/// The kind of a certificate's key.
 #[derive(Clone, Copy, Debug, PartialEq, Eq)]
 pub enum PublicKey<'a> {
-    /// Of RSA, for any padding or for PSS alone.
+    /// An RSA key, for any padding or for PSS only.
     Rsa {
-        /// How many bits its modulus has.
+        /// The bit length of its modulus.
         bits: u32,
     },
-    /// Of a curve that has a name.
+    /// An elliptic curve key on a named curve.
     Ec {
-        /// Its object identifier, without its tag and its length.
+        /// The curve's object identifier, without its tag and its length.
         curve: &'a [u8],
     },
-    /// Of Ed25519.
+    /// An Ed25519 key.
     Ed25519,
-    /// Of Ed448.
+    /// An Ed448 key.
     Ed448,
-    /// Of another algorithm.
+    /// A key of another algorithm.
     Other,
-    /// An RSAPublicKey that isn't read, or a curve that has no name.
+    /// A malformed RSAPublicKey, or a curve without a name.
     Refused,
 }
 
-/// A certificate (RFC 5280, section 4.1). An object identifier stands without its tag and its length.
+/// A certificate (RFC 5280, section 4.1). Its object identifiers are without their tag and length.
 #[derive(Clone, Copy, Debug, PartialEq, Eq)]
 pub struct X509<'a> {
-    /// The version less 1, as it stands there: 2 for v3.
+    /// The version minus 1, as encoded: 2 for v3.
     pub version: u8,
-    /// What is signed, with its tag and its length.
+    /// The bytes that are signed, with their tag and their length.
     pub signed_bytes: &'a [u8],
     /// The serial number, in two's complement, the most significant byte first.
     pub serial_number: &'a [u8],
-    /// What the certificate is signed with: an object identifier.
+    /// The algorithm of the signature: an object identifier.
     pub signature_algorithm: &'a [u8],
-    /// The issuer's Name, with its tag and its length.
+    /// The issuer's name, with its tag and its length.
     pub issuer: &'a [u8],
-    /// The subject's Name, with its tag and its length.
+    /// The subject's name, with its tag and its length.
     pub subject: &'a [u8],
-    /// The first second in which it is valid, since 1970-01-01 00:00:00 UTC.
+    /// The first second of its validity, since 1970-01-01 00:00:00 UTC.
     pub not_before: i64,
-    /// The last one.
+    /// The last second of its validity, since 1970-01-01 00:00:00 UTC.
     pub not_after: i64,
-    /// What the key is used with: an object identifier.
+    /// The algorithm of the key: an object identifier.
     pub key_algorithm: &'a [u8],
-    /// Which key it is.
+    /// The kind of the key.
     pub key: PublicKey<'a>,
-    /// The key, without the number of unused bits.
+    /// The key, without the count of its unused bits.
     pub public_key: &'a [u8],
-    /// The extensions, for [`x509_extensions`]; of no bytes where there are none.
+    /// The extensions, for [`x509_extensions`]; empty if there are none.
     pub extensions: &'a [u8],
-    /// The signature, without the number of unused bits.
+    /// The signature, without the count of its unused bits.
     pub signature: &'a [u8],
 }
 
 impl<'a> X509<'a> {
-    /// Reads it, and answers it with the bytes behind it. Names and extensions aren't judged before they are walked.
+    /// Returns the certificate at the front, and the bytes after it. Names and extensions aren't
+    /// checked before they are iterated over.
     ///
     /// # Errors
-    /// Where it isn't whole, or breaks a rule of its structure.
+    /// If it is truncated, or breaks a rule of its structure.
     pub fn read(bytes: &'a [u8]) -> Result<(Self, &'a [u8]), Error> {
         let (status, out) = sys::read_front(sys::wispuddera_read_x509, bytes);
         check(status, out.missing)?;
@@ -94,10 +95,10 @@ impl<'a> X509<'a> {
         Ok((certificate, &bytes[out.next..]))
     }
 
-    /// The names of its first subjectAltName (RFC 5280, section 4.2.1.6); `None` where it has none.
+    /// The names in its first subjectAltName (RFC 5280, section 4.2.1.6); `None` if it has none.
     ///
     /// # Errors
-    /// Where the extensions aren't read up to it, or its value isn't a list.
+    /// If an extension up to it is truncated or malformed, or its value isn't a list.
     pub fn names(&self) -> Result<Option<Items<'a, X509Name<'a>>>, Error> {
         for extension in x509_extensions(self.extensions) {
             let extension = extension?;
@@ -114,7 +115,7 @@ impl<'a> X509<'a> {
 pub struct X509Extension<'a> {
     /// Its type: an object identifier, without its tag and its length.
     pub oid: &'a [u8],
-    /// Whether who doesn't know it is to reject the certificate.
+    /// Whether a receiver that doesn't know it must reject the certificate.
     pub critical: bool,
     /// Its value, in DER.
     pub value: &'a [u8],
@@ -129,25 +130,25 @@ impl<'a> Read<'a> for X509Extension<'a> {
     }
 }
 
-/// The extensions of a certificate (RFC 5280, section 4.2).
+/// Iterates over the extensions of a certificate (RFC 5280, section 4.2).
 pub fn x509_extensions(extensions: &[u8]) -> Items<'_, X509Extension<'_>> {
     Items::new(extensions)
 }
 
-/// A name of a subject or an issuer (RFC 5280, section 4.2.1.6). Of text, the bytes are given as they are.
+/// A name of a subject or an issuer (RFC 5280, section 4.2.1.6). Text is returned as its bytes.
 #[derive(Clone, Copy, Debug, PartialEq, Eq)]
 pub enum X509Name<'a> {
-    /// An address of mail.
+    /// An email address.
     Email(&'a [u8]),
-    /// A name of the DNS.
+    /// A DNS name.
     Dns(&'a [u8]),
     /// A URI.
     Uri(&'a [u8]),
-    /// An address of the Internet Protocol: 4 or 16 bytes, where it keeps its rule.
+    /// An IP address: 4 or 16 bytes, if it is valid.
     Ip(&'a [u8]),
-    /// Another kind, by the tag of its element, and what is in that.
+    /// Another kind of name, with the tag of its element.
     Other {
-        /// As 0xa0 of an otherName, or 0xa4 of a directoryName.
+        /// The tag, such as 0xa0 of an otherName or 0xa4 of a directoryName.
         tag: u8,
         /// The element's content.
         content: &'a [u8],
@@ -170,10 +171,11 @@ impl<'a> Read<'a> for X509Name<'a> {
     }
 }
 
-/// The names in the value of a subjectAltName or an issuerAltName (RFC 5280, section 4.2.1.6).
+/// Iterates over the names in the value of a subjectAltName or an issuerAltName (RFC 5280, section
+/// 4.2.1.6).
 ///
 /// # Errors
-/// Where the value isn't a list.
+/// If the value is truncated, or isn't a list.
 pub fn x509_names(value: &[u8]) -> Result<Items<'_, X509Name<'_>>, Error> {
     let (status, out) = sys::read_front(sys::wispuddera_find_x509_names, value);
     check(status, out.missing)?;

@@ -1,4 +1,4 @@
-//! Both sides of a conversation, from their bytes.
+//! A conversation, followed from the bytes of both sides.
 use crate::outcome::{Event, EventKind, Outcome};
 use crate::part::Message;
 use crate::sys;
@@ -7,24 +7,24 @@ use core::fmt;
 /// A side of a conversation.
 #[derive(Clone, Copy, Debug, PartialEq, Eq, Hash)]
 pub enum Side {
-    /// Its stream goes to the server.
+    /// The client: its stream goes to the server.
     Client,
-    /// Its stream comes from the server.
+    /// The server: its stream goes to the client.
     Server,
 }
 
-/// What ends a side: nothing is read behind it.
+/// Why a side isn't read any further.
 #[derive(Clone, Copy, Debug, PartialEq, Eq, Hash)]
 pub enum Fault {
-    /// The length of a record is above what it may have.
+    /// The length of a record is above its limit.
     RecordTooLarge,
-    /// The type of a record is none of TLS.
+    /// The type of a record isn't one of TLS.
     UnknownType,
     /// A ChangeCipherSpec isn't one byte, 1.
     WrongChange,
     /// The length of a handshake message is above the limit.
     AboveLimit,
-    /// Another record stands between two parts of a message.
+    /// Another record interrupts a handshake message.
     Interrupted,
 }
 
@@ -52,32 +52,32 @@ impl fmt::Display for Fault {
     }
 }
 
-/// What a side says.
+/// The content of an event.
 #[derive(Clone, Copy, Debug, PartialEq, Eq)]
 pub enum Said<'a> {
-    /// A handshake message in the clear, joined over its records.
+    /// A handshake message in the clear, joined from its records.
     Message(Message<'a>),
     /// A ChangeCipherSpec.
     ChangeCipherSpec,
     /// An alert in the clear (RFC 5246, section 7.2).
     Alert {
-        /// 1 for a warning, 2 for a fatal one.
+        /// 1 for a warning, 2 for a fatal alert.
         level: u8,
-        /// What it says.
+        /// The AlertDescription.
         description: u8,
     },
     /// A heartbeat (RFC 6520): the fragment of its record.
     Heartbeat(&'a [u8]),
     /// Application data that isn't encrypted: the fragment of its record.
     ApplicationData(&'a [u8]),
-    /// An encrypted record, its header of 5 bytes first.
+    /// An encrypted record, with its header of 5 bytes.
     Encrypted(&'a [u8]),
-    /// What ends the side.
+    /// A fault, after which the side isn't read any further.
     Fault(Fault),
 }
 
 impl<'a> Said<'a> {
-    /// What is told of an event, whose bytes are `content`.
+    /// The content of an event whose bytes are `content`.
     fn of(said: &sys::Said, content: &'a [u8]) -> Self {
         match said.form {
             0 => Said::Message(Message { kind: content[0], body: &content[4..] }),
@@ -94,24 +94,24 @@ impl<'a> Said<'a> {
 /// An event of a conversation.
 #[derive(Clone, Copy, Debug, PartialEq, Eq)]
 pub struct ConversationEvent<'a> {
-    /// What the outcome looks at.
+    /// Its kind and direction, on which the outcome depends.
     pub event: Event,
-    /// What was said.
+    /// Its content.
     pub said: Said<'a>,
 }
 
 /// The event that ended a handshake without success.
 #[derive(Clone, Copy, Debug, PartialEq, Eq, Hash)]
 pub struct Stop {
-    /// How many events came before it, of both sides.
+    /// How many events of both sides came before it.
     pub events_before: u64,
     /// The event.
     pub event: Event,
-    /// What it says, where it is an alert in the clear.
+    /// Its description, if it is an alert in the clear.
     pub alert: Option<u8>,
 }
 
-/// A piece doesn't fit in the buffer of its side, which holds what it held.
+/// A piece doesn't fit in the buffer of its side, which is unchanged.
 #[derive(Clone, Copy, Debug, PartialEq, Eq, Hash)]
 pub struct NoRoom;
 
@@ -123,20 +123,22 @@ impl fmt::Display for NoRoom {
 
 impl core::error::Error for NoRoom {}
 
-/// Both sides of a conversation of TLS, from the pieces of their streams in the order in which they come.
+/// Follows both sides of a TLS conversation, from pieces of their streams in the order of their
+/// arrival.
 ///
-/// Each side has a buffer, an array, a vector or a slice, which holds what isn't told yet. A side holds at most a message with its header of
-/// 4 bytes and a record of up to 18437 bytes, so that with 4 + limit + 18437 bytes, and as many more as the longest piece has, each piece fits
-/// where all events were taken before.
+/// Each side has a buffer, which is an array, a vector or a slice, for the bytes of events that
+/// weren't returned yet. If all events are taken before the next piece, these are at most a message
+/// with its header of 4 bytes, and a record of up to 18437 bytes. So each piece fits in a buffer of
+/// 4 + limit + 18437 bytes, plus the length of the longest piece.
 ///
 /// ```
 /// use wispuddera::{Conversation, Event, EventKind, Outcome, Said, Side};
 ///
 /// let mut conversation = Conversation::with_limit(1000, [0; 20000], [0; 20000]);
 /// conversation.feed(Side::Client, &[0x15, 3, 3, 0, 2, 2, 40])?;
-/// let told = conversation.next_event(Side::Client).unwrap();
-/// assert_eq!(told.said, Said::Alert { level: 2, description: 40 });
-/// assert_eq!(told.event, Event::new(EventKind::Fatal, true));
+/// let next = conversation.next_event(Side::Client).unwrap();
+/// assert_eq!(next.said, Said::Alert { level: 2, description: 40 });
+/// assert_eq!(next.event, Event::new(EventKind::Fatal, true));
 /// assert_eq!(conversation.outcome(), Outcome::BrokenOff);
 /// # Ok::<(), wispuddera::NoRoom>(())
 /// ```
@@ -148,18 +150,20 @@ pub struct Conversation<B> {
 }
 
 impl<B: AsRef<[u8]> + AsMut<[u8]>> Conversation<B> {
-    /// The limit of [`Conversation::new`]: 131072 bytes.
+    /// The limit of [`Conversation::new`] for the body of a handshake message: 131072 bytes.
     pub const LIMIT: usize = 131072;
 
-    /// A conversation of which nothing came, over a buffer for each side, with the limit [`Conversation::LIMIT`].
+    /// Begins an empty conversation over a buffer for each side, with the limit
+    /// [`Conversation::LIMIT`].
     pub fn new(client: B, server: B) -> Self {
         Conversation::with_limit(Self::LIMIT, client, server)
     }
 
-    /// The same, where the body of a handshake message may have at most `limit` bytes.
+    /// Begins an empty conversation, where the body of a handshake message may have at most `limit`
+    /// bytes.
     pub fn with_limit(limit: usize, client: B, server: B) -> Self {
         let mut state = sys::Conversation::default();
-        // SAFETY: the pointer leads to a value that is lent to this call alone.
+        // SAFETY: the pointer is from a mutable reference.
         unsafe { sys::wispuddera_conversation_start(&mut state, limit) };
         Conversation { client, server, state }
     }
@@ -172,14 +176,16 @@ impl<B: AsRef<[u8]> + AsMut<[u8]>> Conversation<B> {
         }
     }
 
-    /// Puts a piece of a side's stream behind what is held of it. Behind a fault of that side it is left out.
+    /// Appends a piece of a side's stream to its buffer. After a fault of that side the piece is
+    /// dropped.
     ///
     /// # Errors
-    /// [`NoRoom`] where the side's buffer is too short for it. Nothing changed then: shorter pieces may fit, with the events taken in between.
+    /// [`NoRoom`] if the side's buffer is too short for the piece. Nothing has changed then:
+    /// shorter pieces may fit, if the events are taken in between.
     pub fn feed(&mut self, side: Side, piece: &[u8]) -> Result<(), NoRoom> {
         let (buffer, state, to_server) = self.parts(side);
-        // SAFETY: each pointer leads to as many bytes as are said; those of the buffer and the conversation are lent to this call alone, so
-        // they overlap nothing else.
+        // SAFETY: the pointers and lengths are those of slices. The buffer and the conversation are
+        // borrowed mutably, so they overlap nothing else.
         let status =
             unsafe { sys::wispuddera_conversation_feed(buffer.as_mut_ptr(), buffer.len(), state, to_server, piece.as_ptr(), piece.len()) };
         if status == sys::READ {
@@ -189,12 +195,13 @@ impl<B: AsRef<[u8]> + AsMut<[u8]>> Conversation<B> {
         }
     }
 
-    /// Takes what a side says next off, and follows it; `None` where further bytes are needed, or a fault ended the side. Call it up to `None`
-    /// behind each piece, so that both sides' events are followed in their order.
+    /// Returns a side's next event, removes it from the buffer, and follows it; `None` if more
+    /// bytes are needed, or if a fault ended the side. Call it until `None` after each piece, so
+    /// that the events of both sides are followed in order.
     pub fn next_event(&mut self, side: Side) -> Option<ConversationEvent<'_>> {
         let (buffer, state, to_server) = self.parts(side);
         let mut told = sys::Said::default();
-        // SAFETY: as in `feed`; `told` has a value.
+        // SAFETY: as in `feed`; `told` is initialized.
         let status = unsafe { sys::wispuddera_conversation_next(buffer.as_mut_ptr(), buffer.len(), state, to_server, &mut told) };
         if status != sys::READ {
             return None;
@@ -203,16 +210,17 @@ impl<B: AsRef<[u8]> + AsMut<[u8]>> Conversation<B> {
         Some(ConversationEvent { event, said: Said::of(&told, told.content.of(buffer)) })
     }
 
-    /// How the conversation stands: as [`outcome`](crate::outcome()) tells it of the events so far.
+    /// The outcome by all events that were returned, as [`outcome`](crate::outcome()) has it.
     pub fn outcome(&self) -> Outcome {
-        // SAFETY: the pointer leads to a value, which nobody writes while it is lent.
+        // SAFETY: the pointer is from a reference.
         Outcome::of_number(unsafe { sys::wispuddera_conversation_outcome(&self.state) })
     }
 
-    /// What ended the handshake, where the outcome is [`Outcome::BrokenOff`], [`Outcome::Unknown`] or [`Outcome::NoHandshake`].
+    /// What ended the handshake, if the outcome is [`Outcome::BrokenOff`], [`Outcome::Unknown`] or
+    /// [`Outcome::NoHandshake`]; else `None`.
     pub fn stop(&self) -> Option<Stop> {
         let mut stop = sys::Stop::default();
-        // SAFETY: as in `outcome`; `stop` has a value.
+        // SAFETY: as in `outcome`; `stop` is initialized.
         let status = unsafe { sys::wispuddera_conversation_stop(&self.state, &mut stop) };
         (status == sys::READ).then(|| Stop {
             events_before: stop.events_before,
@@ -221,13 +229,15 @@ impl<B: AsRef<[u8]> + AsMut<[u8]>> Conversation<B> {
         })
     }
 
-    /// Whether the part of the handshake that can be read came to its end; in TLS 1.3 that is with the ServerHello.
+    /// Whether the visible part of the handshake is complete. In TLS 1.3 it ends with the
+    /// ServerHello.
     pub fn is_established(&self) -> bool {
         // SAFETY: as in `outcome`.
         unsafe { sys::wispuddera_conversation_established(&self.state) }
     }
 
-    /// Whether a session was taken up: in TLS 1.3 by the pre_shared_key of the ServerHello (RFC 8446, section 4.2.11).
+    /// Whether a session was resumed; in TLS 1.3, by the ServerHello's pre_shared_key (RFC 8446,
+    /// section 4.2.11).
     pub fn is_resumed(&self) -> bool {
         // SAFETY: as in `outcome`.
         unsafe { sys::wispuddera_conversation_resumed(&self.state) }

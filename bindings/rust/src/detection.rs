@@ -1,11 +1,13 @@
-//! Whether bytes are those of TLS.
+//! Whether bytes are TLS.
 
 use crate::sys;
 
-/// Whether these are the first bytes of a stream of TLS: a record's header (RFC 8446, section 5.1) with a type from 20 to 24, the major
-/// version 3 and a length of at most 16640. `None` where there are fewer than 5 bytes, which don't tell.
+/// Whether a stream begins as TLS: with a record's header (RFC 8446, section 5.1) that has a type
+/// from 20 to 24, the major version 3 and a length of at most 16640. `None` if there are fewer than
+/// 5 bytes, too few to decide.
 ///
-/// Ask it before you wait for what a record lacks: the calls that read records refuse no type and no version.
+/// Call it before you wait for the rest of a record: the calls that read records refuse no type and
+/// no version.
 ///
 /// ```
 /// use wispuddera::looks_like_tls;
@@ -15,7 +17,7 @@ use crate::sys;
 /// assert_eq!(looks_like_tls(&[22, 3, 1]), None);
 /// ```
 pub fn looks_like_tls(bytes: &[u8]) -> Option<bool> {
-    // SAFETY: the pointer leads to as many bytes as are said, which nobody writes while they are lent.
+    // SAFETY: the pointer and the length are those of a slice.
     match unsafe { sys::wispuddera_looks_like_tls(bytes.as_ptr(), bytes.len()) } {
         sys::READ => Some(true),
         sys::NONE => Some(false),

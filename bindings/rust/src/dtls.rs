@@ -7,15 +7,15 @@ use crate::sys;
 /// A record of DTLS (RFC 6347, section 4.1).
 #[derive(Clone, Copy, Debug, PartialEq, Eq)]
 pub struct DtlsRecord<'a> {
-    /// Its ContentType: 22 for handshakes.
+    /// The content type: 22 for handshake messages.
     pub content_type: u8,
-    /// The version, as it stands there.
+    /// The version field.
     pub version: u16,
-    /// How often the sender has changed its cipher.
+    /// The epoch: how often the sender has changed its cipher.
     pub epoch: u16,
-    /// The number of the record in its epoch, below 2^48.
+    /// The record's number within its epoch, below 2^48.
     pub sequence_number: u64,
-    /// What it carries.
+    /// The fragment.
     pub fragment: &'a [u8],
 }
 
@@ -34,7 +34,7 @@ impl<'a> Read<'a> for DtlsRecord<'a> {
     }
 }
 
-/// The records of DTLS in a datagram (RFC 6347, section 4.1).
+/// Iterates over the DTLS records in a datagram (RFC 6347, section 4.1).
 pub fn dtls_records(datagram: &[u8]) -> Items<'_, DtlsRecord<'_>> {
     Items::new(datagram)
 }
@@ -42,17 +42,17 @@ pub fn dtls_records(datagram: &[u8]) -> Items<'_, DtlsRecord<'_>> {
 /// A handshake message of DTLS, or a fragment of one (RFC 6347, section 4.2.2).
 #[derive(Clone, Copy, Debug, PartialEq, Eq)]
 pub struct DtlsMessage<'a> {
-    /// Its HandshakeType.
+    /// The HandshakeType.
     pub kind: u8,
     /// The length of the whole body, in bytes.
     pub length: u32,
-    /// Its number among the messages of its sender.
+    /// The message's sequence number.
     pub message_seq: u16,
     /// Where the fragment begins in the whole body, in bytes.
     pub fragment_offset: u32,
-    /// Whether the body is a part of the whole one.
+    /// Whether `body` is only a part of the whole body.
     pub is_part: bool,
-    /// The body, or the part of it.
+    /// The body, or the fragment's part of it.
     pub body: &'a [u8],
 }
 
@@ -72,35 +72,37 @@ impl<'a> Read<'a> for DtlsMessage<'a> {
     }
 }
 
-/// The handshake messages of DTLS, and fragments of them, in a record's fragment (RFC 6347, section 4.2.2).
+/// Iterates over the DTLS handshake messages, and fragments of them, in a record's fragment (RFC
+/// 6347, section 4.2.2).
 pub fn dtls_messages(fragment: &[u8]) -> Items<'_, DtlsMessage<'_>> {
     Items::new(fragment)
 }
 
-/// The body of a ClientHello of DTLS (RFC 6347, section 4.2.1).
+/// The body of a DTLS ClientHello (RFC 6347, section 4.2.1).
 #[derive(Clone, Debug)]
 pub struct DtlsClientHello<'a> {
-    /// The version, as it stands there.
+    /// The version field.
     pub version: u16,
     /// The 32 bytes of the random.
     pub random: &'a [u8],
-    /// The session id; of no bytes where there is none.
+    /// The session ID; empty if there is none.
     pub session_id: &'a [u8],
-    /// The cookie; of no bytes where there is none.
+    /// The cookie; empty if there is none.
     pub cookie: &'a [u8],
     /// The cipher suites.
     pub cipher_suites: Numbers<'a>,
-    /// The compression methods, a byte each.
+    /// The compression methods, 1 byte each.
     pub compression_methods: &'a [u8],
-    /// The block of extensions, for [`extensions`](crate::extensions); `None` where no whole block follows.
+    /// The block of extensions, for [`extensions`](crate::extensions); `None` if no whole block
+    /// follows.
     pub extensions: Option<&'a [u8]>,
 }
 
 impl<'a> DtlsClientHello<'a> {
-    /// Reads it, and answers it with the bytes behind it.
+    /// Returns the body at the front, and the bytes after it.
     ///
     /// # Errors
-    /// As [`ClientHello::read`](crate::ClientHello::read).
+    /// Those of [`ClientHello::read`](crate::ClientHello::read).
     pub fn read(body: &'a [u8]) -> Result<(Self, &'a [u8]), Error> {
         let (status, out) = sys::read_front(sys::wispuddera_read_dtls_client_hello, body);
         check(status, out.missing)?;

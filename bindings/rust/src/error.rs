@@ -1,33 +1,33 @@
-//! Why no value was read.
+//! Why no value was parsed.
 use crate::sys;
 use core::fmt;
 
-/// Why no value was read.
+/// Why no value was parsed.
 #[derive(Clone, Copy, Debug, PartialEq, Eq, Hash)]
 pub enum Error {
-    /// Further bytes are needed for the part that is being read; behind these there may be more.
+    /// The part being parsed is truncated. After the missing bytes, more may be needed.
     Incomplete {
-        /// How many, at least 1.
+        /// How many bytes are missing, at least 1.
         missing: usize,
     },
     /// The bytes break a rule.
     Refused(Kind),
 }
 
-/// Which kind of rule bytes break.
+/// The kind of rule that the bytes break.
 #[derive(Clone, Copy, Debug, PartialEq, Eq, Hash)]
 pub enum Kind {
-    /// A length is above what its record may have.
+    /// A length is above its record's limit.
     TooLarge,
     /// A length doesn't fit what it counts.
     LengthValue,
     /// A value breaks its rule.
     Verify,
-    /// No form is read for a type.
+    /// A type isn't parsed.
     Switch,
     /// A fixed tag differs.
     Tag,
-    /// Bytes are missing where no further bytes could help.
+    /// Bytes are missing, and no more bytes could help.
     Complete,
 }
 
@@ -55,7 +55,7 @@ impl fmt::Display for Error {
 
 impl core::error::Error for Error {}
 
-/// What a status tells: that a value was read, or why none was.
+/// The error of a status; `Ok` if a value was read.
 pub(crate) fn check(status: u32, missing: usize) -> Result<(), Error> {
     Err(match status {
         sys::READ => return Ok(()),
@@ -65,12 +65,12 @@ pub(crate) fn check(status: u32, missing: usize) -> Result<(), Error> {
         sys::VERIFY => Error::Refused(Kind::Verify),
         sys::SWITCH => Error::Refused(Kind::Switch),
         sys::TAG => Error::Refused(Kind::Tag),
-        // No call of this crate passes an offset behind the end, and `is_found` takes the status of what isn't there.
+        // No call of this crate passes an offset past the end, and `is_found` handles `NONE`.
         _ => Error::Refused(Kind::Complete),
     })
 }
 
-/// The same, where what was asked for may not be there: whether it is.
+/// Whether a lookup found something, or the error of its status.
 pub(crate) fn is_found(status: u32, missing: usize) -> Result<bool, Error> {
     if status == sys::NONE {
         return Ok(false);

@@ -4,14 +4,14 @@ use crate::sys;
 use core::fmt;
 use core::ops::Deref;
 
-/// A fingerprint of `N` characters of ASCII, which it is read as by `Deref`.
+/// A fingerprint of `N` ASCII characters. It dereferences to `str`.
 #[derive(Clone, Copy, PartialEq, Eq, Hash, PartialOrd, Ord)]
 pub struct Fingerprint<const N: usize>([u8; N]);
 
 impl<const N: usize> Fingerprint<N> {
-    /// Its characters.
+    /// The fingerprint as text.
     pub fn as_str(&self) -> &str {
-        // The library writes ASCII alone; were there anything else, it would be no characters.
+        // The library writes only ASCII, so the default is never used.
         core::str::from_utf8(&self.0).unwrap_or("")
     }
 }
@@ -38,12 +38,14 @@ impl<const N: usize> fmt::Debug for Fingerprint<N> {
 
 fn told<const N: usize>(call: sys::Tell, body: &[u8]) -> Result<Fingerprint<N>, Error> {
     let (mut text, mut missing) = ([0; N], 0);
-    // SAFETY: the first pointer leads to as many bytes as are said, which nobody writes while they are lent, and the second to N others.
+    // SAFETY: the first pointer and length are those of a slice, the second those of an array of N
+    // bytes.
     let status = unsafe { call(body.as_ptr(), body.len(), text.as_mut_ptr(), N, &mut missing) };
     check(status, missing).map(|()| Fingerprint(text))
 }
 
-/// JA3 of a ClientHello, in its body: the MD5 of its version, cipher suites, types of extensions, groups and formats of points.
+/// JA3 of a ClientHello, from its body: the MD5 of its version, cipher suites, extension types,
+/// groups and point formats.
 ///
 /// # Errors
 /// Those of [`crate::ClientHello::read`].
@@ -51,7 +53,7 @@ pub fn ja3(body: &[u8]) -> Result<Fingerprint<32>, Error> {
     told(sys::wispuddera_ja3, body)
 }
 
-/// The same, of a ClientHello of DTLS.
+/// JA3 of a DTLS ClientHello, from its body.
 ///
 /// # Errors
 /// Those of [`crate::DtlsClientHello::read`].
@@ -59,7 +61,7 @@ pub fn dtls_ja3(body: &[u8]) -> Result<Fingerprint<32>, Error> {
     told(sys::wispuddera_dtls_ja3, body)
 }
 
-/// JA3S of a ServerHello, in its body: the MD5 of its version, cipher suite and types of extensions.
+/// JA3S of a ServerHello, from its body: the MD5 of its version, cipher suite and extension types.
 ///
 /// # Errors
 /// Those of [`crate::ServerHello::read`].
@@ -67,7 +69,7 @@ pub fn ja3s(body: &[u8]) -> Result<Fingerprint<32>, Error> {
     told(sys::wispuddera_ja3s, body)
 }
 
-/// The same, of a ServerHello of DTLS.
+/// JA3S of a DTLS ServerHello of any version, from its body.
 ///
 /// # Errors
 /// Those of [`crate::ServerHello::read_dtls`].
@@ -75,7 +77,7 @@ pub fn dtls_ja3s(body: &[u8]) -> Result<Fingerprint<32>, Error> {
     told(sys::wispuddera_dtls_ja3s, body)
 }
 
-/// JA4 of a ClientHello over TCP, in its body.
+/// JA4 of a ClientHello over TCP, from its body.
 ///
 /// # Errors
 /// Those of [`crate::ClientHello::read`].
@@ -83,7 +85,8 @@ pub fn dtls_ja3s(body: &[u8]) -> Result<Fingerprint<32>, Error> {
 /// ```
 /// let body = [
 ///     3, 3, // version
-///     1, 2, 3, 4, 5, 6, 7, 8, 9, 10, 11, 12, 13, 14, 15, 16, 17, 18, 19, 20, 21, 22, 23, 24, 25, 26, 27, 28, 29, 30, 31, 32, // random
+///     1, 2, 3, 4, 5, 6, 7, 8, 9, 10, 11, 12, 13, 14, 15, 16, // random
+///     17, 18, 19, 20, 21, 22, 23, 24, 25, 26, 27, 28, 29, 30, 31, 32,
 ///     0, 0, 2, 0x13, 1, 1, 0, // no session id, a suite, a method
 /// ];
 /// assert_eq!(&*wispuddera::ja4(&body).unwrap(), "t12i010000_0f2cb44170f4_000000000000");
@@ -92,7 +95,7 @@ pub fn ja4(body: &[u8]) -> Result<Fingerprint<36>, Error> {
     told(sys::wispuddera_ja4, body)
 }
 
-/// The same over QUIC (RFC 9001).
+/// JA4 of a ClientHello over QUIC (RFC 9001), from its body.
 ///
 /// # Errors
 /// Those of [`crate::ClientHello::read`].
@@ -100,7 +103,7 @@ pub fn quic_ja4(body: &[u8]) -> Result<Fingerprint<36>, Error> {
     told(sys::wispuddera_quic_ja4, body)
 }
 
-/// The same, of a ClientHello of DTLS over UDP.
+/// JA4 of a DTLS ClientHello over UDP, from its body.
 ///
 /// # Errors
 /// Those of [`crate::DtlsClientHello::read`].

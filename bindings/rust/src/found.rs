@@ -1,4 +1,4 @@
-//! What is found in records, hellos and extensions.
+//! Looking things up in records, hellos and extensions.
 use crate::error::{is_found, Error};
 use crate::sys;
 
@@ -17,7 +17,8 @@ fn found(status: u32, out: sys::Found, bytes: &[u8]) -> Result<Option<&[u8]>, Er
 ///
 /// let record = [
 ///     0x16, 3, 1, 0, 59, 1, 0, 0, 55, 3, 3, // headers and version
-///     1, 2, 3, 4, 5, 6, 7, 8, 9, 10, 11, 12, 13, 14, 15, 16, 17, 18, 19, 20, 21, 22, 23, 24, 25, 26, 27, 28, 29, 30, 31, 32, // random
+///     1, 2, 3, 4, 5, 6, 7, 8, 9, 10, 11, 12, 13, 14, 15, 16, // random
+///     17, 18, 19, 20, 21, 22, 23, 24, 25, 26, 27, 28, 29, 30, 31, 32,
 ///     0, 0, 2, 0x13, 1, 1, 0, 0, 12, // no session id, a suite, a method, 12 bytes of extensions
 ///     0, 0, 0, 8, 0, 6, 0, 0, 3, b'a', b'.', b'b',
 /// ];
@@ -40,7 +41,7 @@ pub fn server_name_of_hello(body: &[u8]) -> Result<Option<&[u8]>, Error> {
 }
 
 /// The host name in a block of extensions: the first name in its first server_name (RFC 6066,
-/// section 3).
+/// section 3); `None` if there is none.
 ///
 /// # Errors
 /// If what precedes the name is truncated or malformed.
@@ -49,23 +50,23 @@ pub fn server_name(block: &[u8]) -> Result<Option<&[u8]>, Error> {
     found(status, out, block)
 }
 
-/// The content of the first extension of that ExtensionType in a block of extensions (RFC 8446,
-/// section 4.2).
+/// The content of the first extension of this type in a block of extensions (RFC 8446, section
+/// 4.2); `None` if there is none.
 ///
 /// # Errors
-/// Where the block isn't read up to it, or up to its end.
+/// If an extension up to it is truncated, or any extension if there is none of this type.
 pub fn find_extension(block: &[u8], kind: u16) -> Result<Option<&[u8]>, Error> {
     let mut out = sys::Found::default();
-    // SAFETY: the pointer leads to as many bytes as are said, which nobody writes while they are lent; `out` has a value.
+    // SAFETY: the pointer and the length are those of a slice; `out` is initialized.
     let status = unsafe { sys::wispuddera_find_extension(block.as_ptr(), block.len(), kind, &mut out) };
     found(status, out, block)
 }
 
-/// The body of the first handshake message of that HandshakeType in the fragment of a record (RFC
-/// 5246, section 7.4).
+/// The body of the first handshake message of this type in a record's fragment (RFC 5246, section
+/// 7.4); `None` if there is none.
 ///
 /// # Errors
-/// Where the fragment isn't read up to it, or up to its end.
+/// If a message up to it is truncated, or any message if there is none of this type.
 pub fn find_body(fragment: &[u8], kind: u8) -> Result<Option<&[u8]>, Error> {
     let mut out = sys::Found::default();
     // SAFETY: as in `find_extension`.

@@ -2,8 +2,8 @@
 //!
 //! Calls take slices, and return numbers and slices of the same bytes. Nothing is allocated,
 //! nothing is kept between calls, and this crate needs no `std`. A call that reads the first item
-//! returns it with the bytes behind it. What is absent is `None`. An [`Error`] says that bytes are
-//! missing, or which kind of rule they break.
+//! returns it with the bytes after it. What is absent is `None`. An [`Error`] has the count of
+//! missing bytes, or the kind of rule that the bytes break.
 //!
 //! ```
 //! use wispuddera::{messages, records, server_name_of_hello, ClientHello, Error};
@@ -19,7 +19,8 @@
 //!             let message = message?;
 //!             if message.kind == 1 {
 //!                 let (hello, _) = ClientHello::read(message.body)?;
-//!                 println!("{} suites, for {:?}", hello.cipher_suites.len(), server_name_of_hello(message.body)?);
+//!                 let name = server_name_of_hello(message.body)?;
+//!                 println!("{} suites, for {name:?}", hello.cipher_suites.len());
 //!             }
 //!         }
 //!     }

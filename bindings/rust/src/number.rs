@@ -1,10 +1,11 @@
-//! Numbers of lists: cipher suites, versions, groups.
+//! Lists of numbers: cipher suites, versions, groups, signature schemes.
 use crate::error::{check, is_found, Error};
 use crate::sys;
 use core::fmt;
 use core::iter::FusedIterator;
 
-/// A list of numbers of 2 bytes each, as it stands in the bytes. It is its own iterator, and a clone begins where it stands.
+/// A list of 2-byte numbers, parsed in place. It is its own iterator; a clone continues at the same
+/// number.
 #[derive(Clone)]
 pub struct Numbers<'a> {
     call: sys::ReadAt<sys::Number>,
@@ -14,7 +15,7 @@ pub struct Numbers<'a> {
 }
 
 impl<'a> Numbers<'a> {
-    /// The numbers that a call reads by their index.
+    /// The numbers that `call` reads by index.
     pub(crate) fn new(call: sys::ReadAt<sys::Number>, bytes: &'a [u8]) -> Result<Self, Error> {
         let mut numbers = Numbers { call, bytes, next: 0, count: 0 };
         let (status, first) = numbers.read(0);
@@ -25,12 +26,12 @@ impl<'a> Numbers<'a> {
 
     fn read(&self, index: usize) -> (u32, sys::Number) {
         let mut out = sys::Number::default();
-        // SAFETY: the pointer leads to as many bytes as are said, which nobody writes while they are lent; `out` has a value.
+        // SAFETY: the pointer and the length are those of a slice; `out` is initialized.
         let status = unsafe { (self.call)(self.bytes.as_ptr(), self.bytes.len(), index, &mut out) };
         (status, out)
     }
 
-    /// The number at that index of those that are left.
+    /// The number at this index of those that are left; `None` past the last.
     pub fn get(&self, index: usize) -> Option<u16> {
         let (status, out) = self.read(self.next.checked_add(index)?);
         (status == sys::READ).then_some(out.value)
@@ -64,7 +65,7 @@ impl fmt::Debug for Numbers<'_> {
 /// The versions in the content of a supported_versions of either hello (RFC 8446, section 4.2.1).
 ///
 /// # Errors
-/// Where the content isn't whole, or its length doesn't fit.
+/// If the content is truncated, or its length prefix doesn't fit.
 pub fn versions(content: &[u8]) -> Result<Numbers<'_>, Error> {
     Numbers::new(sys::wispuddera_version_at, content)
 }
@@ -72,28 +73,33 @@ pub fn versions(content: &[u8]) -> Result<Numbers<'_>, Error> {
 /// The groups in the content of a supported_groups (RFC 8446, section 4.2.7).
 ///
 /// # Errors
-/// Where the content isn't whole, or its length doesn't fit.
+/// If the content is truncated, or its length prefix doesn't fit.
 pub fn groups(content: &[u8]) -> Result<Numbers<'_>, Error> {
     Numbers::new(sys::wispuddera_group_at, content)
 }
 
-/// The signature schemes in the content of a signature_algorithms (RFC 8446, section 4.2.3); a last odd byte is left out.
+/// The signature schemes in the content of a signature_algorithms (RFC 8446, section 4.2.3). An odd
+/// last byte is ignored.
 ///
 /// # Errors
-/// [`Error::Incomplete`] where the content isn't whole.
+/// [`Error::Incomplete`] if the content is truncated.
 pub fn signature_schemes(content: &[u8]) -> Result<Numbers<'_>, Error> {
     Numbers::new(sys::wispuddera_signature_scheme_at, content)
 }
 
-/// The best version of a hello with that version and that block of extensions (RFC 8446, section 4.2.1): the latest in the block's first
-/// supported_versions that isn't one of GREASE (RFC 8701), the highest number or of DTLS the lowest, `None` where it has no other; where there is
-/// no such extension, that version itself.
+/// The best version of a hello with this version field and block of extensions (RFC 8446, section
+/// 4.2.1).
+///
+/// That is the latest version in the block's first supported_versions: the highest number, or for
+/// DTLS the lowest. GREASE values (RFC 8701) are skipped; `None` if there are no others. Without
+/// such an extension it is `version`.
 ///
 /// # Errors
-/// Where the block isn't read up to the versions, or these are refused.
+/// If an extension up to supported_versions is truncated, or any extension without that one; if its
+/// content is malformed.
 pub fn best_version(version: u16, block: &[u8]) -> Result<Option<u16>, Error> {
     let mut out = sys::Number::default();
-    // SAFETY: the pointer leads to as many bytes as are said, which nobody writes while they are lent; `out` has a value.
+    // SAFETY: the pointer and the length are those of a slice; `out` is initialized.
     let status = unsafe { sys::wispuddera_best_version(block.as_ptr(), block.len(), version, &mut out) };
     if status == sys::NONE {
         return Ok(None);

@@ -1,7 +1,7 @@
-//! How a conversation stands, by what both sides said.
+//! The outcome of a conversation from its events so far.
 use crate::sys;
 
-/// What a side said, as far as the outcome of a conversation looks at it.
+/// The kinds of messages and records that the outcome of a conversation depends on.
 #[repr(u8)]
 #[derive(Clone, Copy, Debug, PartialEq, Eq, Hash)]
 pub enum EventKind {
@@ -13,9 +13,9 @@ pub enum EventKind {
     HelloVerifyRequest = 2,
     /// A ServerHello below TLS 1.3.
     ServerHello = 3,
-    /// A ServerHello of a random of its own (RFC 8446, section 4.1.3).
+    /// A ServerHello whose random marks a HelloRetryRequest (RFC 8446, section 4.1.3).
     HelloRetryRequest = 4,
-    /// A ServerHello of TLS 1.3 or a draft of it.
+    /// A ServerHello of TLS 1.3 or one of its drafts.
     ServerHello13 = 5,
     /// A NewSessionTicket.
     NewSessionTicket = 6,
@@ -35,7 +35,7 @@ pub enum EventKind {
     CertificateStatus = 13,
     /// A record of type 20.
     ChangeCipherSpec = 14,
-    /// A record behind its sender's ChangeCipherSpec, or one of type 23.
+    /// A record after its sender's ChangeCipherSpec, or one of type 23.
     Encrypted = 15,
     /// An alert that isn't fatal.
     Warning = 16,
@@ -47,7 +47,7 @@ pub enum EventKind {
     Heartbeat = 19,
     /// Another message, which no handshake has in the clear.
     Other = 20,
-    /// A record or message that is refused, or that isn't known.
+    /// A record or message that is refused or unknown.
     Unknown = 21,
 }
 
@@ -82,61 +82,62 @@ impl EventKind {
         KINDS.get(usize::from(number)).copied().unwrap_or(EventKind::Unknown)
     }
 
-    /// The kind that a whole handshake message of TLS is, in the clear, of that HandshakeType; its body tells one ServerHello from
-    /// another.
+    /// The kind of a whole TLS handshake message in the clear with this HandshakeType and body. The
+    /// body decides which kind of ServerHello it is.
     pub fn of_message(kind: u8, body: &[u8]) -> Self {
-        // SAFETY: the pointer leads to as many bytes as are said, which nobody writes while they are lent.
+        // SAFETY: the pointer and the length are those of a slice.
         Self::of_number(unsafe { sys::wispuddera_event_of_message(body.as_ptr(), body.len(), kind) })
     }
 
-    /// The same, of DTLS up to 1.2, once for all fragments of a message.
+    /// The kind of a handshake message of DTLS up to 1.2 with this HandshakeType, one for all its
+    /// fragments.
     pub fn of_dtls_message(kind: u8) -> Self {
-        // SAFETY: it takes numbers alone.
+        // SAFETY: it takes only numbers.
         Self::of_number(unsafe { sys::wispuddera_event_of_dtls_message(kind) })
     }
 
-    /// The kind that an alert in the clear is (RFC 5246, section 7.2).
+    /// The kind of an alert in the clear (RFC 5246, section 7.2).
     pub fn of_alert(level: u8, description: u8) -> Self {
-        // SAFETY: it takes numbers alone.
+        // SAFETY: it takes only numbers.
         Self::of_number(unsafe { sys::wispuddera_event_of_alert(level, description) })
     }
 }
 
-/// What a side said.
+/// An event of a side.
 #[repr(C)]
 #[derive(Clone, Copy, Debug, PartialEq, Eq, Hash)]
 pub struct Event {
-    /// What was said.
+    /// Its kind.
     pub kind: EventKind,
     /// Whether it goes to the server.
     pub to_server: bool,
 }
 
 impl Event {
-    /// What a side said to the other.
+    /// An event of this kind and direction.
     pub fn new(kind: EventKind, to_server: bool) -> Self {
         Event { kind, to_server }
     }
 }
 
-/// How a conversation stands.
+/// The outcome of a conversation.
 #[derive(Clone, Copy, Debug, PartialEq, Eq, Hash)]
 pub enum Outcome {
-    /// A handshake is under way, or nothing was said.
+    /// A handshake is in progress, or there were no events.
     Waiting,
-    /// A full handshake was done.
+    /// A full handshake is complete.
     Full,
     /// A session was resumed.
     Resumed,
-    /// A fatal alert broke off a handshake that was under way.
+    /// A fatal alert broke off a handshake.
     BrokenOff,
-    /// A message that isn't known came in one that was under way.
+    /// An unknown message came during a handshake.
     Unknown,
-    /// What was said is no handshake, and can't become one.
+    /// The events are no handshake, and can't become one.
     NoHandshake,
-    /// TLS 1.3 is spoken, up to its ServerHello.
+    /// A handshake of TLS 1.3 reached its ServerHello.
     Tls13 {
-        /// The server asked for a second ClientHello by a HelloRetryRequest.
+        /// The server requested a second ClientHello by a HelloRetryRequest.
         retried: bool,
         /// The client sent encrypted records before the ServerHello.
         early_data: bool,
@@ -160,8 +161,8 @@ impl Outcome {
     }
 }
 
-/// How a conversation of these events stands (RFC 5246, section 7.3; RFC 8446, section 2; RFC 6347, section 4.2). Behind an outcome other
-/// than [`Outcome::Waiting`] no event changes it.
+/// The outcome of a conversation with these events (RFC 5246, section 7.3; RFC 8446, section 2; RFC
+/// 6347, section 4.2). Once it isn't [`Outcome::Waiting`], no event changes it.
 ///
 /// ```
 /// use wispuddera::{outcome, Event, EventKind, Outcome};
@@ -172,11 +173,11 @@ impl Outcome {
 /// assert_eq!(outcome(&[hello, alert]), Outcome::BrokenOff);
 /// ```
 pub fn outcome(events: &[Event]) -> Outcome {
-    // SAFETY: the pointer leads to as many events as are said, which nobody writes while they are lent.
+    // SAFETY: the pointer and the length are those of a slice.
     Outcome::of_number(unsafe { sys::wispuddera_outcome(events.as_ptr(), events.len()) })
 }
 
-/// A conversation that is followed event by event; what it keeps is one number.
+/// Follows a conversation event by event. Its state is one number.
 ///
 /// ```
 /// use wispuddera::{Event, EventKind, Flow, Outcome};
@@ -191,23 +192,23 @@ pub fn outcome(events: &[Event]) -> Outcome {
 pub struct Flow(sys::Flow);
 
 impl Flow {
-    /// A conversation of which nothing was said.
+    /// Begins a conversation without events.
     pub fn new() -> Self {
         let mut flow = sys::Flow { state: 0 };
-        // SAFETY: the pointer leads to a value that is lent to this call alone.
+        // SAFETY: the pointer is from a mutable reference.
         unsafe { sys::wispuddera_flow_start(&mut flow) };
         Flow(flow)
     }
 
     /// Follows one more event.
     pub fn step(&mut self, event: Event) {
-        // SAFETY: the pointers lead to values, of which the first is lent to this call alone.
+        // SAFETY: the pointers are from references, the first from a mutable one.
         unsafe { sys::wispuddera_flow_step(&mut self.0, &event) }
     }
 
-    /// How the conversation stands: as [`outcome`] tells it of its events so far.
+    /// The outcome by the events so far, as [`outcome`] returns it.
     pub fn outcome(&self) -> Outcome {
-        // SAFETY: the pointer leads to a value, which nobody writes while it is lent.
+        // SAFETY: the pointer is from a reference.
         Outcome::of_number(unsafe { sys::wispuddera_flow_outcome(&self.0) })
     }
 }

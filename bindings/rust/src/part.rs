@@ -1,19 +1,21 @@
-//! Records, and parts that have a length: handshake messages, extensions, key shares, names, certificates.
+//! Records, and parts with a length: handshake messages, extensions, key shares, protocol names,
+//! certificates.
 use crate::error::{check, is_found, Error};
 use crate::sys;
 use core::iter::FusedIterator;
 use core::marker::PhantomData;
 
-/// What can be read at the front of bytes, one behind the other.
+/// An item that is parsed from the front of bytes. [`Items`] iterates over a sequence of them.
 pub trait Read<'a>: Sized {
-    /// Reads the one in front, and answers it with the bytes behind it.
+    /// Returns the item at the front, and the bytes after it.
     ///
     /// # Errors
-    /// [`Error::Incomplete`] where it isn't whole, as where there are no bytes; [`Error::Refused`] where it breaks a rule.
+    /// [`Error::Incomplete`] if it is truncated, or there are no bytes; [`Error::Refused`] if it
+    /// breaks a rule.
     fn read(bytes: &'a [u8]) -> Result<(Self, &'a [u8]), Error>;
 }
 
-/// Those that stand in bytes, up to the end or the first that isn't read, whose error is the last item.
+/// Iterates over the items in bytes, up to their end or the first error, which it returns last.
 #[derive(Clone, Debug)]
 pub struct Items<'a, T> {
     rest: &'a [u8],
@@ -26,7 +28,7 @@ impl<'a, T: Read<'a>> Items<'a, T> {
         Items { rest: bytes, is_over: false, item: PhantomData }
     }
 
-    /// What isn't read yet; behind an error, what it is of.
+    /// The bytes that weren't parsed yet; after an error, from the item that caused it.
     pub fn rest(&self) -> &'a [u8] {
         self.rest
     }
@@ -57,11 +59,11 @@ impl<'a, T: Read<'a>> FusedIterator for Items<'a, T> {}
 /// A record (RFC 5246, section 6.2.1).
 #[derive(Clone, Copy, Debug, PartialEq, Eq)]
 pub struct Record<'a> {
-    /// Its ContentType: 22 for handshakes.
+    /// The content type: 22 for handshake messages.
     pub content_type: u8,
-    /// The version, as it stands there.
+    /// The version field.
     pub version: u16,
-    /// What it carries.
+    /// The fragment.
     pub fragment: &'a [u8],
 }
 
@@ -74,12 +76,12 @@ impl<'a> Read<'a> for Record<'a> {
     }
 }
 
-/// The records in front of bytes (RFC 5246, section 6.2.1).
+/// Iterates over the records in these bytes (RFC 5246, section 6.2.1).
 pub fn records(bytes: &[u8]) -> Items<'_, Record<'_>> {
     Items::new(bytes)
 }
 
-/// What a part's kind and content are, and the bytes behind it.
+/// A part's kind and content, and the bytes after it.
 type Parts<'a> = (u16, &'a [u8], &'a [u8]);
 
 fn part(call: sys::ReadAt<sys::Part>, bytes: &[u8]) -> Result<Parts<'_>, Error> {
@@ -91,9 +93,9 @@ fn part(call: sys::ReadAt<sys::Part>, bytes: &[u8]) -> Result<Parts<'_>, Error> 
 /// A handshake message (RFC 5246, section 7.4).
 #[derive(Clone, Copy, Debug, PartialEq, Eq)]
 pub struct Message<'a> {
-    /// Its HandshakeType: 1 for a ClientHello.
+    /// The HandshakeType: 1 for a ClientHello.
     pub kind: u8,
-    /// Its body.
+    /// The body.
     pub body: &'a [u8],
 }
 
@@ -104,7 +106,7 @@ impl<'a> Read<'a> for Message<'a> {
     }
 }
 
-/// The handshake messages in a record's fragment (RFC 5246, section 7.4).
+/// Iterates over the handshake messages in a record's fragment (RFC 5246, section 7.4).
 pub fn messages(fragment: &[u8]) -> Items<'_, Message<'_>> {
     Items::new(fragment)
 }
@@ -112,9 +114,9 @@ pub fn messages(fragment: &[u8]) -> Items<'_, Message<'_>> {
 /// An extension (RFC 8446, section 4.2).
 #[derive(Clone, Copy, Debug, PartialEq, Eq)]
 pub struct Extension<'a> {
-    /// Its ExtensionType.
+    /// The ExtensionType.
     pub kind: u16,
-    /// Its content.
+    /// The content.
     pub content: &'a [u8],
 }
 
@@ -125,15 +127,15 @@ impl<'a> Read<'a> for Extension<'a> {
     }
 }
 
-/// The extensions of a block of them (RFC 8446, section 4.2).
+/// Iterates over the extensions in a block of extensions (RFC 8446, section 4.2).
 pub fn extensions(block: &[u8]) -> Items<'_, Extension<'_>> {
     Items::new(block)
 }
 
-/// A key share (RFC 8446, section 4.2.8). That of a server is read from the content of its key_share.
+/// A key share (RFC 8446, section 4.2.8). The content of a ServerHello's key_share is one.
 #[derive(Clone, Copy, Debug, PartialEq, Eq)]
 pub struct KeyShare<'a> {
-    /// Its NamedGroup.
+    /// The NamedGroup.
     pub group: u16,
     /// The public value.
     pub value: &'a [u8],
@@ -146,17 +148,18 @@ impl<'a> Read<'a> for KeyShare<'a> {
     }
 }
 
-/// The key shares in the content of a ClientHello's key_share (RFC 8446, section 4.2.8).
+/// Iterates over the key shares in the content of a ClientHello's key_share (RFC 8446, section
+/// 4.2.8).
 ///
 /// # Errors
-/// [`Error::Incomplete`] where the content has fewer bytes than it says.
+/// [`Error::Incomplete`] if the content is shorter than its length prefix.
 pub fn key_shares(content: &[u8]) -> Result<Items<'_, KeyShare<'_>>, Error> {
     let (status, out) = sys::read_front(sys::wispuddera_find_key_shares, content);
     check(status, out.missing)?;
     Ok(Items::new(out.place.of(content)))
 }
 
-/// A protocol's name (RFC 7301, section 3.1).
+/// A protocol name (RFC 7301, section 3.1).
 #[derive(Clone, Copy, Debug, PartialEq, Eq)]
 pub struct Protocol<'a> {
     /// The name.
@@ -170,10 +173,11 @@ impl<'a> Read<'a> for Protocol<'a> {
     }
 }
 
-/// The protocols in a block of extensions (RFC 7301, section 3.1); `None` where it has none.
+/// Iterates over the protocol names in a block of extensions (RFC 7301, section 3.1); `None` if
+/// there is no such extension.
 ///
 /// # Errors
-/// Where the block isn't read up to them, or their own content is refused.
+/// If an extension up to theirs is truncated, or its content is shorter than its length prefix.
 pub fn protocols(block: &[u8]) -> Result<Option<Items<'_, Protocol<'_>>>, Error> {
     let (status, out) = sys::read_front(sys::wispuddera_find_protocols, block);
     Ok(is_found(status, out.missing)?.then(|| Items::new(out.place.of(block))))
@@ -182,7 +186,7 @@ pub fn protocols(block: &[u8]) -> Result<Option<Items<'_, Protocol<'_>>>, Error>
 /// A certificate.
 #[derive(Clone, Copy, Debug, PartialEq, Eq)]
 pub struct Certificate<'a> {
-    /// It, in DER.
+    /// The certificate, in DER.
     pub der: &'a [u8],
 }
 
@@ -193,10 +197,11 @@ impl<'a> Read<'a> for Certificate<'a> {
     }
 }
 
-/// The certificates in the body of a Certificate up to TLS 1.2 (RFC 5246, section 7.4.2).
+/// Iterates over the certificates in the body of a Certificate up to TLS 1.2 (RFC 5246, section
+/// 7.4.2).
 ///
 /// # Errors
-/// [`Error::Incomplete`] where the body has fewer bytes than it says.
+/// [`Error::Incomplete`] if the body is shorter than its length prefix.
 pub fn certificates(body: &[u8]) -> Result<Items<'_, Certificate<'_>>, Error> {
     let (status, out) = sys::read_front(sys::wispuddera_find_certificates, body);
     check(status, out.missing)?;

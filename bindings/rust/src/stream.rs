@@ -3,7 +3,7 @@ use crate::error::{check, Error};
 use crate::part::{Message, Record};
 use crate::sys;
 
-/// What isn't read yet, at a place of the buffer.
+/// The unread bytes, at a place in the buffer.
 #[derive(Clone, Debug)]
 struct Held<B> {
     buffer: B,
@@ -17,20 +17,20 @@ impl<B: AsRef<[u8]> + AsMut<[u8]>> Held<B> {
 
     fn feed(&mut self, piece: &[u8]) -> usize {
         let (buffer, mut taken) = (self.buffer.as_mut(), 0);
-        // SAFETY: each pointer leads to as many bytes as are said; those of the buffer are lent to this call alone, so they overlap
-        // nothing else.
+        // SAFETY: the pointers and lengths are those of slices. The buffer is borrowed mutably, so
+        // it overlaps nothing else.
         unsafe {
             sys::wispuddera_feed(buffer.as_mut_ptr(), buffer.len(), &mut self.place, piece.as_ptr(), piece.len(), &mut taken);
         }
         taken
     }
 
-    /// Takes what a call reads in front off: the buffer's bytes, of which that tells places. `None`
-    /// where it isn't whole yet.
+    /// Removes the item at the front of the buffered bytes. Returns the buffer, and the item's
+    /// struct, whose places refer to it; `None` if the item isn't complete.
     fn take<T: Default>(&mut self, call: sys::Take<T>, missing: fn(&T) -> usize) -> Result<Option<(&[u8], T)>, Error> {
         let (buffer, mut out) = (self.buffer.as_ref(), T::default());
-        // SAFETY: the pointer leads to as many bytes as are said, which nobody writes while they are lent; the place and `out` have
-        // values.
+        // SAFETY: the pointer and the length are those of a slice; the place and `out` are
+        // initialized.
         let status = unsafe { call(buffer.as_ptr(), buffer.len(), &mut self.place, &mut out) };
         match check(status, missing(&out)) {
             Ok(()) => Ok(Some((buffer, out))),
@@ -40,7 +40,7 @@ impl<B: AsRef<[u8]> + AsMut<[u8]>> Held<B> {
     }
 }
 
-/// The bytes of the longest record: 5 of its header, and 16640 behind it.
+/// The length of the longest record: a header of 5 bytes, and a fragment of 16640.
 pub const RECORD_ROOM: usize = 16645;
 
 /// The records of one direction, from pieces of any length. A buffer of [`RECORD_ROOM`] bytes has
@@ -68,18 +68,18 @@ pub struct RecordStream<B> {
 }
 
 impl<B: AsRef<[u8]> + AsMut<[u8]>> RecordStream<B> {
-    /// A stream of which nothing came, over an array, a vector or a slice.
+    /// Begins an empty stream over a buffer: an array, a vector or a slice.
     pub fn new(buffer: B) -> Self {
         RecordStream { held: Held::new(buffer) }
     }
 
-    /// Holds as much of the piece as there is room for, and answers how many bytes that is: 0 where
-    /// the buffer is full. Take the records that are whole, and feed the rest.
+    /// Appends as much of the piece as there is room for, and returns how many bytes that is: 0 if
+    /// the buffer is full. Take the complete records, and feed the rest.
     pub fn feed(&mut self, piece: &[u8]) -> usize {
         self.held.feed(piece)
     }
 
-    /// How many bytes are held.
+    /// The number of buffered bytes.
     pub fn held(&self) -> usize {
         self.held.place.length
     }
@@ -103,18 +103,18 @@ pub struct MessageStream<B> {
 }
 
 impl<B: AsRef<[u8]> + AsMut<[u8]>> MessageStream<B> {
-    /// A stream of which nothing came, over an array, a vector or a slice.
+    /// Begins an empty stream over a buffer: an array, a vector or a slice.
     pub fn new(buffer: B) -> Self {
         MessageStream { held: Held::new(buffer) }
     }
 
-    /// Holds as much of the fragment as there is room for, and answers how many bytes that is: 0
-    /// where the buffer is full. Take the messages that are whole, and feed the rest.
+    /// Appends as much of the fragment as there is room for, and returns how many bytes that is: 0
+    /// if the buffer is full. Take the complete messages, and feed the rest.
     pub fn feed(&mut self, fragment: &[u8]) -> usize {
         self.held.feed(fragment)
     }
 
-    /// How many bytes are held.
+    /// The number of buffered bytes.
     pub fn held(&self) -> usize {
         self.held.place.length
     }

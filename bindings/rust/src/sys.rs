@@ -1,6 +1,6 @@
-//! The structs and functions of `include/wispuddera.h`, which says what each is.
+//! The structs and functions of `include/wispuddera.h`, which describes them.
 //!
-//! The test below compares the structs with those of the library.
+//! The test below compares the layout of the structs with that of the library.
 
 pub const READ: u32 = 0;
 pub const INCOMPLETE: u32 = 1;
@@ -21,7 +21,8 @@ pub struct Place {
 }
 
 impl Place {
-    /// The bytes at the place. It lies within the bytes that were passed, as the library is proved to answer; else this panics.
+    /// The bytes at the place. The library is proved to return places within the bytes that it was
+    /// passed; another place panics.
     pub fn of<'a>(&self, bytes: &'a [u8]) -> &'a [u8] {
         &bytes[self.offset..][..self.length]
     }
@@ -170,7 +171,7 @@ pub struct Flow {
     pub state: u32,
 }
 
-/// An event that the library writes, whose kind is a number here.
+/// An event that the library writes, with its kind as a number.
 #[repr(C)]
 #[derive(Clone, Copy, Debug, Default)]
 pub struct WrittenEvent {
@@ -227,13 +228,13 @@ pub struct Conversation {
     pub has_session: bool,
 }
 
-/// A call that reads what stands at an offset.
+/// A call that parses the item at an offset.
 pub type ReadAt<T> = unsafe extern "C" fn(*const u8, usize, usize, *mut T) -> u32;
-/// A call that reads what stands in front, or finds something.
+/// A call that parses the item at the front, or looks something up.
 pub type ReadFront<T> = unsafe extern "C" fn(*const u8, usize, *mut T) -> u32;
-/// A call that puts a fingerprint into a buffer.
+/// A call that writes a fingerprint to a buffer.
 pub type Tell = unsafe extern "C" fn(*const u8, usize, *mut u8, usize, *mut usize) -> u32;
-/// A call that takes what stands in front of a buffer off it.
+/// A call that parses the item at the front of the buffered bytes, and removes it.
 pub type Take<T> = unsafe extern "C" fn(*const u8, usize, *mut Place, *mut T) -> u32;
 
 extern "C" {
@@ -319,15 +320,15 @@ extern "C" {
     pub fn wispuddera_field_offset(index: usize, field: usize) -> usize;
 }
 
-/// Calls a function that reads what stands at the front of the bytes.
+/// Returns the status and the struct of a call at offset 0.
 pub fn read_at<T: Default>(call: ReadAt<T>, bytes: &[u8]) -> (u32, T) {
     let mut out = T::default();
-    // SAFETY: the pointer leads to as many bytes as are said, which nobody writes while they are lent; `out` has a value.
+    // SAFETY: the pointer and the length are those of a slice; `out` is initialized.
     let status = unsafe { call(bytes.as_ptr(), bytes.len(), 0, &mut out) };
     (status, out)
 }
 
-/// The same, of a function that takes no offset.
+/// Returns the status and the struct of a call that takes no offset.
 pub fn read_front<T: Default>(call: ReadFront<T>, bytes: &[u8]) -> (u32, T) {
     let mut out = T::default();
     // SAFETY: as in `read_at`.
@@ -341,7 +342,7 @@ mod tests {
     use crate::outcome::Event;
     use core::mem::{offset_of, size_of};
 
-    /// Where each field of a struct begins, and behind them its size.
+    /// The name of a struct, and the offsets of its fields followed by its size.
     macro_rules! layout {
         ($name:ident: $($field:ident),+) => {
             (stringify!($name), &[$(offset_of!($name, $field),)+ size_of::<$name>()][..])
@@ -375,10 +376,10 @@ mod tests {
             ("none", &[0]),
         ];
         for (index, (name, offsets)) in layouts.iter().enumerate() {
-            // SAFETY: it takes a number alone.
+            // SAFETY: it takes only a number.
             assert_eq!(unsafe { wispuddera_struct_size(index) }, offsets[offsets.len() - 1], "{name}");
             for (field, offset) in offsets.iter().enumerate() {
-                // SAFETY: it takes numbers alone.
+                // SAFETY: it takes only numbers.
                 assert_eq!(unsafe { wispuddera_field_offset(index, field) }, *offset, "{name}, field {field}");
             }
         }

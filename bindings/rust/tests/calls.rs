@@ -1,4 +1,5 @@
-//! Each call on bytes whose parts are known, those of `tests/bindings/calls.c`: RFC 8446's and RFC 6347's structs, written by hand.
+//! Tests each call on the bytes of `tests/bindings/calls.c`: structs of RFC 8446 and RFC 6347,
+//! written by hand.
 use wispuddera::*;
 
 const NAME: &[u8] = b"\x00\x00\x00\x08\x00\x06\x00\x00\x03a.b";
@@ -56,7 +57,7 @@ fn hellos_are_read() {
     assert_eq!(hello.cipher_suites.clone().collect::<Vec<_>>(), [0x1301, 0x1302, 0xc02f]);
     assert_eq!((hello.compression_methods, hello.extensions, rest), (&[0][..], Some(&block()[..]), &b"rest"[..]));
     assert_eq!(ClientHello::read(&text[..33]).map(|_| ()), incomplete(1));
-    // Without its last byte the block of extensions isn't whole, and is none.
+    // Without its last byte the block of extensions is truncated, and counts as absent.
     let (hello, rest) = ClientHello::read(&text[..90]).unwrap();
     assert_eq!((hello.extensions, rest.len()), (None, 43));
 
@@ -145,7 +146,7 @@ fn dtls_is_read() {
     assert_eq!(ServerHello::read_dtls(&text[..38]), incomplete(1));
 }
 
-/// The certificate of `tests/bindings/calls.c`, and those that openssl made.
+/// The certificate is that of `tests/bindings/calls.c`.
 #[test]
 fn certificates_are_read() {
     let head = b"\x30\x81\x8a\x30\x7c\xa0\x03\x02\x01\x02\x02\x02\x01\x05\x30\x05\x06\x03\x2b\x65\x70";
@@ -253,7 +254,7 @@ fn errors_are_told() {
     let _: &dyn std::error::Error = &Error::Refused(Kind::Tag);
 }
 
-/// Handshakes as RFC 5246 (section 7.3) and RFC 8446 (section 2) draw them.
+/// The handshakes are those drawn in RFC 5246 (section 7.3) and RFC 8446 (section 2).
 #[test]
 fn outcomes_are_told() {
     let hello = [&b"\x03\x03"[..], &random(), b"\x00\xc0\x2f\x00"].concat();
@@ -288,7 +289,8 @@ fn outcomes_are_told() {
     assert_eq!(EventKind::of_dtls_message(3), EventKind::HelloVerifyRequest);
 }
 
-/// The ServerHello of `tests/bindings/calls.c`, of TLS 1.3 and with pre_shared_key if that is asked for, in two records.
+/// The TLS 1.3 ServerHello of `tests/bindings/calls.c` in two records, with pre_shared_key if
+/// `takes_session`.
 fn server_records(takes_session: bool) -> Vec<u8> {
     let key = if takes_session { &b"\x00\x29\x00\x02\x00\x00"[..] } else { b"" };
     let body = [&b"\x03\x03"[..], &random(), b"\x00\x13\x01\x00\x00", &[6 + key.len() as u8], b"\x00\x2b\x00\x02\x03\x04", key].concat();
@@ -352,14 +354,14 @@ fn conversations_stop() {
         let stop = Stop { events_before: 1, event: Event::new(kind, false), alert };
         assert_eq!(conversation.stop(), (wanted != Outcome::Waiting).then_some(stop));
         assert_eq!((conversation.is_established(), conversation.is_resumed()), (false, false));
-        // Behind a fault nothing is held.
+        // After a fault, pieces are dropped.
         let is_over = matches!(said, Said::Fault(_));
         assert_eq!(conversation.feed(Side::Server, &record()), if is_over { Ok(()) } else { Err(NoRoom) });
     }
     assert_eq!((NoRoom.to_string(), Fault::Interrupted.to_string().is_empty()), ("the buffer is too short".to_owned(), false));
 }
 
-/// Digests of texts that were written by hand, those of `tests/bindings/calls.c`.
+/// The digests are those of `tests/bindings/calls.c`, of texts that were written by hand.
 #[test]
 fn fingerprints_are_told() {
     let body = body();

@@ -1,6 +1,7 @@
 
 "use strict";
-// The button of a column puts the rows in order: numbers from the largest, texts from the first; once more the other way round.
+// The button of a column sorts the rows: numbers in descending order, text in ascending order. A
+// second click reverses the order.
 for (const table of document.querySelectorAll("main table")) {
   const heads = [...table.tHead.rows[0].cells];
   heads.forEach((head, column) => {
@@ -35,7 +36,7 @@ function compare(a, b) {
   return a === b ? 0 : a > b ? 1 : -1;
 }
 
-// The box in front of the tables hides each row that doesn't have all of its words, and what is empty then.
+// The search box hides rows that lack one of its words, and tables that have no rows left.
 const rows = [...document.querySelectorAll("main tbody tr")].map((row) => [row, row.textContent.toLowerCase()]);
 const box = document.createElement("input");
 box.type = "search";

@@ -84,7 +84,8 @@ def poor_clients(counts: Counts, commands: Commands) -> str:
 
 
 def expiring(counts: Counts) -> list[Issued]:
-    """The certificates that have expired at the log's last timestamp, or expire within `SOON` days of it, in that order."""
+    """The certificates that have expired at the log's last timestamp, and then those that expire
+    within `SOON` days of it."""
     if counts.last is None:
         return []
     limit = counts.last + SOON * text.DAY
