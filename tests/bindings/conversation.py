@@ -143,7 +143,7 @@ def told_by_page(client, server):
 
 
 def follow(tell, serving, asking, session=None):
-    """What is told of a handshake whose bytes are passed on, and its session."""
+    """Returns what `tell` prints for a relayed handshake, and its session."""
     (client, proxied_client), (server, proxied_server) = socket.socketpair(), socket.socketpair()
     sessions = []
 

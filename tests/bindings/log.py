@@ -1,8 +1,8 @@
 """`wispuddera.log`: its objects have the fields of docs/TLSLOG.md and the values of the stored
-lines, and its errors say what went wrong.
+lines, and its errors have the program's message.
 
-A program of a few lines stands in for tlslog, and writes the stored lines; where `rt ci` has built
-tlslog, that is run on the stored captures too.
+A short script replaces tlslog and prints the stored lines. If `rt ci` has built tlslog, it is run
+on the stored captures too.
 """
 
 import dataclasses
@@ -92,7 +92,7 @@ def test_program():
         assert len(connections) == len(LINES)
         for connection, line in zip(connections, LINES):
             is_line(connection, line)
-        # Found by PATH, and told its words.
+        # It is found in PATH and gets its arguments.
         stand_in(folder, "import json\nprint(json.dumps({'ts': 1, 'uid': 'C', 'id.orig_h': '', 'id.orig_p': 1, 'id.resp_h': '', 'id.resp_p': 1, 'proto': 'tcp',"
                  " 'words': sys.argv[1:]}))")
         before = os.environ["PATH"]
@@ -137,8 +137,8 @@ def test_options():
 
 
 def test_streams():
-    """What is open comes to the program as its input, however much it is, and from where it
-    stands."""
+    """The program reads an open file on its standard input, whatever its size, from the file's
+    current position."""
     with tempfile.TemporaryDirectory() as folder:
         program = stand_in(folder, "print('{\"bytes\":%d}' % len(sys.stdin.buffer.read()))")
         capture = pathlib.Path(folder) / "capture"

@@ -1,7 +1,7 @@
-"""What no row says of the Python module: sizes of structs, buffers that are taken and refused,
-streams in pieces, threads, DTLS, names.
+"""Tests of the Python module that the rows don't cover: sizes of structs, buffers that are accepted
+and refused, streams in pieces, threads, DTLS, names.
 
-The bytes and their places are those that tests/bindings/calls.c counts by hand.
+The bytes and their offsets are those of tests/bindings/calls.c.
 """
 
 import ctypes
@@ -184,7 +184,7 @@ def key_text(certificate):
 
 
 def lines_of(text, certificate):
-    """What the module tells of a certificate, as the lines that are openssl's."""
+    """Yields the fields that the module reads in a certificate, in the form of the stored lines."""
     yield f"version {certificate.version + 1}"
     yield f"serial_number {certificate.serial_number.hex().upper()}"
     yield f"issuer {name_text(certificate.issuer)}"
@@ -202,7 +202,7 @@ def lines_of(text, certificate):
 
 
 def test_certificates():
-    """Each stored certificate, beside what openssl told of it when it was made."""
+    """Compares each stored certificate with the fields that openssl printed when it was made."""
     told = re.findall(r'name: "(.*)",\n +bytes: "(.*)",\n +wanted: &\[\n((?: +".*",\n)*)', (CERTIFICATES / "made.rt.unproved").read_text())
     fields = {line.split()[0] for line in lines_of(*(lambda t: (t, w.read_x509(t)))(bytes.fromhex(next(it[1] for it in told if it[0] == "rsa_1024"))))}
     assert len(told) == len(list((CERTIFICATES / "stored").glob("*.der"))) > 20
@@ -281,7 +281,7 @@ def streams(capture):
 
 
 def hellos(stream):
-    """The bodies of the ClientHellos and ServerHellos that stand in the clear."""
+    """The bodies of the ClientHellos and ServerHellos that are in the clear."""
     messages = w.MessageStream()
     for record in w.RecordStream().feed(stream):
         if record.content_type == 20:

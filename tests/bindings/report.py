@@ -151,8 +151,8 @@ def test_tally():
 
 
 def test_tally_is_near():
-    """Beside an exact count: none is told too high, none is short by more than it says, and nothing
-    frequent lacks."""
+    """Compares with exact counts: none is too high, none is too low by more than its error, and no
+    frequent value is missing."""
     chance = random.Random(2)
     for most in (1, 2, 7, 50):
         tally, exact = tallies.Tally(tallies.Entry, most), Counter()

@@ -3,15 +3,17 @@ file, through the Python module: values, places, kinds of refusals, and missing 
 
     rows.py [PROGRAM]
 
-PROGRAM, if it is named, is asked the same: `answers`, which tests/bindings/answers.rs is, over the
-Rust crate.
+PROGRAM, if given, gets the same rows: tests/bindings/answers.rs, a program over the Rust crate.
 
-What a row says of a call is compared with what the module answers where both tell the same: a whole
-value, made into the row's text here; or where more is decoded than the module does, what stands in
-front of it: the rest, and how many bytes are missing. A row of an extension, or of a list of them,
-also says what is found in these bytes as a block (names, versions, groups, contents), and in a
-hello and a record that are put around the block; one that frames a number and bytes says it of a
-key share. Each row is asked on `bytes`, on a `bytearray` and on a `memoryview` of either.
+The answer that a row wants is compared with the module's:
+
+- If the module decodes the whole value, the value, printed in the form of the row.
+- If the call decodes more than the module, the rest and the number of missing bytes.
+- The row of an extension, or of a list of them, is also read as a block (names, versions, groups,
+  contents), and in a hello and a record around that block.
+- The row of a number and bytes behind their length is also read as a key share.
+
+Each row is read from `bytes`, a `bytearray` and a `memoryview` of either.
 """
 
 import functools
@@ -59,7 +61,7 @@ def bytes_of(text, names):
 
 
 def expanded(text):
-    """The digits of words, of which one that ends in `*` and a number stands so many times."""
+    """The digits of words; a word that ends in `*` and a number is repeated so many times."""
     words = (word.partition("*") for word in text.split())
     return "".join(digits * int(count or 1) for digits, _, count in words)
 
@@ -275,8 +277,8 @@ def x509_names(data):
     return None, f"[{', '.join(map(name_of_x509, whole(w.x509_names(data))))}]"
 
 
-# Calls whose answer the module tells whole: the end of what was read (None where that isn't told),
-# and the value.
+# Calls whose answers the module has in full: the end of what was read (None if there is none), and
+# the value.
 WHOLE = {
     "parse_tls_raw_record": raw_record,
     "parse_tls_handshake_client_hello": client_hello,
@@ -291,13 +293,13 @@ WHOLE = {
     "read_x509_name": read_x509_name,
     "x509_names": x509_names,
 }
-# Bodies of DTLS's messages, by type, of which the rows of the call on whole messages tell the cuts,
-# and in part the value.
+# Bodies of DTLS messages, by type. The rows of whole messages have their answers at each cut, and
+# part of the value.
 BODIES = {1: "dtls_client_hello", 2: "dtls_server_hello"}
 WHOLE.update({"dtls_client_hello": dtls_client_hello, "dtls_server_hello": dtls_server_hello})
 WHOLE["parse_dtls_message_handshake.is_fragment"] = is_fragment
-# Calls that decode what the module leaves as it stands: the front of the value, as far as the
-# module tells it.
+# Calls that decode bytes which the module returns undecoded: the front of the value, as far as the
+# module decodes it.
 FRONT = {
     "parse_tls_plaintext": record,
     "parse_tls_message_handshake": lambda data: (w.message(data).next, ""),
@@ -317,8 +319,8 @@ FOUND = {
     16: {"protocols": protocols},
     43: {"versions": of_extension(43, versions), "best_version": lambda block: some(w.best_version(OWN_VERSION, block))},
 }
-# Its extension, in a value; and the rows of an extension that say nothing of one by its number
-# alone.
+# The numbers of extensions, by their names in a value; and the calls whose rows are also read as an
+# extension.
 NAMES = {"SNI": 0, "EllipticCurves": 10, "SignatureAlgorithms": 13, "ALPN": 16, "SupportedVersions": 43}
 EXTENSIONS = {
     f"parse_tls_extension{name}"
@@ -396,7 +398,7 @@ def ask_cut(call, data, parts, where):
 
 
 def ask_body(data, clauses, where):
-    """Compares a body of DTLS with what the row says of it within the message's lengths."""
+    """Compares a DTLS body with the row's answers within the lengths of its message."""
     call = BODIES[data[0]]
     for kind, text in clauses:
         if kind == "within:" and text.startswith("3,11 "):
@@ -436,7 +438,7 @@ def items_of(text):
 
 
 def ask_extension(data, clauses, where):
-    """What a row on one extension says of the block that it is."""
+    """Compares the row of one extension, read as a block."""
     kind = int.from_bytes(data[:2], "big")
     for clause, text in clauses:
         if clause == "=>" and data and "Tag" not in text:
@@ -461,7 +463,7 @@ def ask_extension(data, clauses, where):
 
 
 def ask_extensions(data, clauses, where):
-    """What a row on a list of extensions says of the block."""
+    """Compares the row of a list of extensions, read as a block."""
     for clause, text in clauses:
         if clause != "=>" or not (ok := re.match(r"Ok rest (\d+), (.*)", plain(text))):
             continue
@@ -476,8 +478,8 @@ def ask_extensions(data, clauses, where):
 
 
 def ask_framed(data, clauses, where):
-    """What a row on a number and bytes behind their length says of a key share, which is one too
-    (RFC 8446, section 4.2.8)."""
+    """Compares the row of a number and bytes behind their length, read as a key share (RFC 8446,
+    section 4.2.8)."""
     for clause, text in clauses:
         if clause == "=>":
             wanted = re.sub(r"Unknown\(TlsExtensionType\((\d+)\), (.*)\)$", r"KeyShareEntry { group: NamedGroup(\1), kx: \2 }", plain(text))
@@ -488,7 +490,7 @@ def ask_framed(data, clauses, where):
 
 
 def ask_names(data, clauses, where):
-    """What a row on the content of a server_name says of an extension that has it."""
+    """Compares the row of the content of a server_name, within its extension."""
     block = b"\0\0" + len(data).to_bytes(2, "big")
     for clause, text in clauses:
         if clause == "=>":
@@ -499,7 +501,7 @@ def ask_names(data, clauses, where):
 
 
 def ask_message(data, clauses, where):
-    """What a row on a handshake message says of its body."""
+    """Compares the body of a handshake message with the message's row."""
     told_of = dict(clauses)
     if "=>" in told_of and data:
         wanted = plain(told_of["=>"])
@@ -526,7 +528,7 @@ def ask_row(calls, data, clauses, where):
             also(data, clauses, where)
 
 
-# What the rows of a call say of others.
+# Further checks on the rows of a call.
 ALSO = {
     "parse_tls_extensions": ask_extensions,
     "parse_tls_extension_unknown": ask_framed,
