@@ -44,9 +44,9 @@ LETTERS = {
     "Certificate Verify": "y", "Client Key Exchange": "g", "Finished": "f", "Certificate Status": "u", "Change Cipher Spec": "i", "Alert": "l",
     "Heartbeat Request": "b", "Heartbeat Response": "b",
 }
-# Of these, 0 is told too.
+# Fields that are also logged if they are 0.
 ALWAYS = ["comp_method", "cert_count", "client_cert_count", *wanted_certificates.ALWAYS]
-# What tshark doesn't tell.
+# Fields that tshark doesn't have.
 UNTOLD = """
     orig_dropped_pkts resp_dropped_pkts orig_dropped_for resp_dropped_for orig_preamble_bytes resp_preamble_bytes tunnels tunnel_ids ssl2_hello ended_early
 """.split()
@@ -175,7 +175,7 @@ class Sent:
 
 
 class Analyzer:
-    """What one connection says."""
+    """The fields of one connection, from its packets."""
 
     def __init__(self, row: Row, layer: str) -> None:
         self.layer = layer
@@ -240,8 +240,8 @@ class Analyzer:
         self.said["other_server_names"] = [f"{kind}:{name}" for kind, name in names if kind != HOST_NAME] or None
 
     def note_names(self, row: Row, side: bool) -> None:
-        """Adds the letters of what a packet says, by tshark's column of names. Of fragments the
-        last one counts."""
+        """Adds the history letters of a packet, by the names in tshark's Info column. A fragmented
+        message counts at its last fragment."""
         names = re.sub(r" [(]Level: [^)]*[)]", "", ";".join(row["_ws.col.Info"]))
         for name in re.split(", ", names.replace(" (Reassembled)", "")):
             letter = LETTERS.get(name, "")
@@ -253,7 +253,7 @@ class Analyzer:
             self.history += letter.upper() if side else letter
 
     def note_record(self, kind: int, side: bool) -> None:
-        """Counts a ChangeCipherSpec, and a record behind that of its side, which is encrypted."""
+        """Counts a ChangeCipherSpec, and each record behind it, which is encrypted."""
         if kind == CHANGE or (side in self.changed and not self.is_13):
             self.messages += 1
         if kind == CHANGE:
@@ -270,7 +270,7 @@ class Analyzer:
         share = first(row, "handshake.extensions_key_share_group", "handshake.extensions_key_share_selected_group")
         self.said["curve"] = group(int(share)) if share else None
         self.said["next_protocol"] = first(row, "handshake.extensions_alpn_str")
-        # (0x7f and a number is that of a draft of TLS 1.3)
+        # (0x7f and a number is a draft of TLS 1.3)
         is_13 = version in (0x304, 0xFEFC) or version >> 8 == 0x7F
         self.said["resumed"] = is_13 and PRE_SHARED_KEY in row["handshake.extension.type"]
         self.is_13 |= is_13

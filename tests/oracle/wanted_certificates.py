@@ -1,5 +1,4 @@
-"""The fields of certificates that are wanted of a connection, from what openssl tells of their
-DER."""
+"""The expected certificate fields of a connection, from what openssl prints of the DER."""
 
 from __future__ import annotations
 
@@ -13,7 +12,7 @@ import time
 
 from tests.support.shapes import Line
 
-# Of these, false is told too, and an empty name.
+# Fields that are also logged if they are false or an empty name.
 ALWAYS = ["is_ca", "self_issued", "sni_matches_cert", "subject", "issuer", "client_subject", "client_issuer"]
 KEY_TYPES = {"rsaEncryption": "rsa", "rsassaPss": "rsa", "id-ecPublicKey": "ecdsa", "dsaEncryption": "dsa", "ED25519": "ed25519", "ED448": "ed448"}
 
@@ -61,8 +60,8 @@ def of_certificate(der: bytes) -> Line:
 
 
 def is_name_of(host: str, name: str) -> bool:
-    """Whether a name stands for a host (RFC 9525, section 6.3): it is the same, or a `*` stands for
-    the first label alone."""
+    """Whether a name matches a host (RFC 9525, section 6.3): it is equal, or its first label is `*`
+    and the others are equal."""
     host, name = (text.lower().rstrip(".") for text in (host, name))
     if name.startswith("*."):
         first, _, rest = host.partition(".")

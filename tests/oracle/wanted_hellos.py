@@ -17,7 +17,7 @@ FIELDS = """
 """.split()
 # Fields that tshark has under the names of TLS alone, also of DTLS.
 SHARED = ["tls.extension.psk_ke_mode", "tls.sct.sct_length"]
-# They stand behind the others in a line.
+# They follow the other fields in a line.
 ORDER = log_columns.names()[log_columns.names().index("client_version") :]
 TICKET, CERTIFICATE, CERTIFICATE_REQUEST, STATUS = "4", "11", "13", "22"
 LETTERS = {
@@ -116,7 +116,7 @@ def first(row: Row, field: str) -> str | None:
 
 
 def of_client(row: Row, layer: str, versions_by: dict[int, str]) -> Line:
-    """What a ClientHello says."""
+    """The fields of a ClientHello."""
     extensions, schemes_by, groups = registries()
     types = numbers(row, "handshake.extension.type")
     lengths = dict(zip(types, numbers(row, "handshake.extension.len")))
@@ -144,7 +144,7 @@ def of_client(row: Row, layer: str, versions_by: dict[int, str]) -> Line:
 
 
 def of_server(row: Row, versions_by: dict[int, str]) -> Line:
-    """What a ServerHello says."""
+    """The fields of a ServerHello."""
     extensions, _, groups = registries()
     share = numbers(row, "handshake.extensions_key_share_group")
     return {
@@ -166,7 +166,7 @@ def chain_of(row: Row) -> list[bytes] | None:
 
 
 def of_messages(row: Row, side: bool) -> Line:
-    """What other messages in the clear say; `side` is whether the client sent them."""
+    """The fields of other messages in the clear; `side` is whether the client sent them."""
     types, said = row["handshake.type"], {}
     chain = chain_of(row)
     if chain is not None:

@@ -42,7 +42,7 @@ def stored_hello() -> bytes:
 
 
 def of_late(file: Path, port: int) -> list[Line]:
-    """What is captured is encrypted: no alert of it can be told."""
+    """The captured records are encrypted, so no alert in them can be read."""
     [found] = wanted.lines(file, port)
     if "last_alert" in found:
         raise ValueError(f"an alert in the clear: {found}")
@@ -70,8 +70,8 @@ def cut(folder: Path, name: str) -> list[Line]:
 
 
 def capwap(folder: Path, name: str) -> list[Line]:
-    """Each datagram of a stored capture behind the header, and the server's port is that of
-    CAPWAP."""
+    """Puts the header in front of each datagram of a stored capture, and gives the server the port
+    of CAPWAP."""
     file = folder / f"{name}.pcap"
 
     def wrapped(one: packets.Segment) -> packets.Segment:
