@@ -160,7 +160,7 @@ def same_table(
     wanted = ranked(counter)
     rows = page.rows[name]
     found = [(key(row[0].strip()), number_of(row[at])) for row in rows["tbody"]]
-    # Equals may stand in another order where the page names them otherwise.
+    # Equal counts may be in another order if the page has other names for them.
     want(sorted(found, key=str) == sorted(wanted[:ROWS], key=str) or cut_equals(found, wanted), name, "has", found, "where this is wanted:", wanted[:ROWS])
     want([count for _, count in found] == [count for _, count in wanted[:ROWS]], name, "isn't in order")
     rest = sum(count for _, count in wanted[ROWS:])
@@ -169,7 +169,7 @@ def same_table(
 
 
 def same_shares(page: Page, name: str, whole: int) -> None:
-    """Each share is that of its count, in percent."""
+    """Checks that each share is its count in percent."""
     for row in [*page.rows[name]["tbody"], *page.rows[name]["tfoot"]]:
         percent = 100 * number_of(row[1]) / whole
         wanted = "<0.1%" if 0 < percent < 0.1 else ">99.9%" if 99.9 < percent < 100 else f"{percent:.1f}%"
@@ -397,7 +397,7 @@ CHECKS = (
 
 
 def check(page: Page, lines: list[Line]) -> int:
-    """Whether a page says what the lines want; all lines have the fields of tlslog, and few enough
+    """Checks a page against its lines. All lines have the fields of tlslog, and few enough
     different values for exact counts."""
     for one in CHECKS:
         one(page, lines)
