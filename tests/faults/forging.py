@@ -23,9 +23,9 @@ QUARTER = 2**30
 # What a host dropped and begins so far in front of the number behind all that was sent goes on with
 # it, or repeats it.
 NEAR = 65536
-# A connection ends by so many seconds without packets.
+# A connection ends after so many seconds without packets.
 IDLE = 299 * 1_000_000
-# The most data that an end takes in a segment if it doesn't say so (RFC 9293, section 3.7.1).
+# The default maximum segment size, if an end sends no MSS option (RFC 9293, section 3.7.1).
 DEFAULT_SIZE = 536
 RIGHT, PARTIAL, WRONG, NONE = "right", "partial", "wrong", "none"
 
@@ -63,7 +63,7 @@ class Packet:
             self.sequence, self.acknowledgment, _, self.flags, self.window = struct.unpack(">IIBBH", self.transport[4:16])
 
     def sums_of(self, data: bytes, protocol: int) -> str:
-        """What the checksum is."""
+        """The verdict on the checksum."""
         pseudo = self.addresses + protocol + len(data)
         found = int.from_bytes(data[6:8] if self.is_udp else data[16:18], "big")
         if self.is_udp and not found:
@@ -130,7 +130,7 @@ class End:
     scale: int = None
     has_clock: bool = False
     clock: int = None  # Its last timestamp.
-    recent: int = None  # The same as the other end holds it (RFC 7323, section 4.3).
+    recent: int = None  # The last timestamp as the other end has it (TS.Recent of RFC 7323).
     fin: int = None
     size: int = DEFAULT_SIZE
     is_signed: bool = False  # Its SYN is (RFC 2385; RFC 5925).
@@ -145,7 +145,7 @@ def later(number: int | None, other: int) -> int:
 
 
 def reached_by(end: End, packet: Packet) -> tuple[int, tuple[tuple[int, int], ...]]:
-    """The number behind all that came in a row, and what stands further ahead."""
+    """The number behind all in-order data, and the ranges of out-of-order data."""
     reached = packet.first if end.reached is None else end.reached
     pieces = sorted([*end.ahead, (packet.first, packet.behind)], key=lambda piece: ahead(piece[0], reached))
     left = []
@@ -207,8 +207,8 @@ def heard(other: End, packet: Packet) -> End:
 
 
 def expecting(end: End, other: End) -> End:
-    """An end that only asked for the connection waits for what follows the other's SYN, within the
-    window of its own."""
+    """An end that has only sent its SYN waits for what follows the other's SYN, within its own
+    window."""
     if end.acknowledged is not None or other.first is None or end.edge is None:
         return end
     return replace(end, acknowledged=other.first, edge=(other.first + end.edge) % ALL)
@@ -307,7 +307,7 @@ class Draft:
         self.sequence = number % ALL
 
     def end_at(self, number: int) -> None:
-        """Its last byte, or its FIN, stands in front of the number."""
+        """Places the last byte, or the FIN, just in front of the number."""
         self.sequence = (number - len(self.payload) - bool(self.flags & FIN)) % ALL
 
     def maybe(self, flag: int) -> None:
@@ -392,7 +392,7 @@ def old_timestamp(draft: Draft) -> None:
 
 
 def opens(draft: Draft) -> None:
-    """Each SYN begins anywhere, with options of its own."""
+    """Sends a SYN with a random sequence number and random options."""
     sender, receiver = draft.sender, draft.receiver
     known = (sender.first - 1, sender.next - 1, sender.next, receiver.acknowledged, receiver.edge)
     draft.place_behind(draft.chance.choice((*known, sender.next + draft.some(), sender.next - draft.some())))
