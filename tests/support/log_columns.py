@@ -104,7 +104,7 @@ def tables() -> dict[str, list[Column]]:
     found |= {name: columns(body) for name, body in TABLE.findall(COLUMNS.read_text())}
     for table in found.values():
         if not table[0].said:
-            raise Wrong(f"nothing stands above {table[0].name}")
+            raise Wrong(f"nothing is above {table[0].name}")
     return found
 
 

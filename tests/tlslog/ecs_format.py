@@ -131,7 +131,7 @@ def check_one(ask: Ask, file: Path, told: set[str]) -> int:
         want(event == wanted, "ecs:", event, "wanted is", wanted)
         names = list(names_in(event))
         want(names == list(names_in(wanted)), "ecs: the order of names is", names)
-        want(set(names) <= told, "ecs: docs/TLSLOG.md doesn't tell", set(names) - told)
+        want(set(names) <= told, "ecs: docs/TLSLOG.md doesn't have", set(names) - told)
     return len(events)
 
 

@@ -101,7 +101,7 @@ def fields(ask: Ask, files: list[Path], lines: list[Line]) -> int:
     want({name for line in lines for name in line} <= {*names}, "csv has no column for a field of a line")
     page = (TOP / "docs" / "TLSLOG.md").read_text()
     lacking = [name for name in names if f"`{name}`" not in page]
-    want(not lacking, "docs/TLSLOG.md says nothing of", lacking)
+    want(not lacking, "docs/TLSLOG.md doesn't have", lacking)
     for name in names:
         status, text, _ = ask(["--fields", name, *files])
         wanted = [{name: line[name]} if name in line else {} for line in lines]
@@ -396,8 +396,8 @@ def check(program: Path, ask: Ask, files: list[Path], lines: list[Line], room: P
     print(f"tlslog: {count} fields alone, in another order and as comma-separated values, and names of suites, are as they are stored")
     [plain] = [file for file in files if file.stem == "openssl_rsa"]
     print(f"tlslog: of {formulas(ask, plain, room)} names those that begin as formulas do are marked as comma-separated values, unless --csv-raw is given")
-    print(f"tlslog: {told_again(ask, files, lines, room)} hellos and certificates that differ in a number, and all captures, say the same when they come again")
-    print(f"tlslog: {len(lines)} lines have the identifiers that hashlib makes, and {identified(ask, files, lines)} of messages and certificates that of their connection")
+    print(f"tlslog: {told_again(ask, files, lines, room)} hellos and certificates that differ in a number, and all captures, have the same lines when they are repeated")
+    print(f"tlslog: {len(lines)} lines have the identifiers that hashlib makes, and {identified(ask, files, lines)} of messages and certificates their connection's")
     count, with_fields = messages(ask, files)
     print(f"tlslog: {count} messages are those that tshark has, with their places, also as comma-separated values; {with_fields} of them have the "
           "fields of key exchanges, signatures and keys known before that tshark has")

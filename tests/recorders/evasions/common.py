@@ -114,9 +114,9 @@ def took(room: rooms.Room, talk: Analyzer, name: str = REAL, certificate: str | 
     with that certificate."""
     room.await_text("server", HOSTNAME_LINE.format(name))
     printed = HOSTNAME.findall(room.printed("server"))
-    expect(printed and printed[-1] == name, f"the server says {printed}")
+    expect(printed and printed[-1] == name, f"the server prints {printed}")
     certificate = certificate or ("real.test" if name == REAL else "other.test")
-    expect(talk.certificate_name() == certificate, f"its certificate is that of {talk.certificate_name()}")
+    expect(talk.certificate_name() == certificate, f"its certificate is for {talk.certificate_name()}")
     room.note(f's_server printed: {HOSTNAME_LINE.format(name)}; its certificate is that of {certificate}, and the handshake ended')
 
 

@@ -130,7 +130,7 @@ def wanted_of(segments: list[packets.Segment], handed: list[tuple[str, bytes, li
         fields = {field: value for field, value in found.items() if field not in COUNTS}
         certain = {"server_name": NAME, "version": "DTLSv12", "established": True, "outcome": "full"}
         if any(found[field] != value for field, value in certain.items()):
-            raise ValueError(f"tshark says otherwise: {found}")
+            raise ValueError(f"tshark has other fields: {found}")
         others = [field for field in fields if field not in (*certain, *ends)]
         sources = {"the first packet": list(ends), "seen": list(certain)}
         sources["tshark, of the datagrams that the peers took"] = [*others, "last_alert", "gap"]

@@ -200,7 +200,7 @@ def wanted_of(file: Path, rule: Rule, version: str, seen: Line) -> list[Line]:
         fields = line_of(with_usual_versions(segments, int(rule.name[-4:], 16)), port)
         certain = {"server_name": NAME.decode(), "version": version, "established": True, "outcome": "tls13" if version == V13 else "full"}
         if seen["client"] != "completed" or seen["server"] != "completed" or any(fields[field] != value for field, value in certain.items()):
-            raise ValueError(f"tshark says otherwise: {fields}, {seen}")
+            raise ValueError(f"tshark has other fields: {fields}, {seen}")
         others = [field for field in fields if field not in certain]
         sources = {"seen": list(certain), "tshark, with the usual version": [*others, "last_alert", "gap"]}
         return [said.line(fields, ["last_alert", "gap"], sources)]
