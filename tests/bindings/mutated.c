@@ -182,7 +182,7 @@ static void call_fingerprints(const uint8_t *b, size_t n) {
         told = is_read(tellers[i](b, n, text, room, &missing), &missing);
         for (j = 0; j < room; j++) {
             if ((text[j] == '!') == told) {
-                printf("mutated: a fingerprint of which a character is missing, or told\n");
+                printf("mutated: a fingerprint without one of its characters, or one that was refused\n");
                 exit(1);
             }
         }
