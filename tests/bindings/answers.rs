@@ -3,7 +3,7 @@
 use std::io::{self, BufRead, Write};
 use wispuddera::*;
 
-/// The rest's length, or `_` where it isn't told, and the value.
+/// The length of the rest, or `_` if it isn't printed, and the value.
 type Answer = Result<(String, String), Error>;
 
 fn hex(bytes: &[u8]) -> String {
@@ -155,7 +155,7 @@ fn names_of_protocols(bytes: &[u8]) -> Answer {
     ))
 }
 
-/// What stands behind one whose value is decoded further than here.
+/// The length of the rest behind a value that the rows decode further than the crate does.
 fn rest_of<'a, T: Read<'a>>(bytes: &'a [u8]) -> Answer {
     let (_, rest) = T::read(bytes)?;
     Ok((rest.len().to_string(), String::new()))

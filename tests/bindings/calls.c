@@ -1,5 +1,5 @@
-/* Each function once on bytes whose places were counted by hand: each field of each struct has a value of its own here, so that one
- * that stands elsewhere in the library's struct is seen. The bytes are those of RFC 8446's and RFC 6347's structs. */
+/* Calls each function once, on bytes whose offsets were counted by hand. Each field of a struct has a different value here, so a
+ * field at another offset in the library's struct fails the test. The bytes follow the structs of RFC 8446 and RFC 6347. */
 #include "wispuddera.h"
 
 #include <stddef.h>
@@ -499,7 +499,7 @@ static void test_outcome(void) {
     IS(wispuddera_event_of_alert(1, 90), WISPUDDERA_EVENT_WARNING);
 }
 
-/* What the header says of each call's refusals. */
+/* The refusals of each call, as wispuddera.h documents them. */
 #define BYTES(text) (const uint8_t *)(text), sizeof(text) - 1
 
 /* A ServerHello of TLS 1.3 with pre_shared_key, in two records. */
@@ -515,7 +515,7 @@ static const uint8_t server_records[] = {
 
 enum { SERVER_HELLO_END = 66, SERVER_RECORDS = 73 };
 
-/* Whether bytes make up what is told of an event: its form, its kind, and where they stand in the buffer. */
+/* Checks an event: its form, its kind, and that its bytes are in the buffer, with this content. */
 static void is_said(int line, const uint8_t *buffer, const wispuddera_said *said, int form, int kind, const uint8_t *bytes, size_t count) {
     is(line, said->form, (unsigned long long)form);
     is(line, said->kind, (unsigned long long)kind);
@@ -559,7 +559,7 @@ static void test_conversation(void) {
     IS(wispuddera_conversation_established(&it), true);
     IS(wispuddera_conversation_resumed(&it), true);
     IS(wispuddera_conversation_stop(&it, &stop), WISPUDDERA_NONE);
-    /* The buffer is full again, behind what was told. */
+    /* The buffer is full again, behind the last event. */
     IS(wispuddera_conversation_feed(server_buffer, sizeof server_buffer, &it, false, server_records + SERVER_HELLO_END, 7), WISPUDDERA_READ);
     IS(wispuddera_conversation_next(server_buffer, sizeof server_buffer, &it, false, &said), WISPUDDERA_READ);
     is_said(__LINE__, server_buffer, &said, WISPUDDERA_SAID_ENCRYPTED, WISPUDDERA_EVENT_ENCRYPTED, server_records + SERVER_HELLO_END, 7);
@@ -567,7 +567,7 @@ static void test_conversation(void) {
     IS(wispuddera_conversation_resumed(&it), true);
 }
 
-/* What one side says by bytes behind a ClientHello, and by what it is stopped. */
+/* Bytes behind a ClientHello that stop the conversation, and why. */
 static void test_conversation_stops(void) {
     static const struct {
         const char *bytes;
@@ -665,7 +665,7 @@ static void test_refusals_of_finds(void) {
     IS(f.missing, 2);
     IS(wispuddera_find_certificates(BYTES("\x00\x00\x00"), &f), WISPUDDERA_READ);
     PLACE(f.place, 3, 0);
-    /* Types 20 to 24, the major version 3 and lengths up to 16640 are those of TLS; fewer bytes than a header has don't tell. */
+    /* TLS has types 20 to 24, major version 3 and lengths up to 16640. With less than a header there is no answer yet. */
     IS(wispuddera_looks_like_tls(BYTES("\x14\x03\x00\x00\x00")), WISPUDDERA_READ);
     IS(wispuddera_looks_like_tls(BYTES("\x18\x03\x04\x41\x00")), WISPUDDERA_READ);
     IS(wispuddera_looks_like_tls(BYTES("\x18\x03\x04\x41\x01")), WISPUDDERA_NONE);
@@ -798,7 +798,7 @@ static void test_fingerprints(void) {
     IS(memcmp(text, "083a17d1eee567193ca26e03736db9e5........", sizeof text), 0);
 }
 
-/* A certificate of RFC 5280's structs, whose signature is none; `openssl asn1parse` tells the same places. */
+/* A certificate by RFC 5280's structs, with a dummy signature. `openssl asn1parse` prints the same offsets. */
 static const uint8_t certificate[] = {
     0x30, 0x81, 0x8a,                                                                                   /* 0: the certificate */
     0x30, 0x7c,                                                                                         /* 3: what is signed */
@@ -854,7 +854,7 @@ static void test_certificate(void) {
     IS(c.key_bits, 0);
     IS(c.key_kind, WISPUDDERA_KEY_EC);
     IS(c.version, 2);
-    /* Behind the three bytes of its tag and its length, it tells all that is missing. */
+    /* With the three bytes of the tag and the length, the exact number of missing bytes is known. */
     for (count = 0; count < CERTIFICATE; count++) {
         IS(wispuddera_read_x509(certificate, count, &c), WISPUDDERA_INCOMPLETE);
         IS(c.missing, count < 3 ? 1 : CERTIFICATE - count);

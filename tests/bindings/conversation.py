@@ -69,10 +69,15 @@ def test_recorded():
                 place, _, alert = place.partition(", ")
                 stop = conversation.stop
                 assert conversation.outcome == w.Outcome.BROKEN_OFF and not conversation.established
-                assert stop.events_before == int(place) and stop.event.content[1] == int(alert.split()[-1])
+                assert stop.events_before == int(place) and stop.event.content[1] == int(
+                    alert.split()[-1]
+                )
                 assert stop.event.to_server == alert.startswith("client")
             else:
-                assert conversation.outcome.name == OUTCOMES[outcome], (wanted, conversation.outcome)
+                assert conversation.outcome.name == OUTCOMES[outcome], (
+                    wanted,
+                    conversation.outcome,
+                )
                 assert conversation.established and conversation.stop is None
                 assert outcome != "Resumed" or conversation.resumed
                 assert outcome != "Full" or not conversation.resumed
@@ -101,7 +106,10 @@ def test_faults():
     # ChangeCipherSpec.
     assert ended("client", "474554202f", "150301 0002 0228") == [("UNKNOWN", "Switch")]
     assert ended("server", "150301 0002 0328") == [("ENCRYPTED", None)]
-    assert ended("server", "140301 0001 01 150301 0002 0228") == [("CHANGE_CIPHER_SPEC", None), ("ENCRYPTED", None)]
+    assert ended("server", "140301 0001 01 150301 0002 0228") == [
+        ("CHANGE_CIPHER_SPEC", None),
+        ("ENCRYPTED", None),
+    ]
     assert ended("server", "160301 0001 00", "160301 0003 000000") == [("HELLO_REQUEST", None)]
     try:
         w.Conversation().feed("proxy", b"")
@@ -113,7 +121,9 @@ def test_faults():
 def relay_of_the_page():
     """The function `relay` of bindings/README.md."""
     page = (TOP / "bindings/README.md").read_text()
-    (block,) = [b for b in re.findall(r"^```python\n(.*?)^```$", page, re.M | re.S) if "def relay" in b]
+    (block,) = [
+        b for b in re.findall(r"^```python\n(.*?)^```$", page, re.M | re.S) if "def relay" in b
+    ]
     names = {}
     exec(block, names)
     return names["relay"]
@@ -131,7 +141,9 @@ PRINTED = {
 
 def told_by_program(program, client, server):
     ends = (client.fileno(), server.fileno())
-    done = subprocess.run([program, *map(str, ends)], pass_fds=ends, check=True, capture_output=True, text=True)
+    done = subprocess.run(
+        [program, *map(str, ends)], pass_fds=ends, check=True, capture_output=True, text=True
+    )
     return done.stdout.strip()
 
 
@@ -143,7 +155,7 @@ def told_by_page(client, server):
 
 
 def follow(tell, serving, asking, session=None):
-    """What is told of a handshake whose bytes are passed on, and its session."""
+    """Returns what `tell` prints for a relayed handshake, and its session."""
     (client, proxied_client), (server, proxied_server) = socket.socketpair(), socket.socketpair()
     sessions = []
 
@@ -172,16 +184,26 @@ def test_socket_pair():
     if shutil.which("openssl") is None:
         print("conversation: there is no openssl, so no handshake is made")
         return
-    tellers = [told_by_page, *(functools.partial(told_by_program, program) for program in sys.argv[1:])]
+    tellers = [
+        told_by_page,
+        *(functools.partial(told_by_program, program) for program in sys.argv[1:]),
+    ]
     with tempfile.TemporaryDirectory() as folder:
         key, certificate = f"{folder}/key", f"{folder}/certificate"
-        made = ["openssl", "req", "-x509", "-newkey", "ec", "-pkeyopt", "ec_paramgen_curve:P-256", "-nodes", "-subj", "/CN=a.test"]
-        subprocess.run([*made, "-keyout", key, "-out", certificate], check=True, capture_output=True)
+        made = [
+            "openssl", "req", "-x509", "-newkey", "ec", "-pkeyopt", "ec_paramgen_curve:P-256",
+            "-nodes", "-subj", "/CN=a.test",
+        ]
+        subprocess.run(
+            [*made, "-keyout", key, "-out", certificate], check=True, capture_output=True
+        )
         for version, first, second in (
             (ssl.TLSVersion.TLSv1_2, "FULL", "RESUMED"),
             (ssl.TLSVersion.TLSv1_3, "TLS13", "TLS13 resumed"),
         ):
-            serving, asking = ssl.SSLContext(ssl.PROTOCOL_TLS_SERVER), ssl.SSLContext(ssl.PROTOCOL_TLS_CLIENT)
+            serving, asking = ssl.SSLContext(ssl.PROTOCOL_TLS_SERVER), ssl.SSLContext(
+                ssl.PROTOCOL_TLS_CLIENT
+            )
             serving.load_cert_chain(certificate, key)
             asking.load_verify_locations(certificate)
             asking.check_hostname = False

@@ -1,8 +1,8 @@
 """`wispuddera.log`: its objects have the fields of docs/TLSLOG.md and the values of the stored
-lines, and its errors say what went wrong.
+lines, and its errors have the program's message.
 
-A program of a few lines stands in for tlslog, and writes the stored lines; where `rt ci` has built
-tlslog, that is run on the stored captures too.
+A short script replaces tlslog and prints the stored lines. If `rt ci` has built tlslog, it is run
+on the stored captures too.
 """
 
 import dataclasses
@@ -66,7 +66,11 @@ def is_line(connection, line):
 def test_fields_of_the_page():
     page = (TOP / "docs/TLSLOG.md").read_text()
     table = page[page.index("<!-- made by docs/fields: connections -->") :].split("<!-- end -->")[0]
-    named = [name for row in re.findall(r"^\| (`.*?) \|", table, re.M) for name in re.findall(r"`([^`]+)`", row)]
+    named = [
+        name
+        for row in re.findall(r"^\| (`.*?) \|", table, re.M)
+        for name in re.findall(r"`([^`]+)`", row)
+    ]
     assert [name.replace(".", "_") for name in named] == [name for name in FIELDS if name != "more"]
 
 
@@ -74,7 +78,10 @@ def test_stored_lines():
     for line in LINES:
         is_line(w.Connection.of_line(line), line)
     assert sum(w.Connection.of_line(line).stop is not None for line in LINES) > 0
-    line = b'{"ts":1.5,"uid":"C","id.orig_h":"a","id.orig_p":1,"id.resp_h":"b","id.resp_p":2,"proto":"tcp","new.field":[3]}'
+    line = (
+        b'{"ts":1.5,"uid":"C","id.orig_h":"a","id.orig_p":1,"id.resp_h":"b","id.resp_p":2,'
+        b'"proto":"tcp","new.field":[3]}'
+    )
     assert w.Connection.of_line(line).more == {"new.field": [3]}
     for wrong in (b"[]", b'{"ts":1.5}', b"{"):
         try:
@@ -92,20 +99,29 @@ def test_program():
         assert len(connections) == len(LINES)
         for connection, line in zip(connections, LINES):
             is_line(connection, line)
-        # Found by PATH, and told its words.
-        stand_in(folder, "import json\nprint(json.dumps({'ts': 1, 'uid': 'C', 'id.orig_h': '', 'id.orig_p': 1, 'id.resp_h': '', 'id.resp_p': 1, 'proto': 'tcp',"
-                 " 'words': sys.argv[1:]}))")
+        # It is found in PATH and gets its arguments.
+        stand_in(
+            folder,
+            "import json\nprint(json.dumps({'ts': 1, 'uid': 'C', 'id.orig_h': '', 'id.orig_p': 1, "
+            "'id.resp_h': '', 'id.resp_p': 1, 'proto': 'tcp', 'words': sys.argv[1:]}))",
+        )
         before = os.environ["PATH"]
         os.environ["PATH"] = folder
         try:
-            (told,) = w.log("-a.pcap", pathlib.Path("b.pcap"), ciphers="suites.txt", checksums="ignore")
+            (told,) = w.log(
+                "-a.pcap", pathlib.Path("b.pcap"), ciphers="suites.txt", checksums="ignore"
+            )
         finally:
             os.environ["PATH"] = before
-        assert told.more["words"] == ["--format", "json", "--ciphers", "suites.txt", "--checksums", "ignore", "--", "-a.pcap", "b.pcap"]
+        assert told.more["words"] == [
+            "--format", "json", "--ciphers", "suites.txt", "--checksums", "ignore", "--", "-a.pcap",
+            "b.pcap",
+        ]
 
 
 WORDS = """import json
-print(json.dumps({'ts': 1, 'uid': 'C', 'id.orig_h': '', 'id.orig_p': 1, 'id.resp_h': '', 'id.resp_p': 1, 'proto': 'tcp', 'words': sys.argv[1:]}))"""
+print(json.dumps({'ts': 1, 'uid': 'C', 'id.orig_h': '', 'id.orig_p': 1, 'id.resp_h': '',
+                  'id.resp_p': 1, 'proto': 'tcp', 'words': sys.argv[1:]}))"""
 
 
 def test_options():
@@ -113,16 +129,29 @@ def test_options():
         program = stand_in(folder, WORDS)
         front = ["--format", "json"]
         for options, words in (
-            ({"memory": "64M", "join": True}, ["--memory", "64M", "--join"]), ({"memory": 1 << 26}, ["--memory", "67108864"]),
-            ({"fields": ["ts", "uid"]}, ["--fields", "ts,uid"]), ({"fields": "ts"}, ["--fields", "ts"]),
+            ({"memory": "64M", "join": True}, ["--memory", "64M", "--join"]),
+            ({"memory": 1 << 26}, ["--memory", "67108864"]),
+            ({"fields": ["ts", "uid"]}, ["--fields", "ts,uid"]),
+            ({"fields": "ts"}, ["--fields", "ts"]),
         ):
             (told,) = w.log("a.pcap", program=program, **options)
-            assert type(told) is w.Connection and told.more["words"] == [*front, *words, "--", "a.pcap"], told
-        for options, words in (({"messages": True}, ["--messages"]), ({"certificates": True, "fields": "ts"}, ["--fields", "ts", "--certificates"])):
+            assert type(told) is w.Connection and told.more["words"] == [
+                *front, *words, "--", "a.pcap",
+            ], told
+        for options, words in (
+            ({"messages": True}, ["--messages"]),
+            ({"certificates": True, "fields": "ts"}, ["--fields", "ts", "--certificates"]),
+        ):
             (told,) = w.log("a.pcap", program=program, **options)
             assert type(told) is dict and told["words"] == [*front, *words, "--", "a.pcap"], told
-        (told,) = w.log("a.pcap", program=stand_in(folder, """print('{"version":"TLSv12","id.resp_p":443}')"""), fields="version,id.resp_p")
-        assert (told.version, told.id_resp_p, told.ts, told.uid, told.more) == ("TLSv12", 443, None, None, {})
+        (told,) = w.log(
+            "a.pcap",
+            program=stand_in(folder, """print('{"version":"TLSv12","id.resp_p":443}')"""),
+            fields="version,id.resp_p",
+        )
+        assert (told.version, told.id_resp_p, told.ts, told.uid, told.more) == (
+            "TLSv12", 443, None, None, {},
+        )
         for wrong in ({"messages": True, "certificates": True},):
             try:
                 w.log("a.pcap", program=program, **wrong)
@@ -137,8 +166,8 @@ def test_options():
 
 
 def test_streams():
-    """What is open comes to the program as its input, however much it is, and from where it
-    stands."""
+    """The program reads an open file on its standard input, whatever its size, from the file's
+    current position."""
     with tempfile.TemporaryDirectory() as folder:
         program = stand_in(folder, "print('{\"bytes\":%d}' % len(sys.stdin.buffer.read()))")
         capture = pathlib.Path(folder) / "capture"
@@ -163,7 +192,10 @@ def test_interrupts():
     raised."""
     with tempfile.TemporaryDirectory() as folder:
         line = LINES[0].decode()
-        program = stand_in(folder, f"print({line!r}, flush=True)\nsys.stdin.buffer.read()\nprint({line!r})\nsys.exit(1)")
+        program = stand_in(
+            folder,
+            f"print({line!r}, flush=True)\nsys.stdin.buffer.read()\nprint({line!r})\nsys.exit(1)",
+        )
         with subprocess.Popen(["sleep", "60"], stdout=subprocess.PIPE) as writer:
             found, timer = [], threading.Timer(1, os.kill, [os.getpid(), signal.SIGINT])
             for connection in w.log(writer.stdout, program=program):
@@ -186,16 +218,31 @@ def test_interrupts():
 def test_errors():
     with tempfile.TemporaryDirectory() as folder:
         line = LINES[0].decode()
-        program = stand_in(folder, f"print({line!r})\nsys.stderr.write('tlslog: a.pcap: no capture\\n' * 20000)\nsys.exit(2)")
+        program = stand_in(
+            folder,
+            f"print({line!r})\nsys.stderr.write('tlslog: a.pcap: no capture\\n' * 20000)\n"
+            "sys.exit(2)",
+        )
         connections = w.log("a.pcap", program=program)
         is_line(next(connections), line)
         try:
             next(connections)
             raise AssertionError("no error")
         except w.LogError as e:
-            assert e.status == 2 and e.message.startswith("tlslog: a.pcap: no capture\n") and "status 2" in str(e)
+            assert (
+                e.status == 2
+                and e.message.startswith("tlslog: a.pcap: no capture\n")
+                and "status 2" in str(e)
+            )
         try:
-            list(w.log("a.pcap", program=stand_in(folder, "import os, signal\nos.kill(os.getpid(), signal.SIGKILL)")))
+            list(
+                w.log(
+                    "a.pcap",
+                    program=stand_in(
+                        folder, "import os, signal\nos.kill(os.getpid(), signal.SIGKILL)"
+                    ),
+                )
+            )
             raise AssertionError("no error")
         except w.LogError as e:
             assert e.status == -9 and "SIGKILL" in str(e)
@@ -218,10 +265,14 @@ def test_errors():
 def test_built_program():
     program = TOP / "crates/tlslog/out/tlslog"
     if not program.exists():
-        print("log: tlslog isn't built, so a stand-in alone was run")
+        print("log: tlslog isn't built, so only a stand-in was run")
         return
-    captures = [TOP / "crates/tlslog" / word for word in (TOP / "crates/tlslog/args").read_text().split()]
-    captures = [path if path.exists() else TOP / "crates/tlslog/data" / path.name for path in captures]
+    captures = [
+        TOP / "crates/tlslog" / word for word in (TOP / "crates/tlslog/args").read_text().split()
+    ]
+    captures = [
+        path if path.exists() else TOP / "crates/tlslog/data" / path.name for path in captures
+    ]
     connections = list(w.log(*captures, program=program))
     assert len(connections) == len(LINES)
     for connection, line in zip(connections, LINES):

@@ -165,7 +165,7 @@ static void call_others(const uint8_t *b, size_t n, size_t at) {
 
 typedef uint32_t (*teller)(const uint8_t *, size_t, uint8_t *, size_t, size_t *);
 
-/* Fingerprints, each in a buffer of its size, which is as it was where none is told. */
+/* Fingerprints, each in a buffer of exactly its size. The buffer doesn't change if there is none. */
 static void call_fingerprints(const uint8_t *b, size_t n) {
     static const teller tellers[] = {wispuddera_ja3, wispuddera_dtls_ja3, wispuddera_ja3s, wispuddera_dtls_ja3s,
                                      wispuddera_ja4, wispuddera_quic_ja4, wispuddera_dtls_ja4};
@@ -182,7 +182,7 @@ static void call_fingerprints(const uint8_t *b, size_t n) {
         told = is_read(tellers[i](b, n, text, room, &missing), &missing);
         for (j = 0; j < room; j++) {
             if ((text[j] == '!') == told) {
-                printf("mutated: a fingerprint of which a character is missing, or told\n");
+                printf("mutated: a fingerprint without one of its characters, or one that was refused\n");
                 exit(1);
             }
         }
@@ -264,7 +264,7 @@ static void call_streams(const uint8_t *b, size_t n, size_t at) {
     free(buffer);
 }
 
-/* A conversation whose client says these bytes, up to `at` at first, in a buffer that holds no more than they are. */
+/* A conversation whose client sends these bytes in two pieces, cut at `at`, with a buffer of exactly their size. */
 static void call_conversation(const uint8_t *b, size_t n, size_t at) {
     uint8_t *buffer = n == 0 ? NULL : (uint8_t *)malloc(n);
     const size_t cut = at < n ? at : n, none = 0;
@@ -292,7 +292,7 @@ static void call_conversation(const uint8_t *b, size_t n, size_t at) {
         exit(1);
     }
     free(buffer);
-    /* Numbers that nobody wrote: what they say to lie in the buffer does, or nothing is read. */
+    /* Random offsets: what is read lies in the buffer, or nothing is read. */
     for (i = 0; i < n; i++) {
         ((uint8_t *)&it)[i % sizeof it] = b[i] % 2 == 0 ? 0 : b[i];
     }
@@ -326,7 +326,7 @@ int main(int argc, char **argv) {
         const uint8_t *text = is_hello ? hello : certificate;
         const size_t size = is_hello ? sizeof hello : sizeof certificate;
         const size_t begin = is_hello ? begins[next_random() % 5] : parts[next_random() % 6];
-        /* A certificate that isn't whole tells nothing but that. */
+        /* A truncated certificate is incomplete, and nothing else is read. */
         const size_t count = !is_hello && next_random() % 2 == 0 ? size - begin : next_random() % (size - begin + 1);
         const size_t at = next_random() % 4 == 0 ? next_random() % (count + 3) : 0;
         uint32_t changes = 1 + next_random() % 4;

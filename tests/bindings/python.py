@@ -1,7 +1,7 @@
-"""What no row says of the Python module: sizes of structs, buffers that are taken and refused,
-streams in pieces, threads, DTLS, names.
+"""Tests of the Python module that the rows don't cover: sizes of structs, buffers that are accepted
+and refused, streams in pieces, threads, DTLS, names.
 
-The bytes and their places are those that tests/bindings/calls.c counts by hand.
+The bytes and their offsets are those of tests/bindings/calls.c.
 """
 
 import ctypes
@@ -28,7 +28,13 @@ PROTOCOLS = bytes.fromhex("0010 0005 0003 02") + b"h2"
 VERSIONS = bytes.fromhex("002b 0005 04 0304 0303")
 SHARES = bytes.fromhex("0033 0008 0006 001d 0002 b1b2")
 BLOCK = NAME + PROTOCOLS + VERSIONS + SHARES
-BODY = b"\x03\x03" + RANDOM + bytes.fromhex("02a1a2 0006 1301 1302 c02f 01 00") + len(BLOCK).to_bytes(2, "big") + BLOCK
+BODY = (
+    b"\x03\x03"
+    + RANDOM
+    + bytes.fromhex("02a1a2 0006 1301 1302 c02f 01 00")
+    + len(BLOCK).to_bytes(2, "big")
+    + BLOCK
+)
 MESSAGE = b"\x01" + len(BODY).to_bytes(3, "big") + BODY
 RECORD = b"\x16\x03\x01" + len(MESSAGE).to_bytes(2, "big") + MESSAGE
 
@@ -46,7 +52,10 @@ def test_sizes():
     assert sizes == [*map(ctypes.sizeof, _library.STRUCTS), 0], sizes
     for i, one in enumerate(_library.STRUCTS):
         fields = [getattr(one, name).offset for name, _ in one._fields_]
-        assert [_library.field_offset(i, j) for j in range(len(fields) + 1)] == [*fields, ctypes.sizeof(one)], one
+        assert [_library.field_offset(i, j) for j in range(len(fields) + 1)] == [
+            *fields,
+            ctypes.sizeof(one),
+        ], one
 
 
 def test_hello():
@@ -57,21 +66,45 @@ def test_hello():
     assert hello.cipher_suites == (0x1301, 0x1302, 0xC02F) and hello.compression_methods == (0,)
     assert hello.extensions == BLOCK and hello.next == len(BODY)
     assert [e.kind for e in w.extensions(hello.extensions)] == [0, 16, 43, 51]
-    assert w.server_name(BLOCK) == w.server_name_of_hello(BODY) == w.server_name_of_record(RECORD) == b"a.b"
-    assert w.server_name(PROTOCOLS) is None and list(w.protocols(BLOCK)) == [b"h2"] and w.protocols(NAME) is None
-    assert w.versions(w.find_extension(BLOCK, 43)) == (0x0304, 0x0303) and w.find_extension(BLOCK, 44) is None
+    assert (
+        w.server_name(BLOCK)
+        == w.server_name_of_hello(BODY)
+        == w.server_name_of_record(RECORD)
+        == b"a.b"
+    )
+    assert (
+        w.server_name(PROTOCOLS) is None
+        and list(w.protocols(BLOCK)) == [b"h2"]
+        and w.protocols(NAME) is None
+    )
+    assert (
+        w.versions(w.find_extension(BLOCK, 43)) == (0x0304, 0x0303)
+        and w.find_extension(BLOCK, 44) is None
+    )
     assert w.signature_schemes(bytes.fromhex("0005 0403 0804 08")) == (0x0403, 0x0804)
     assert w.best_version(0x0303, BLOCK) == 0x0304 and w.best_version(0x0302, None) == 0x0302
-    assert [(s.group, bytes(s.value)) for s in w.key_shares(w.find_extension(BLOCK, 51))] == [(29, b"\xb1\xb2")]
+    assert [(s.group, bytes(s.value)) for s in w.key_shares(w.find_extension(BLOCK, 51))] == [
+        (29, b"\xb1\xb2")
+    ]
     assert w.key_share(bytes.fromhex("001d 0001 07")).value == b"\x07"
     assert w.find_body(MESSAGE, 1) == BODY and w.find_body(MESSAGE, 2) is None
 
 
 def test_detection():
-    assert w.looks_like_tls(RECORD) is True and w.looks_like_tls(RECORD[:5]) is True and w.looks_like_tls(RECORD[:4]) is None
-    for first, looks in (("1403030001", True), ("1803044100", True), ("1603ff0001", True), ("1803044101", False), ("1303030001", False), ("1903030001", False)):
+    assert (
+        w.looks_like_tls(RECORD) is True
+        and w.looks_like_tls(RECORD[:5]) is True
+        and w.looks_like_tls(RECORD[:4]) is None
+    )
+    for first, looks in (
+        ("1403030001", True), ("1803044100", True), ("1603ff0001", True), ("1803044101", False),
+        ("1303030001", False), ("1903030001", False),
+    ):
         assert w.looks_like_tls(bytes.fromhex(first)) is looks
-    for first in (b"GET / HTTP/1.0\r\n\r\n", bytes.fromhex("1602010001"), bytes.fromhex("1604000001"), bytes.fromhex("16fefd0000")):
+    for first in (
+        b"GET / HTTP/1.0\r\n\r\n", bytes.fromhex("1602010001"), bytes.fromhex("1604000001"),
+        bytes.fromhex("16fefd0000"),
+    ):
         assert w.looks_like_tls(first) is False
     assert w.looks_like_tls(b"") is None
 
@@ -113,24 +146,49 @@ def test_streams():
 def test_dtls():
     datagram = bytes.fromhex("16 fefd 0001 000000001234 000e  0b 000009 0005 000003 000002 d1d2")
     (record,) = w.dtls_records(datagram)
-    assert (record.content_type, record.version, record.epoch, record.sequence_number) == (22, 0xFEFD, 1, 0x1234)
+    assert (record.content_type, record.version, record.epoch, record.sequence_number) == (
+        22, 0xFEFD, 1, 0x1234,
+    )
     (message,) = w.dtls_messages(record.fragment)
-    assert (message.kind, message.length, message.message_seq, message.fragment_offset, message.is_part) == (11, 9, 5, 3, True)
+    assert (
+        message.kind, message.length, message.message_seq, message.fragment_offset, message.is_part,
+    ) == (11, 9, 5, 3, True)
     assert message.body == b"\xd1\xd2"
     body = b"\xfe\xfd" + RANDOM + bytes.fromhex("00 02e1e2 0004c02f1301 0100 0000")
     hello = w.dtls_client_hello(body)
-    assert (hello.version, hello.random, hello.session_id, hello.cookie) == (0xFEFD, RANDOM, b"", b"\xe1\xe2")
-    assert (hello.cipher_suites, hello.compression_methods, hello.extensions) == ((0xC02F, 0x1301), (0,), b"")
-    assert hello.next == len(body) and refusal_of(w.dtls_client_hello, body[:33]) == (w.Incomplete, 1)
+    assert (hello.version, hello.random, hello.session_id, hello.cookie) == (
+        0xFEFD, RANDOM, b"", b"\xe1\xe2",
+    )
+    assert (hello.cipher_suites, hello.compression_methods, hello.extensions) == (
+        (0xC02F, 0x1301),
+        (0,),
+        b"",
+    )
+    assert hello.next == len(body) and refusal_of(w.dtls_client_hello, body[:33]) == (
+        w.Incomplete,
+        1,
+    )
     body = b"\xfe\xfd" + RANDOM + bytes.fromhex("02c1c2 c02f 01 0004 00170000")
     hello = w.dtls_server_hello(body)
-    assert (hello.version, hello.session_id, hello.cipher_suite, hello.compression_method) == (0xFEFD, b"\xc1\xc2", 0xC02F, 1)
-    assert hello.extensions == bytes.fromhex("00170000") and refusal_of(w.server_hello, body) == (w.Refused, "Tag")
+    assert (hello.version, hello.session_id, hello.cipher_suite, hello.compression_method) == (
+        0xFEFD, b"\xc1\xc2", 0xC02F, 1,
+    )
+    assert hello.extensions == bytes.fromhex("00170000") and refusal_of(w.server_hello, body) == (
+        w.Refused,
+        "Tag",
+    )
 
 
 CERTIFICATES = pathlib.Path(__file__).resolve().parents[2] / "tests" / "units" / "x509"
-KEYS = {w.KeyKind.ED25519: "ed25519", w.KeyKind.ED448: "ed448", w.KeyKind.REFUSED: "ec without a name"}
-NAMES = {w.NameKind.DNS: "DNS", w.NameKind.EMAIL: "email", w.NameKind.URI: "URI", w.NameKind.IP: "IP Address"}
+KEYS = {
+    w.KeyKind.ED25519: "ed25519",
+    w.KeyKind.ED448: "ed448",
+    w.KeyKind.REFUSED: "ec without a name",
+}
+NAMES = {
+    w.NameKind.DNS: "DNS", w.NameKind.EMAIL: "email", w.NameKind.URI: "URI",
+    w.NameKind.IP: "IP Address",
+}
 
 
 def dotted(oid):
@@ -159,19 +217,27 @@ def name_text(name):
     sets = []
     for _, attributes, _ in elements(next(elements(bytes(name)))[1]):
         pairs = (list(elements(attribute)) for _, attribute, _ in elements(attributes))
-        sets.append("+".join(f"{dotted(kind[1])}=#{value[2].hex().upper()}" for kind, value in pairs))
+        sets.append(
+            "+".join(f"{dotted(kind[1])}=#{value[2].hex().upper()}" for kind, value in pairs)
+        )
     return ",".join(sets)
 
 
 def address_text(content):
     address = ipaddress.ip_address(bytes(content))
-    return str(address) if address.version == 4 else ":".join(f"{int(it, 16):X}" for it in address.exploded.split(":"))
+    return (
+        str(address)
+        if address.version == 4
+        else ":".join(f"{int(it, 16):X}" for it in address.exploded.split(":"))
+    )
 
 
 def alt_name_text(name):
     if name.kind not in NAMES:
         return f"other {name.kind:X}"
-    return f"{NAMES[name.kind]}:{address_text(name.content) if name.kind == w.NameKind.IP else bytes(name.content).decode()}"
+    is_address = name.kind == w.NameKind.IP
+    text = address_text(name.content) if is_address else bytes(name.content).decode()
+    return f"{NAMES[name.kind]}:{text}"
 
 
 def key_text(certificate):
@@ -184,7 +250,7 @@ def key_text(certificate):
 
 
 def lines_of(text, certificate):
-    """What the module tells of a certificate, as the lines that are openssl's."""
+    """Yields the fields that the module reads in a certificate, in the form of the stored lines."""
     yield f"version {certificate.version + 1}"
     yield f"serial_number {certificate.serial_number.hex().upper()}"
     yield f"issuer {name_text(certificate.issuer)}"
@@ -196,30 +262,51 @@ def lines_of(text, certificate):
     yield f"signature_value {certificate.signature.hex().upper()}"
     yield f"signed {text.index(bytes(certificate.signed_bytes))} {len(certificate.signed_bytes)}"
     for it in w.x509_extensions(certificate.extensions):
-        yield f"extension {dotted(it.oid)} {'critical' if it.critical else '-'} {it.value.hex().upper()}"
+        critical = "critical" if it.critical else "-"
+        yield f"extension {dotted(it.oid)} {critical} {it.value.hex().upper()}"
     for name in certificate.names() or ():
         yield f"subject_alt_name {alt_name_text(name)}"
 
 
 def test_certificates():
-    """Each stored certificate, beside what openssl told of it when it was made."""
-    told = re.findall(r'name: "(.*)",\n +bytes: "(.*)",\n +wanted: &\[\n((?: +".*",\n)*)', (CERTIFICATES / "made.rt.unproved").read_text())
-    fields = {line.split()[0] for line in lines_of(*(lambda t: (t, w.read_x509(t)))(bytes.fromhex(next(it[1] for it in told if it[0] == "rsa_1024"))))}
+    """Compares each stored certificate with the fields that openssl printed when it was made."""
+    told = re.findall(
+        r'name: "(.*)",\n +bytes: "(.*)",\n +wanted: &\[\n((?: +".*",\n)*)',
+        (CERTIFICATES / "made.rt.unproved").read_text(),
+    )
+    fields = {
+        line.split()[0]
+        for line in lines_of(
+            *(lambda t: (t, w.read_x509(t)))(
+                bytes.fromhex(next(it[1] for it in told if it[0] == "rsa_1024"))
+            )
+        )
+    }
     assert len(told) == len(list((CERTIFICATES / "stored").glob("*.der"))) > 20
     for name, text, wanted in told:
         text = bytes.fromhex(text)
         wanted = [line for line in re.findall(r'"(.*)",', wanted) if line.split()[0] in fields]
         certificate = w.read_x509(text)
         assert [*lines_of(text, certificate)] == wanted, name
-        assert certificate.next == len(text) and w.read_x509(bytearray(text + b"x")).next == len(text)
+        assert certificate.next == len(text) and w.read_x509(bytearray(text + b"x")).next == len(
+            text
+        )
         # Cut at each byte it is incomplete: behind the first four bytes, which have tag and length,
         # by all that is missing.
         for count in range(len(text)):
             kind, missing = refusal_of(w.read_x509, text[:count])
-            assert kind is w.Incomplete and (count < 4 or missing == len(text) - count), (name, count)
+            assert kind is w.Incomplete and (count < 4 or missing == len(text) - count), (
+                name,
+                count,
+            )
     text = bytearray(told[0][1] and bytes.fromhex(told[0][1]))
-    for at, byte, kind in ((0, 0x31, "Tag"), (1, 0x80, "Switch"), (1, 0x84, "TooLarge"), (2, 0, "Verify")):
-        assert refusal_of(w.read_x509, text[:at] + bytes([byte]) + text[at + 1 :]) == (w.Refused, kind)
+    for at, byte, kind in (
+        (0, 0x31, "Tag"), (1, 0x80, "Switch"), (1, 0x84, "TooLarge"), (2, 0, "Verify"),
+    ):
+        assert refusal_of(w.read_x509, text[:at] + bytes([byte]) + text[at + 1 :]) == (
+            w.Refused,
+            kind,
+        )
     assert refusal_of(w.x509_names, b"\x31\x00") == (w.Refused, "Tag")
     assert refusal_of(next, w.x509_names(b"\x30\x01\x1f")) == (w.Refused, "Switch")
     assert refusal_of(next, w.x509_extensions(b"\x30\x02\x06")) == (w.Incomplete, 1)
@@ -228,9 +315,19 @@ def test_certificates():
 def test_outcome():
     kind, to_server = w.EventKind, {1: True, 16: True}
     hello = w.event_of_message(2, b"\x03\x03" + RANDOM + bytes.fromhex("00 c02f 00"))
-    said = [(w.event_of_message(1, BODY), True), (hello, False), *((w.event_of_message(k, b""), k in to_server) for k in (11, 12, 14, 16))]
-    said += [(kind.CHANGE_CIPHER_SPEC, True), (kind.ENCRYPTED, True), (kind.CHANGE_CIPHER_SPEC, False), (kind.ENCRYPTED, False)]
-    assert w.outcome([]) == w.outcome(said[:7]) == w.Outcome.WAITING and w.outcome(iter(said)) == w.Outcome.FULL
+    said = [
+        (w.event_of_message(1, BODY), True),
+        (hello, False),
+        *((w.event_of_message(k, b""), k in to_server) for k in (11, 12, 14, 16)),
+    ]
+    said += [
+        (kind.CHANGE_CIPHER_SPEC, True), (kind.ENCRYPTED, True), (kind.CHANGE_CIPHER_SPEC, False),
+        (kind.ENCRYPTED, False),
+    ]
+    assert (
+        w.outcome([]) == w.outcome(said[:7]) == w.Outcome.WAITING
+        and w.outcome(iter(said)) == w.Outcome.FULL
+    )
     assert w.outcome([*said[:2], (w.event_of_alert(2, 40), True)]) == w.Outcome.BROKEN_OFF
     flow = w.Flow()
     for i, (said_kind, side) in enumerate(said):
@@ -254,16 +351,27 @@ def payloads(capture):
         place += 16 + length
         if frame[12:14] == b"\x08\x00":
             header = 14 + frame[14] % 16 * 4
-            addresses, protocol, whole = (frame[26:30], frame[30:34]), frame[23], 14 + int.from_bytes(frame[16:18], "big")
+            addresses, protocol, whole = (
+                (frame[26:30], frame[30:34]),
+                frame[23],
+                14 + int.from_bytes(frame[16:18], "big"),
+            )
         elif frame[12:14] == b"\x86\xdd":
             header = 54
-            addresses, protocol, whole = (frame[22:38], frame[38:54]), frame[20], 54 + int.from_bytes(frame[18:20], "big")
+            addresses, protocol, whole = (
+                (frame[22:38], frame[38:54]),
+                frame[20],
+                54 + int.from_bytes(frame[18:20], "big"),
+            )
         else:
             continue
-        source, target = ((address, frame[header + i : header + i + 2]) for address, i in zip(addresses, (0, 2)))
+        source, target = (
+            (address, frame[header + i : header + i + 2]) for address, i in zip(addresses, (0, 2))
+        )
         if protocol == 6:
             payload = frame[header + frame[header + 12] // 16 * 4 : whole]
-            yield "tcp", (source, target), int.from_bytes(frame[header + 4 : header + 8], "big"), payload
+            sequence = int.from_bytes(frame[header + 4 : header + 8], "big")
+            yield "tcp", (source, target), sequence, payload
         elif protocol == 17:
             yield "udp", (source, target), None, frame[header + 8 : whole]
 
@@ -277,11 +385,14 @@ def streams(capture):
             datagrams.setdefault(ends, []).append(payload)
         elif payload:
             segments.setdefault(ends, {}).setdefault(number, payload)
-    return {ends: b"".join(parts[number] for number in sorted(parts)) for ends, parts in segments.items()}, datagrams
+    return {
+        ends: b"".join(parts[number] for number in sorted(parts))
+        for ends, parts in segments.items()
+    }, datagrams
 
 
 def hellos(stream):
-    """The bodies of the ClientHellos and ServerHellos that stand in the clear."""
+    """The bodies of the ClientHellos and ServerHellos that are in the clear."""
     messages = w.MessageStream()
     for record in w.RecordStream().feed(stream):
         if record.content_type == 20:
@@ -293,8 +404,14 @@ def hellos(stream):
 
 
 def test_fingerprints_of_captures():
-    stored = [line for line in map(json.loads, (TOP / "crates/tlslog/stdout").read_text().splitlines()) if line["proto"] == "tcp"]
-    wanted = {(line[name], name) for line in stored for name in ("ja3", "ja3s", "ja4") if name in line}
+    stored = [
+        line
+        for line in map(json.loads, (TOP / "crates/tlslog/stdout").read_text().splitlines())
+        if line["proto"] == "tcp"
+    ]
+    wanted = {
+        (line[name], name) for line in stored for name in ("ja3", "ja3s", "ja4") if name in line
+    }
     assert len(wanted) > 20
     found = set()
     for capture in sorted((TOP / "crates/tlslog/data").glob("*.pcap")):
@@ -308,7 +425,9 @@ def test_fingerprints_of_captures():
     # Hellos that a HelloRetryRequest answers, and these, have fingerprints too, and no line.
     assert wanted <= found and len(found - wanted) < 12, (wanted - found, found - wanted)
     stored = list(map(json.loads, (TOP / "captures/dtls/lines").read_text().splitlines()))
-    wanted = {(line[name], name) for line in stored for name in ("ja3", "ja3s", "ja4") if name in line}
+    wanted = {
+        (line[name], name) for line in stored for name in ("ja3", "ja3s", "ja4") if name in line
+    }
     assert len(wanted) > 4
     found = set()
     for capture in sorted((TOP / "captures/dtls").glob("*.pcap")):
@@ -330,19 +449,30 @@ def dtls_hellos(datagrams):
                 if record.content_type == 22 and record.epoch == 0:
                     for message in w.dtls_messages(record.fragment):
                         if message.kind in (1, 2):
-                            body = parts.setdefault((message.message_seq, message.kind), bytearray(message.length))
-                            body[message.fragment_offset : message.fragment_offset + len(message.body)] = message.body
+                            body = parts.setdefault(
+                                (message.message_seq, message.kind), bytearray(message.length)
+                            )
+                            body[
+                                message.fragment_offset : message.fragment_offset
+                                + len(message.body)
+                            ] = message.body
         except w.Incomplete:
             continue
     return [(bytes(body), kind) for (_, kind), body in parts.items()]
 
 
 def test_fingerprints():
-    assert w.ja3(BODY) == "5f671f8e05377b8c8876847f82d52406" and w.ja4(BODY) == "t13d0304h2_40b44b994229_a56c5b993250"
+    assert (
+        w.ja3(BODY) == "5f671f8e05377b8c8876847f82d52406"
+        and w.ja4(BODY) == "t13d0304h2_40b44b994229_a56c5b993250"
+    )
     for call in (w.ja3, w.ja4):
         assert refusal_of(call, BODY[:33]) == (w.Incomplete, 1)
         assert refusal_of(call, BODY[:34] + b"\x21" + BODY[35:]) == (w.Refused, "Verify")
-    assert refusal_of(w.ja3s, b"\xfe\xfd" + bytes(40)) == (w.Refused, "Tag") and len(w.ja3s(b"\xfe\xfd" + bytes(40), dtls=True)) == 32
+    assert (
+        refusal_of(w.ja3s, b"\xfe\xfd" + bytes(40)) == (w.Refused, "Tag")
+        and len(w.ja3s(b"\xfe\xfd" + bytes(40), dtls=True)) == 32
+    )
     try:
         w.ja4(BODY, "sctp")
         raise AssertionError("no error")
@@ -352,8 +482,12 @@ def test_fingerprints():
     suites = b"".join(n.to_bytes(2, "big") for n in range(32767, 0, -1))
     body = b"\x03\x03" + RANDOM + b"\0" + len(suites).to_bytes(2, "big") + suites + b"\x01\0"
     kept = [n for n in range(1, 32768) if not (n // 256 == n % 256 and n % 16 == 10)]
-    assert w.ja4(body) == f"t12i990000_{hashlib.sha256(','.join(f'{n:04x}' for n in kept).encode()).hexdigest()[:12]}_000000000000"
-    assert w.ja3(body) == hashlib.md5(f"771,{'-'.join(map(str, reversed(kept)))},,,".encode()).hexdigest()
+    ciphers = hashlib.sha256(",".join(f"{n:04x}" for n in kept).encode()).hexdigest()[:12]
+    assert w.ja4(body) == f"t12i990000_{ciphers}_000000000000"
+    assert (
+        w.ja3(body)
+        == hashlib.md5(f"771,{'-'.join(map(str, reversed(kept)))},,,".encode()).hexdigest()
+    )
 
 
 def test_threads():

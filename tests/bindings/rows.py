@@ -3,15 +3,17 @@ file, through the Python module: values, places, kinds of refusals, and missing 
 
     rows.py [PROGRAM]
 
-PROGRAM, if it is named, is asked the same: `answers`, which tests/bindings/answers.rs is, over the
-Rust crate.
+PROGRAM, if given, gets the same rows: tests/bindings/answers.rs, a program over the Rust crate.
 
-What a row says of a call is compared with what the module answers where both tell the same: a whole
-value, made into the row's text here; or where more is decoded than the module does, what stands in
-front of it: the rest, and how many bytes are missing. A row of an extension, or of a list of them,
-also says what is found in these bytes as a block (names, versions, groups, contents), and in a
-hello and a record that are put around the block; one that frames a number and bytes says it of a
-key share. Each row is asked on `bytes`, on a `bytearray` and on a `memoryview` of either.
+The answer that a row wants is compared with the module's:
+
+- If the module decodes the whole value, the value, printed in the form of the row.
+- If the call decodes more than the module, the rest and the number of missing bytes.
+- The row of an extension, or of a list of them, is also read as a block (names, versions, groups,
+  contents), and in a hello and a record around that block.
+- The row of a number and bytes behind their length is also read as a key share.
+
+Each row is read from `bytes`, a `bytearray` and a `memoryview` of either.
 """
 
 import functools
@@ -45,7 +47,8 @@ def rows(file):
             head, *clauses = CLAUSE.split(f"{row} ")
             match = re.match(r"([A-Za-z_][\w:.]*(?:\s*,\s*[A-Za-z_][\w:.]*)*)(.*)", head)
             calls = [call.strip() for call in match[1].split(",")]
-            yield calls, match[2], list(zip(clauses[::2], (text.strip() for text in clauses[1::2]))), names
+            texts = (text.strip() for text in clauses[1::2])
+            yield calls, match[2], list(zip(clauses[::2], texts)), names
 
 
 def bytes_of(text, names):
@@ -59,13 +62,14 @@ def bytes_of(text, names):
 
 
 def expanded(text):
-    """The digits of words, of which one that ends in `*` and a number stands so many times."""
+    """The digits of words; a word that ends in `*` and a number is repeated so many times."""
     words = (word.partition("*") for word in text.split())
     return "".join(digits * int(count or 1) for digits, _, count in words)
 
 
 def plain(answer):
     """A row's answer with its bytes as digits alone."""
+
     def digits(match):
         return f"<{expanded(match[1])}>"
 
@@ -86,21 +90,36 @@ def numbers(name, values):
 
 def raw_record(data):
     r = w.record(data)
-    header = f"TlsRecordHeader {{ record_type: TlsRecordType({r.content_type}), version: TlsVersion({r.version}), len: {len(r.fragment)} }}"
+    header = (
+        f"TlsRecordHeader {{ record_type: TlsRecordType({r.content_type}), "
+        f"version: TlsVersion({r.version}), len: {len(r.fragment)} }}"
+    )
     return r.next, f"TlsRawRecord {{ hdr: {header}, bytes: {shown(r.fragment)} }}"
 
 
 def client_hello(data):
     h = w.client_hello(data)
-    lists = f"ciphers: {numbers('TlsCipherSuiteID', h.cipher_suites)}, comp: {numbers('TlsCompressionID', h.compression_methods)}"
-    front = f"version: TlsVersion({h.version}), random: {shown(h.random)}, session_id: {option(h.session_id if len(h.session_id) else None)}"
+    lists = (
+        f"ciphers: {numbers('TlsCipherSuiteID', h.cipher_suites)}, "
+        f"comp: {numbers('TlsCompressionID', h.compression_methods)}"
+    )
+    front = (
+        f"version: TlsVersion({h.version}), random: {shown(h.random)}, "
+        f"session_id: {option(h.session_id if len(h.session_id) else None)}"
+    )
     return h.next, f"TlsClientHelloContents {{ {front}, {lists}, ext: {option(h.extensions)} }}"
 
 
 def server_hello(data, read=w.server_hello):
     h = read(data)
-    front = f"version: TlsVersion({h.version}), random: {shown(h.random)}, session_id: {option(h.session_id if len(h.session_id) else None)}"
-    picked = f"cipher: TlsCipherSuiteID({h.cipher_suite}), compression: TlsCompressionID({h.compression_method})"
+    front = (
+        f"version: TlsVersion({h.version}), random: {shown(h.random)}, "
+        f"session_id: {option(h.session_id if len(h.session_id) else None)}"
+    )
+    picked = (
+        f"cipher: TlsCipherSuiteID({h.cipher_suite}), "
+        f"compression: TlsCompressionID({h.compression_method})"
+    )
     return h.next, f"TlsServerHelloContents {{ {front}, {picked}, ext: {option(h.extensions)} }}"
 
 
@@ -110,9 +129,19 @@ def dtls_server_hello(data):
 
 def dtls_client_hello(data):
     h = w.dtls_client_hello(data)
-    lists = f"ciphers: {numbers('TlsCipherSuiteID', h.cipher_suites)}, comp: {numbers('TlsCompressionID', h.compression_methods)}"
-    front = f"version: TlsVersion({h.version}), random: {shown(h.random)}, session_id: {option(h.session_id if len(h.session_id) else None)}"
-    return h.next, f"DTLSClientHello {{ {front}, cookie: {shown(h.cookie)}, {lists}, ext: {option(h.extensions)} }}"
+    lists = (
+        f"ciphers: {numbers('TlsCipherSuiteID', h.cipher_suites)}, "
+        f"comp: {numbers('TlsCompressionID', h.compression_methods)}"
+    )
+    front = (
+        f"version: TlsVersion({h.version}), random: {shown(h.random)}, "
+        f"session_id: {option(h.session_id if len(h.session_id) else None)}"
+    )
+    return (
+        h.next,
+        f"DTLSClientHello {{ {front}, cookie: {shown(h.cookie)}, {lists}, "
+        f"ext: {option(h.extensions)} }}",
+    )
 
 
 def unknown(data):
@@ -131,7 +160,9 @@ def whole(items):
 
 
 def certificate(data):
-    found = ", ".join(f"RawCertificate {{ bytes: {shown(it)} }}" for it in whole(w.certificates(data)))
+    found = ", ".join(
+        f"RawCertificate {{ bytes: {shown(it)} }}" for it in whole(w.certificates(data))
+    )
     return None, f"Certificate(TlsCertificateContents {{ cert_chain: [{found}] }})"
 
 
@@ -155,6 +186,7 @@ def some(value):
 def of_extension(kind, read):
     """What a reader of contents makes of the first extension of that type; nothing where there is
     none."""
+
     def ask(block):
         content = w.find_extension(block, kind)
         return some(None if content is None else read(content)[1])
@@ -176,7 +208,9 @@ def name_in(read, around):
 
 def in_hello(block):
     """The body of a ClientHello that has that block of extensions."""
-    return bytes.fromhex(f"0303 {bytes(32).hex()} 00 0002 1301 01 00 {len(block):04x}") + bytes(block)
+    return bytes.fromhex(f"0303 {bytes(32).hex()} 00 0002 1301 01 00 {len(block):04x}") + bytes(
+        block
+    )
 
 
 def in_record(block):
@@ -186,7 +220,9 @@ def in_record(block):
 
 def protocols(block):
     names = w.protocols(block)
-    return some(None if names is None else f"ALPN([{', '.join(shown(name) for name in whole(names))}])")
+    return some(
+        None if names is None else f"ALPN([{', '.join(shown(name) for name in whole(names))}])"
+    )
 
 
 def found_extension(kind, block):
@@ -218,27 +254,38 @@ def key_share(data):
 
 def key_shares(data):
     """In a list that has these bytes."""
-    return None, f"[{', '.join(map(entry, whole(w.key_shares(len(data).to_bytes(2, 'big') + bytes(data)))))}]"
+    shares = whole(w.key_shares(len(data).to_bytes(2, "big") + bytes(data)))
+    return None, f"[{', '.join(map(entry, shares))}]"
 
 
 def record(data):
     r = w.record(data)
-    header = f"TlsRecordHeader {{ record_type: TlsRecordType({r.content_type}), version: TlsVersion({r.version}), len: {len(r.fragment)} }}"
+    header = (
+        f"TlsRecordHeader {{ record_type: TlsRecordType({r.content_type}), "
+        f"version: TlsVersion({r.version}), len: {len(r.fragment)} }}"
+    )
     return r.next, f"TlsPlaintext {{ hdr: {header}, "
 
 
 def dtls_record(data):
     r = w.dtls_record(data)
     number = f"epoch: {r.epoch}, sequence_number: {r.sequence_number}, length: {len(r.fragment)}"
-    header = f"DTLSRecordHeader {{ content_type: TlsRecordType({r.content_type}), version: TlsVersion({r.version}), {number} }}"
+    header = (
+        f"DTLSRecordHeader {{ content_type: TlsRecordType({r.content_type}), "
+        f"version: TlsVersion({r.version}), {number} }}"
+    )
     return r.next, f"DTLSPlaintext {{ header: {header}, "
 
 
 def dtls_message(data):
     m = w.dtls_message(data)
     part = f"fragment_offset: {m.fragment_offset}, fragment_length: {len(m.body)}, "
-    front = f"msg_type: TlsHandshakeType({m.kind}), length: {m.length}, message_seq: {m.message_seq}, {part}"
-    return m.next, f"Handshake(DTLSMessageHandshake {{ {front}body: {f'Fragment({shown(m.body)})' if m.is_part else ''}"
+    front = (
+        f"msg_type: TlsHandshakeType({m.kind}), length: {m.length}, "
+        f"message_seq: {m.message_seq}, {part}"
+    )
+    body = f"Fragment({shown(m.body)})" if m.is_part else ""
+    return m.next, f"Handshake(DTLSMessageHandshake {{ {front}body: {body}"
 
 
 def is_fragment(data):
@@ -248,18 +295,35 @@ def is_fragment(data):
 
 def read_x509(data):
     c = w.read_x509(data)
-    kinds = {w.KeyKind.RSA: f"Rsa {{ bits: {c.key_bits} }}", w.KeyKind.EC: f"Ec {{ curve: {shown(c.key_parameters)} }}"}
+    kinds = {
+        w.KeyKind.RSA: f"Rsa {{ bits: {c.key_bits} }}",
+        w.KeyKind.EC: f"Ec {{ curve: {shown(c.key_parameters)} }}",
+    }
     key = kinds.get(c.key_kind) or c.key_kind.name.capitalize()
-    front = f"version: {c.version}, signed_bytes: {shown(c.signed_bytes)}, serial_number: {shown(c.serial_number)}"
-    names = f"signature_algorithm: {shown(c.signature_algorithm)}, issuer: {shown(c.issuer)}, subject: {shown(c.subject)}"
+    front = (
+        f"version: {c.version}, signed_bytes: {shown(c.signed_bytes)}, "
+        f"serial_number: {shown(c.serial_number)}"
+    )
+    names = (
+        f"signature_algorithm: {shown(c.signature_algorithm)}, issuer: {shown(c.issuer)}, "
+        f"subject: {shown(c.subject)}"
+    )
     keys = f"key_algorithm: {shown(c.key_algorithm)}, key: {key}, public_key: {shown(c.public_key)}"
     behind = f"extensions: {shown(c.extensions)}, signature: {shown(c.signature)}"
-    return c.next, f"X509 {{ {front}, {names}, not_before: {c.not_before}, not_after: {c.not_after}, {keys}, {behind} }}"
+    return (
+        c.next,
+        f"X509 {{ {front}, {names}, not_before: {c.not_before}, not_after: {c.not_after}, "
+        f"{keys}, {behind} }}",
+    )
 
 
 def read_x509_extension(data):
     e = w._x509_extension(w._Given(data), 0)
-    return e.next, f"X509Extension {{ oid: {shown(e.oid)}, critical: {str(bool(e.critical)).lower()}, value: {shown(e.value)} }}"
+    critical = str(bool(e.critical)).lower()
+    return (
+        e.next,
+        f"X509Extension {{ oid: {shown(e.oid)}, critical: {critical}, value: {shown(e.value)} }}",
+    )
 
 
 def name_of_x509(name):
@@ -275,8 +339,8 @@ def x509_names(data):
     return None, f"[{', '.join(map(name_of_x509, whole(w.x509_names(data))))}]"
 
 
-# Calls whose answer the module tells whole: the end of what was read (None where that isn't told),
-# and the value.
+# Calls whose answers the module has in full: the end of what was read (None if there is none), and
+# the value.
 WHOLE = {
     "parse_tls_raw_record": raw_record,
     "parse_tls_handshake_client_hello": client_hello,
@@ -291,13 +355,13 @@ WHOLE = {
     "read_x509_name": read_x509_name,
     "x509_names": x509_names,
 }
-# Bodies of DTLS's messages, by type, of which the rows of the call on whole messages tell the cuts,
-# and in part the value.
+# Bodies of DTLS messages, by type. The rows of whole messages have their answers at each cut, and
+# part of the value.
 BODIES = {1: "dtls_client_hello", 2: "dtls_server_hello"}
 WHOLE.update({"dtls_client_hello": dtls_client_hello, "dtls_server_hello": dtls_server_hello})
 WHOLE["parse_dtls_message_handshake.is_fragment"] = is_fragment
-# Calls that decode what the module leaves as it stands: the front of the value, as far as the
-# module tells it.
+# Calls that decode bytes which the module returns undecoded: the front of the value, as far as the
+# module decodes it.
 FRONT = {
     "parse_tls_plaintext": record,
     "parse_tls_message_handshake": lambda data: (w.message(data).next, ""),
@@ -315,14 +379,22 @@ FOUND = {
     10: {"groups": of_extension(10, groups)},
     13: {"signature_schemes": of_extension(13, signature_schemes)},
     16: {"protocols": protocols},
-    43: {"versions": of_extension(43, versions), "best_version": lambda block: some(w.best_version(OWN_VERSION, block))},
+    43: {
+        "versions": of_extension(43, versions),
+        "best_version": lambda block: some(w.best_version(OWN_VERSION, block)),
+    },
 }
-# Its extension, in a value; and the rows of an extension that say nothing of one by its number
-# alone.
-NAMES = {"SNI": 0, "EllipticCurves": 10, "SignatureAlgorithms": 13, "ALPN": 16, "SupportedVersions": 43}
+# The numbers of extensions, by their names in a value; and the calls whose rows are also read as an
+# extension.
+NAMES = {
+    "SNI": 0, "EllipticCurves": 10, "SignatureAlgorithms": 13, "ALPN": 16, "SupportedVersions": 43,
+}
 EXTENSIONS = {
     f"parse_tls_extension{name}"
-    for name in ("", "_sni", "_elliptic_curves", "_signature_algorithms", "_supported_versions", "_key_share")
+    for name in (
+        "", "_sni", "_elliptic_curves", "_signature_algorithms", "_supported_versions",
+        "_key_share",
+    )
 }
 OWN_VERSION, MOST_IN_HELLO = 0x0303, 16_000
 # What is asked beside these, with a number behind the name, or of rows of another call.
@@ -350,7 +422,11 @@ def told(read, data):
 def is_same(call, found, wanted):
     if call in FRONT or call.startswith(("find_extension", "find_body")):
         # Decoded further: what is whole may still be refused.
-        return wanted.startswith(found) if wanted.startswith("Ok") else found.startswith("Ok") or found == wanted
+        return (
+            wanted.startswith(found)
+            if wanted.startswith("Ok")
+            else found.startswith("Ok") or found == wanted
+        )
     return re.sub(r"rest \d+", "rest _", wanted) == found if "rest _" in found else wanted == found
 
 
@@ -375,7 +451,9 @@ def ask(call, data, wanted, where):
         answers.append(("Rust", told_by_program(call, data)))
     for name, found in answers:
         if not is_same(call, found, wanted):
-            sys.exit(f"rows: {where}: {call} on {data.hex()} as {name}: {found} in place of {wanted}")
+            sys.exit(
+                f"rows: {where}: {call} on {data.hex()} as {name}: {found} in place of {wanted}"
+            )
     counts[call.partition(":")[0]] += 1
 
 
@@ -385,7 +463,8 @@ def fronts(data, parts):
     for kind, size, error in re.findall(r"(Missing|Refused|Read)\((\d+)(?:,\s*(\w+))?\)", parts):
         for count in range(begin, begin + int(size)):
             if kind != "Read":
-                yield count, f"Incomplete({begin + int(size) - count})" if kind == "Missing" else f"Error({error})"
+                missing = begin + int(size) - count
+                yield count, f"Incomplete({missing})" if kind == "Missing" else f"Error({error})"
         begin += int(size)
 
 
@@ -396,7 +475,7 @@ def ask_cut(call, data, parts, where):
 
 
 def ask_body(data, clauses, where):
-    """Compares a body of DTLS with what the row says of it within the message's lengths."""
+    """Compares a DTLS body with the row's answers within the lengths of its message."""
     call = BODIES[data[0]]
     for kind, text in clauses:
         if kind == "within:" and text.startswith("3,11 "):
@@ -409,17 +488,37 @@ def ask_found(kind, block, wanted, where):
     """Compares what is found of the extension of that type in a block: the row's value, None, or
     its refusal."""
     for name in FOUND.get(kind, {}):
-        if len(block) <= MOST_IN_HELLO or name not in ("server_name_of_hello", "server_name_of_record"):
-            ask(name, block, wanted if wanted.startswith(("Inc", "Err")) else f"Ok rest _, {found_by(name, wanted)}", where)
+        if len(block) <= MOST_IN_HELLO or name not in (
+            "server_name_of_hello",
+            "server_name_of_record",
+        ):
+            ask(
+                name,
+                block,
+                wanted
+                if wanted.startswith(("Inc", "Err"))
+                else f"Ok rest _, {found_by(name, wanted)}",
+                where,
+            )
 
 
 def found_by(name, value):
     """What a call finds of an extension of that value; None where there is no such extension."""
     if name == "best_version":
-        listed = [OWN_VERSION] if value == "None" else [int(number) for number in re.findall(r"TlsVersion\((\d+)\)", value)]
-        return some(max((version for version in listed if version & 0x0F0F != 0x0A0A), default=None))[1]
+        listed = (
+            [OWN_VERSION]
+            if value == "None"
+            else [int(number) for number in re.findall(r"TlsVersion\((\d+)\)", value)]
+        )
+        return some(
+            max((version for version in listed if version & 0x0F0F != 0x0A0A), default=None)
+        )[1]
     if value.startswith("SNI"):
-        return option(None) if value == "SNI([])" else f"Some({re.search(r'SNIType[(][0-9]+[)], ([^)]*)[)]', value)[1]})"
+        return (
+            option(None)
+            if value == "SNI([])"
+            else f"Some({re.search(r'SNIType[(][0-9]+[)], ([^)]*)[)]', value)[1]})"
+        )
     return value if value == "None" else f"Some({value})"
 
 
@@ -436,14 +535,17 @@ def items_of(text):
 
 
 def ask_extension(data, clauses, where):
-    """What a row on one extension says of the block that it is."""
+    """Compares the row of one extension, read as a block."""
     kind = int.from_bytes(data[:2], "big")
     for clause, text in clauses:
         if clause == "=>" and data and "Tag" not in text:
             wanted = plain(text)
             ok = re.match(r"Ok rest (\d+), (.*)", wanted)
             content = data[4 : len(data) - int(ok[1])] if ok else b""
-            ask(f"find_extension:{kind}", data, f"Ok rest _, Some({shown(content)})" if ok else wanted, where)
+            ask(
+                f"find_extension:{kind}", data,
+                f"Ok rest _, Some({shown(content)})" if ok else wanted, where,
+            )
             ask_found(kind, data, ok[2] if ok else wanted, where)
             # Nothing of another type is found, where all is seen.
             for other in FOUND.keys() - {kind} if ok and ok[1] == "0" else ():
@@ -457,11 +559,14 @@ def ask_extension(data, clauses, where):
         elif clause == "within:" and text.startswith("3 "):
             for count, wanted in fronts(data[4:], text[2:]):
                 for behind in {b"", data[4 + count :]}:
-                    ask_found(kind, data[:2] + count.to_bytes(2, "big") + data[4 : 4 + count] + behind, wanted, where)
+                    ask_found(
+                        kind, data[:2] + count.to_bytes(2, "big") + data[4 : 4 + count] + behind,
+                        wanted, where,
+                    )
 
 
 def ask_extensions(data, clauses, where):
-    """What a row on a list of extensions says of the block."""
+    """Compares the row of a list of extensions, read as a block."""
     for clause, text in clauses:
         if clause != "=>" or not (ok := re.match(r"Ok rest (\d+), (.*)", plain(text))):
             continue
@@ -476,11 +581,15 @@ def ask_extensions(data, clauses, where):
 
 
 def ask_framed(data, clauses, where):
-    """What a row on a number and bytes behind their length says of a key share, which is one too
-    (RFC 8446, section 4.2.8)."""
+    """Compares the row of a number and bytes behind their length, read as a key share (RFC 8446,
+    section 4.2.8)."""
     for clause, text in clauses:
         if clause == "=>":
-            wanted = re.sub(r"Unknown\(TlsExtensionType\((\d+)\), (.*)\)$", r"KeyShareEntry { group: NamedGroup(\1), kx: \2 }", plain(text))
+            wanted = re.sub(
+                r"Unknown\(TlsExtensionType\((\d+)\), (.*)\)$",
+                r"KeyShareEntry { group: NamedGroup(\1), kx: \2 }",
+                plain(text),
+            )
             ask("key_share", data, wanted, where)
             ask("key_shares", data, f"Ok rest _, [{wanted.partition(', ')[2]}]", where)
         elif clause == "cut:":
@@ -488,7 +597,7 @@ def ask_framed(data, clauses, where):
 
 
 def ask_names(data, clauses, where):
-    """What a row on the content of a server_name says of an extension that has it."""
+    """Compares the row of the content of a server_name, within its extension."""
     block = b"\0\0" + len(data).to_bytes(2, "big")
     for clause, text in clauses:
         if clause == "=>":
@@ -499,12 +608,15 @@ def ask_names(data, clauses, where):
 
 
 def ask_message(data, clauses, where):
-    """What a row on a handshake message says of its body."""
+    """Compares the body of a handshake message with the message's row."""
     told_of = dict(clauses)
     if "=>" in told_of and data:
         wanted = plain(told_of["=>"])
         ok = re.match(r"Ok rest (\d+), ", wanted)
-        ask(f"find_body:{data[0]}", data, f"Ok rest _, Some({shown(data[4 : len(data) - int(ok[1])])})" if ok else wanted, where)
+        ask(
+            f"find_body:{data[0]}", data,
+            f"Ok rest _, Some({shown(data[4 : len(data) - int(ok[1])])})" if ok else wanted, where,
+        )
     for count, wanted in fronts(data, told_of.get("cut:", "")):
         if count:
             ask(f"find_body:{data[0]}", data[:count], wanted, where)
@@ -526,7 +638,7 @@ def ask_row(calls, data, clauses, where):
             also(data, clauses, where)
 
 
-# What the rows of a call say of others.
+# Further checks on the rows of a call.
 ALSO = {
     "parse_tls_extensions": ask_extensions,
     "parse_tls_extension_unknown": ask_framed,
@@ -538,12 +650,16 @@ ALSO = {
 def main():
     for file in sorted([*DATA.glob("*.rows"), *HERE.glob("*.rows")]):
         for number, (calls, text, clauses, names) in enumerate(rows(file), 1):
-            if (EXTENSIONS | counts.keys() | ALSO.keys()) & set(calls) and dict(clauses).keys() & {"=>", "cut:"}:
+            is_asked = (EXTENSIONS | counts.keys() | ALSO.keys()) & set(calls)
+            if is_asked and dict(clauses).keys() & {"=>", "cut:"}:
                 ask_row(calls, bytes_of(text, names), clauses, f"{file.name}, row {number}")
     if lacking := [call for call, count in counts.items() if count == 0]:
         sys.exit(f"rows: no row asks {lacking}")
     beside = " in Python and in Rust" if program else ""
-    print(f"rows: {sum(counts.values())} answers of {len(counts)} calls are those of the rows{beside}:", end=" ")
+    print(
+        f"rows: {sum(counts.values())} answers of {len(counts)} calls are the rows'{beside}:",
+        end=" ",
+    )
     print(", ".join(f"{call} {count}" for call, count in counts.items()))
 
 
@@ -551,5 +667,7 @@ def main():
 counts = dict.fromkeys([*WHOLE, *FRONT, *VIEWS], 0)
 program = None
 if sys.argv[1:]:
-    program = subprocess.Popen(sys.argv[1:], stdin=subprocess.PIPE, stdout=subprocess.PIPE, text=True)
+    program = subprocess.Popen(
+        sys.argv[1:], stdin=subprocess.PIPE, stdout=subprocess.PIPE, text=True
+    )
 main()

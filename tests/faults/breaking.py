@@ -15,8 +15,8 @@ V4_HEADER, V6_HEADER, UDP_HEADER = 20, 40, 8
 LENGTHS = {
     "GENEVE": [0], "GENEVE with options": [0], "GTP-U": [2, 3], "GTP-U with extensions": [2, 3], "AH in IPv4": [1], "AH in IPv6": [1],
 }
-# And where those stand of one header of several, which are only made less: with a greater one it
-# may end where a later header ends.
+# Offsets of lengths that are only reduced: of several headers, one with a greater length may end
+# where a later one ends.
 LESS = {"GTP-U with extensions": [12], "Teredo with both": [2, 3]}
 # How deep a packet is wrapped that is to have no end.
 DEEP = 100
@@ -31,8 +31,8 @@ def cut(frame: bytes, end: int) -> list[bytes]:
 
 
 def lengths(name: str, frame: bytes) -> list[tuple[int, range]]:
-    """Where lengths stand in the outer headers of a wrapped frame, and what is put there. The
-    header of IPv4, whose length shares a byte with the version, is only made shorter, too."""
+    """Offsets of lengths in the outer headers of a wrapped frame, and the values to write there.
+    The length of the IPv4 header, which shares a byte with the version, is only reduced."""
     everything = range(256)
     kind = frame[LINK_HEADER - 2 : LINK_HEADER]
     if kind == ETHER[4]:

@@ -14,7 +14,9 @@ from dataclasses import dataclass, replace
 from typing import Any
 
 from tests.tlslog.missing_packets import ahead
-from tests.support.packets import FILE_HEADER, FIN, LINK_HEADER, PACKET_HEADER, PSH, RST, SYN, UDP, UDP_HEADER
+from tests.support.packets import (
+    FILE_HEADER, FIN, LINK_HEADER, PACKET_HEADER, PSH, RST, SYN, UDP, UDP_HEADER,
+)
 
 ACK, URG = 16, 32
 TCP, TCP_HEADER = 6, 20
@@ -23,9 +25,9 @@ QUARTER = 2**30
 # What a host dropped and begins so far in front of the number behind all that was sent goes on with
 # it, or repeats it.
 NEAR = 65536
-# A connection ends by so many seconds without packets.
+# A connection ends after so many seconds without packets.
 IDLE = 299 * 1_000_000
-# The most data that an end takes in a segment if it doesn't say so (RFC 9293, section 3.7.1).
+# The default maximum segment size, if an end sends no MSS option (RFC 9293, section 3.7.1).
 DEFAULT_SIZE = 536
 RIGHT, PARTIAL, WRONG, NONE = "right", "partial", "wrong", "none"
 
@@ -51,7 +53,11 @@ class Packet:
         header = begin + (UDP_HEADER if self.is_udp else 4 * (frame[begin + 12] >> 4))
         self.transport, self.size = frame[begin:header], end - header
         self.ports = frame[begin : begin + 4]
-        addresses = self.front[LINK_HEADER + 8 :] if self.is_v6 else self.front[LINK_HEADER + 12 : LINK_HEADER + 20]
+        addresses = (
+            self.front[LINK_HEADER + 8 :]
+            if self.is_v6
+            else self.front[LINK_HEADER + 12 : LINK_HEADER + 20]
+        )
         half = len(addresses) // 2
         self.source = addresses[:half], self.ports[:2]
         self.destination = addresses[half:], self.ports[2:]
@@ -60,10 +66,12 @@ class Packet:
         self.sums = self.sums_of(frame[begin:end], protocol)
         self.has_right_header = self.is_v6 or words(self.front[LINK_HEADER:]) == 0
         if not self.is_udp:
-            self.sequence, self.acknowledgment, _, self.flags, self.window = struct.unpack(">IIBBH", self.transport[4:16])
+            self.sequence, self.acknowledgment, _, self.flags, self.window = struct.unpack(
+                ">IIBBH", self.transport[4:16]
+            )
 
     def sums_of(self, data: bytes, protocol: int) -> str:
-        """What the checksum is."""
+        """The verdict on the checksum."""
         pseudo = self.addresses + protocol + len(data)
         found = int.from_bytes(data[6:8] if self.is_udp else data[16:18], "big")
         if self.is_udp and not found:
@@ -130,7 +138,7 @@ class End:
     scale: int = None
     has_clock: bool = False
     clock: int = None  # Its last timestamp.
-    recent: int = None  # The same as the other end holds it (RFC 7323, section 4.3).
+    recent: int = None  # The last timestamp as the other end has it (TS.Recent of RFC 7323).
     fin: int = None
     size: int = DEFAULT_SIZE
     is_signed: bool = False  # Its SYN is (RFC 2385; RFC 5925).
@@ -145,9 +153,11 @@ def later(number: int | None, other: int) -> int:
 
 
 def reached_by(end: End, packet: Packet) -> tuple[int, tuple[tuple[int, int], ...]]:
-    """The number behind all that came in a row, and what stands further ahead."""
+    """The number behind all in-order data, and the ranges of out-of-order data."""
     reached = packet.first if end.reached is None else end.reached
-    pieces = sorted([*end.ahead, (packet.first, packet.behind)], key=lambda piece: ahead(piece[0], reached))
+    pieces = sorted(
+        [*end.ahead, (packet.first, packet.behind)], key=lambda piece: ahead(piece[0], reached)
+    )
     left = []
     for begin, behind in pieces:
         if ahead(begin, reached) > 0:
@@ -166,20 +176,29 @@ def sent(end: End, other: End, packet: Packet) -> End:
     behind = (packet.behind + bool(flags & FIN)) % ALL
     if flags & SYN:
         found = replace(found, first=packet.first, scale=options.get(3), has_clock=8 in options)
-        found = replace(found, size=options.get(2, DEFAULT_SIZE), is_signed=19 in options or 29 in options)
+        found = replace(
+            found, size=options.get(2, DEFAULT_SIZE), is_signed=19 in options or 29 in options
+        )
     shift = 0 if flags & SYN or end.scale is None or other.scale is None else end.scale
     clock = options.get(8, end.clock)
     is_noted = other.acknowledged is None or ahead(packet.first, other.acknowledged) <= 0
     # (nothing is noted of a SYN that comes again, nor of what ends in front of what the other
     # acknowledged)
     is_noted &= not (flags & SYN and end.first == packet.first)
-    is_noted &= other.acknowledged is None or ahead(other.acknowledged, packet.behind + bool(flags & FIN)) <= 0
+    is_noted &= (
+        other.acknowledged is None
+        or ahead(other.acknowledged, packet.behind + bool(flags & FIN)) <= 0
+    )
     recent = later(end.recent, clock) if is_noted and 8 in options else end.recent
     found = replace(found, next=later(end.next, behind), clock=clock, recent=recent)
     if flags & ACK:
         edge = (packet.acknowledgment + (packet.window << shift)) % ALL
         known = expecting(end, other).edge
-        return replace(found, acknowledged=later(end.acknowledged, packet.acknowledgment), edge=later(known, edge))
+        return replace(
+            found,
+            acknowledged=later(end.acknowledged, packet.acknowledgment),
+            edge=later(known, edge),
+        )
     if not flags & SYN:
         return found
     if end.acknowledged is None:
@@ -207,8 +226,8 @@ def heard(other: End, packet: Packet) -> End:
 
 
 def expecting(end: End, other: End) -> End:
-    """An end that only asked for the connection waits for what follows the other's SYN, within the
-    window of its own."""
+    """An end that has only sent its SYN waits for what follows the other's SYN, within its own
+    window."""
     if end.acknowledged is not None or other.first is None or end.edge is None:
         return end
     return replace(end, acknowledged=other.first, edge=(other.first + end.edge) % ALL)
@@ -219,11 +238,16 @@ class Connection:
     one broke it off."""
 
     def __init__(self, packet: Packet, is_first: bool) -> None:
-        self.ends, self.is_first, self.is_over = {packet.source: End(), packet.destination: End()}, is_first, False
+        self.ends = {packet.source: End(), packet.destination: End()}
+        self.is_first, self.is_over = is_first, False
         self.time = packet.time
 
     def begins_anew(self, packet: Packet) -> bool:
-        return not packet.is_udp and packet.flags & SYN and self.ends[packet.source].first not in (None, packet.first)
+        return (
+            not packet.is_udp
+            and packet.flags & SYN
+            and self.ends[packet.source].first not in (None, packet.first)
+        )
 
     def add(self, packet: Packet) -> None:
         self.time = packet.time
@@ -231,8 +255,11 @@ class Connection:
         if packet.is_udp:
             self.ends[packet.source] = replace(end, **checksums(end, packet))
             return
-        self.ends[packet.source], self.ends[packet.destination] = sent(end, other, packet), heard(other, packet)
-        self.is_over |= bool(packet.flags & RST) or all(end.fin is not None for end in self.ends.values())
+        self.ends[packet.source] = sent(end, other, packet)
+        self.ends[packet.destination] = heard(other, packet)
+        self.is_over |= bool(packet.flags & RST) or all(
+            end.fin is not None for end in self.ends.values()
+        )
 
     def note_sent(self, source: tuple[bytes, bytes], numbers: Iterable[int]) -> None:
         for number in numbers:
@@ -243,17 +270,26 @@ class Connection:
         """What goes on behind what was sent, or repeats it, was sent too: it may be
         acknowledged."""
         end = self.ends.get(packet.source)
-        if end and not packet.is_udp and end.next is not None and 0 <= ahead(end.next, packet.first) < NEAR:
+        if (
+            end
+            and not packet.is_udp
+            and end.next is not None
+            and 0 <= ahead(end.next, packet.first) < NEAR
+        ):
             self.note_sent(packet.source, [packet.behind])
 
     def stands(self) -> bool:
         """Each side acknowledged the other's SYN."""
-        return all(end.first is not None and end.acknowledged is not None for end in self.ends.values())
+        return all(
+            end.first is not None and end.acknowledged is not None for end in self.ends.values()
+        )
 
     def is_opened(self) -> bool:
         """Both SYNs were captured, and one of them answers the other."""
         ends = self.ends.values()
-        is_answered = any(end.acknowledged is not None for end in ends) if self.is_first else self.stands()
+        is_answered = (
+            any(end.acknowledged is not None for end in ends) if self.is_first else self.stands()
+        )
         return is_answered and all(end.first is not None for end in ends)
 
     def slots_at(self, place: int) -> Iterator[Slot]:
@@ -262,7 +298,11 @@ class Connection:
             receiver = next(end for other, end in self.ends.items() if other != source)
             if sender.packet and (sender.packet.is_udp or self.is_opened()):
                 is_opening = not sender.packet.is_udp and sender.acknowledged is None
-                both = (sender, receiver) if sender.packet.is_udp else (expecting(sender, receiver), expecting(receiver, sender))
+                both = (
+                    (sender, receiver)
+                    if sender.packet.is_udp
+                    else (expecting(sender, receiver), expecting(receiver, sender))
+                )
                 yield Slot(place, *both, fitting(*both, is_opening), self, source)
 
 
@@ -281,7 +321,14 @@ class Slot:
         """Which kinds it has once all was captured: what acknowledges more than was sent may be
         taken where other bytes weren't captured."""
         lacks = self.connection.ends[self.source].lacks
-        return replace(self, kinds=tuple(kind for kind in self.kinds if not lacks or kind not in ("ack_of_unsent", "ack_far_ahead")))
+        return replace(
+            self,
+            kinds=tuple(
+                kind
+                for kind in self.kinds
+                if not lacks or kind not in ("ack_of_unsent", "ack_far_ahead")
+            ),
+        )
 
 
 class Draft:
@@ -289,7 +336,8 @@ class Draft:
 
     def __init__(self, chance: random.Random, sender: End, receiver: End) -> None:
         self.chance, self.sender, self.receiver = chance, sender, receiver
-        self.sequence, self.flags = sender.next, chance.choice((ACK, ACK | PSH, ACK | PSH, ACK | PSH | URG))
+        self.sequence = sender.next
+        self.flags = chance.choice((ACK, ACK | PSH, ACK | PSH, ACK | PSH | URG))
         self.acknowledgment = chance.choice((sender.acknowledged, receiver.next))
         self.window = chance.choice((sender.packet.window, 0, 1, 65535))
         self.payload = chance.choice(PAYLOADS)
@@ -307,7 +355,7 @@ class Draft:
         self.sequence = number % ALL
 
     def end_at(self, number: int) -> None:
-        """Its last byte, or its FIN, stands in front of the number."""
+        """Places the last byte, or the FIN, just in front of the number."""
         self.sequence = (number - len(self.payload) - bool(self.flags & FIN)) % ALL
 
     def maybe(self, flag: int) -> None:
@@ -322,7 +370,9 @@ class Draft:
 def any_segment(draft: Draft) -> None:
     """Also one that its receiver would take, as an RST of the next number."""
     draft.flags = draft.chance.choice((draft.flags, ACK | FIN, RST, RST | ACK, SYN, SYN | ACK))
-    draft.sequence = draft.chance.choice((draft.sender.next, draft.receiver.acknowledged, draft.sender.first))
+    draft.sequence = draft.chance.choice(
+        (draft.sender.next, draft.receiver.acknowledged, draft.sender.first)
+    )
 
 
 def checksum(draft: Draft) -> None:
@@ -392,10 +442,12 @@ def old_timestamp(draft: Draft) -> None:
 
 
 def opens(draft: Draft) -> None:
-    """Each SYN begins anywhere, with options of its own."""
+    """Sends a SYN with a random sequence number and random options."""
     sender, receiver = draft.sender, draft.receiver
     known = (sender.first - 1, sender.next - 1, sender.next, receiver.acknowledged, receiver.edge)
-    draft.place_behind(draft.chance.choice((*known, sender.next + draft.some(), sender.next - draft.some())))
+    draft.place_behind(
+        draft.chance.choice((*known, sender.next + draft.some(), sender.next - draft.some()))
+    )
     if draft.chance.randrange(2):
         draft.options = b"\2\4\0\x10\1\3\3" + bytes([draft.chance.randrange(15)])
 
@@ -414,7 +466,11 @@ def rst(draft: Draft) -> None:
     """Not of a number that the receiver may wait for: within its window, or outside."""
     low, high = draft.receiver.acknowledged, draft.sender.next
     draft.flags = draft.chance.choice((RST, RST | ACK))
-    draft.place_behind(draft.chance.choice((low - 1 - draft.some(), high + 1 + draft.some(65535), high + 1 + draft.some())))
+    draft.place_behind(
+        draft.chance.choice(
+            (low - 1 - draft.some(), high + 1 + draft.some(65535), high + 1 + draft.some())
+        )
+    )
 
 
 def behind_fin(draft: Draft) -> None:
@@ -454,13 +510,18 @@ UDP_KINDS = ("udp_checksum", "udp_checksum_none", "udp_header_checksum")
 def fitting(sender: End, receiver: End, is_opening: bool) -> tuple[str, ...]:
     """The kinds of segments that the receiver drops here."""
     if sender.packet.is_udp:
-        wrong = {"udp_checksum": sender.has_right_sums, "udp_checksum_none": sender.has_right_sums and sender.packet.is_v6}
+        wrong = {
+            "udp_checksum": sender.has_right_sums,
+            "udp_checksum_none": sender.has_right_sums and sender.packet.is_v6,
+        }
         wrong["udp_header_checksum"] = sender.has_right_headers and not sender.packet.is_v6
         return tuple(kind for kind, fits in wrong.items() if fits)
     left_out = {
         "checksum": not sender.has_right_sums,
         "checksum_partial": not sender.has_right_sums,
-        "header_checksum": sender.packet.is_v6 or not sender.has_right_headers or not sender.has_right_sums,
+        "header_checksum": sender.packet.is_v6
+        or not sender.has_right_headers
+        or not sender.has_right_sums,
         "signed": sender.is_signed,
         "old_timestamp": not (sender.has_clock and receiver.has_clock),
         "syn": is_opening,
@@ -483,22 +544,42 @@ def handshake(kind: int, body: bytes, is_dtls: bool) -> bytes:
 def client_hello(is_dtls: bool = False) -> bytes:
     """It asks for another host than any captured one."""
     name = opaque(opaque(b"\0" + opaque(b"fake.test", 2), 2), 2)
-    extensions = b"\0\0" + name + b"\0\x0d\0\4\0\2\4\3" + b"\0\x0a\0\4\0\2\0\x17" + b"\0\x0b\0\2\1\0"
+    extensions = (
+        b"\0\0" + name + b"\0\x0d\0\4\0\2\4\3" + b"\0\x0a\0\4\0\2\0\x17" + b"\0\x0b\0\2\1\0"
+    )
     version, cookie = (b"\xfe\xfd", b"\0") if is_dtls else (b"\3\3", b"")
-    return handshake(1, version + bytes(range(32)) + b"\0" + cookie + b"\0\4\xc0\x2b\xc0\x2f" + b"\1\0" + opaque(extensions, 2), is_dtls)
+    return handshake(
+        1,
+        version
+        + bytes(range(32))
+        + b"\0"
+        + cookie
+        + b"\0\4\xc0\x2b\xc0\x2f"
+        + b"\1\0"
+        + opaque(extensions, 2),
+        is_dtls,
+    )
 
 
 def server_hello(is_dtls: bool = False) -> bytes:
     """It chooses a suite that no captured one has."""
     version = b"\xfe\xfd" if is_dtls else b"\3\3"
-    return handshake(2, version + bytes(range(32)) + b"\0" + b"\0\x2c\0" + opaque(b"\xff\1\0\1\0", 2), is_dtls)
+    return handshake(
+        2, version + bytes(range(32)) + b"\0" + b"\0\x2c\0" + opaque(b"\xff\1\0\1\0", 2), is_dtls
+    )
 
 
 HELLO = client_hello()
 ALERT, CHANGE = b"\x15\3\3\0\2\2\x28", b"\x14\3\3\0\1\1"
 NOISE = bytes(pow(3, exponent, 257) % 256 for exponent in range(1400))
-PAYLOADS = (b"", b"\x16", b"\x28", NOISE[:7], NOISE[:300], NOISE, HELLO, HELLO, HELLO[:50], server_hello(), ALERT, CHANGE)
-UDP_PAYLOADS = (b"", NOISE[:300], client_hello(True), server_hello(True), b"\x15\xfe\xfd" + bytes(8) + b"\0\2\2\x28")
+PAYLOADS = (
+    b"", b"\x16", b"\x28", NOISE[:7], NOISE[:300], NOISE, HELLO, HELLO, HELLO[:50], server_hello(),
+    ALERT, CHANGE,
+)
+UDP_PAYLOADS = (
+    b"", NOISE[:300], client_hello(True), server_hello(True),
+    b"\x15\xfe\xfd" + bytes(8) + b"\0\2\2\x28",
+)
 
 
 def front_of(sender: End, identifier: int, length: int, is_right: bool) -> bytes:
@@ -507,7 +588,10 @@ def front_of(sender: End, identifier: int, length: int, is_right: bool) -> bytes
     if sender.packet.is_v6:
         return front[: ip + 4] + length.to_bytes(2, "big") + front[ip + 6 :]
     size = (len(front) - ip + length).to_bytes(2, "big")
-    parts = front[ip : ip + 2] + size + identifier.to_bytes(2, "big") + front[ip + 6 : ip + 10], front[ip + 12 :]
+    parts = (
+        front[ip : ip + 2] + size + identifier.to_bytes(2, "big") + front[ip + 6 : ip + 10],
+        front[ip + 12 :],
+    )
     total = complement(words(parts[0]) + words(parts[1])) ^ (0 if is_right else 0x0100)
     return front[:ip] + parts[0] + total.to_bytes(2, "big") + parts[1]
 
@@ -530,7 +614,9 @@ def segment(draft: Draft) -> bytes:
     pointer = len(draft.payload) if draft.flags & URG else 0
     header_size = TCP_HEADER + len(options) if draft.header_size is None else draft.header_size
     numbers = draft.sequence, draft.acknowledgment if draft.flags & ACK else 0
-    head = sender.packet.ports + struct.pack(">IIBBH", *numbers, header_size // 4 << 4, draft.flags, draft.window)
+    head = sender.packet.ports + struct.pack(
+        ">IIBBH", *numbers, header_size // 4 << 4, draft.flags, draft.window
+    )
     tail = pointer.to_bytes(2, "big") + options + draft.payload
     length = len(head) + 2 + len(tail)
     pseudo = sender.packet.addresses + TCP + length
@@ -543,7 +629,10 @@ def datagram(chance: random.Random, sender: End, kind: str) -> bytes:
     """The frame of a datagram of UDP."""
     payload = chance.choice(UDP_PAYLOADS)
     length = UDP_HEADER + len(payload)
-    head, pseudo = sender.packet.ports + length.to_bytes(2, "big"), sender.packet.addresses + UDP + length
+    head, pseudo = (
+        sender.packet.ports + length.to_bytes(2, "big"),
+        sender.packet.addresses + UDP + length,
+    )
     sums = {"udp_checksum": WRONG}.get(kind, RIGHT)
     total = checksum_as(sums, pseudo, head + b"\0\0" + payload, chance) or 65535
     front = front_of(sender, chance.randrange(65536), length, kind != "udp_header_checksum")
@@ -572,15 +661,23 @@ class Capture:
             end = at + PACKET_HEADER + length
             self.records.append(data[at:end])
             self.times.append(seconds * 1_000_000 + micros)
-            packets.append(packet_of(self.times[-1], data[at + PACKET_HEADER : end]) if length == whole else None)
+            packets.append(
+                packet_of(self.times[-1], data[at + PACKET_HEADER : end])
+                if length == whole
+                else None
+            )
             at = end
         taken = [None if number in dropped else packet for number, packet in enumerate(packets, 1)]
-        left_out = [packet if number in dropped else None for number, packet in enumerate(packets, 1)]
+        left_out = [
+            packet if number in dropped else None for number, packet in enumerate(packets, 1)
+        ]
         # What a SYN has is sent, also where its receiver drops it: it may be acknowledged.
         self.sent_by_syns = {}
         for packet in packets:
             if packet and not packet.is_udp and packet.flags & SYN:
-                self.sent_by_syns.setdefault((packet.ends, packet.source, packet.first), []).append(packet.behind)
+                self.sent_by_syns.setdefault((packet.ends, packet.source, packet.first), []).append(
+                    packet.behind
+                )
         self.slots = [slot.in_the_end() for slot in list(self.slots_of(taken, left_out))]
 
     def slots_of(self, taken: list[Packet | None], left_out: list[Packet | None]) -> Iterator[Slot]:
@@ -591,12 +688,20 @@ class Capture:
                 last[packet.ends] = place
         for place, packet in enumerate(taken):
             for ends, connection in connections.items():
-                is_there = place <= last[ends] and self.times[place] - connection.time < IDLE and not connection.is_over
-                if is_there and not (packet and packet.ends == ends and connection.begins_anew(packet)):
+                is_there = (
+                    place <= last[ends]
+                    and self.times[place] - connection.time < IDLE
+                    and not connection.is_over
+                )
+                if is_there and not (
+                    packet and packet.ends == ends and connection.begins_anew(packet)
+                ):
                     yield from connection.slots_at(place)
             if packet:
                 put(connections, packet)
-                sent = self.sent_by_syns.get((packet.ends, packet.source, None if packet.is_udp else packet.first), ())
+                sent = self.sent_by_syns.get(
+                    (packet.ends, packet.source, None if packet.is_udp else packet.first), ()
+                )
                 connections[packet.ends].note_sent(packet.source, sent)
             elif left_out[place] and left_out[place].ends in connections:
                 connections[left_out[place].ends].note_dropped(left_out[place])
@@ -610,7 +715,9 @@ class Capture:
             some = by_place.get(place, ())
             begin, end = self.times[max(place - 1, 0)], self.times[place]
             for number, made in enumerate(some, 1):
-                seconds, micros = divmod(begin + (end - begin) * number // (len(some) + 1), 1_000_000)
+                seconds, micros = divmod(
+                    begin + (end - begin) * number // (len(some) + 1), 1_000_000
+                )
                 parts += (struct.pack("<4I", seconds, micros, len(made), len(made)), made)
             parts.append(record)
         return b"".join(parts)
@@ -618,6 +725,10 @@ class Capture:
 
 def put(connections: dict[frozenset[tuple[bytes, bytes]], Connection], packet: Packet) -> None:
     known = connections.get(packet.ends)
-    if known is None or known.begins_anew(packet) or (known.is_over and not packet.is_udp and packet.flags & SYN):
+    if (
+        known is None
+        or known.begins_anew(packet)
+        or (known.is_over and not packet.is_udp and packet.flags & SYN)
+    ):
         connections[packet.ends] = Connection(packet, known is None)
     connections[packet.ends].add(packet)

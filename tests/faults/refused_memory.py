@@ -8,8 +8,8 @@ import sys
 from pathlib import Path
 
 HEAP = Path(__file__).resolve().parent / "refusing_heap.c"
-# All by which a program asks the C library or the system for memory. The heap stands over the first
-# two.
+# All functions by which a program gets memory from the C library or the system. The heap of
+# refusing_heap.c replaces the first two.
 COVERED = {"malloc", "realloc"}
 REQUESTS = COVERED | {"calloc", "reallocarray", "aligned_alloc", "memalign", "posix_memalign", "mmap", "mmap64", "brk", "sbrk"}
 

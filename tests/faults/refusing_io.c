@@ -42,7 +42,7 @@ __attribute__((destructor)) static void end(void) {
     const char *told = getenv("TOLD");
     int file = told ? open(told, O_WRONLY | O_CREAT | O_TRUNC, 0600) : -1;
     if (file >= 0) {
-        // A file that is shorter is no answer, and its reader says so.
+        // The reader of the file reports one that is too short.
         ssize_t written = syscall(SYS_write, file, &made, sizeof made);
         (void)written;
         close(file);

@@ -23,8 +23,8 @@ def unescaped(text: str) -> bytes:
 
 
 def leaves(value: Any, name: str | None = None) -> Iterator[str]:
-    """The fields that have values, in their order. What certificates say is none of them
-    (tests/tlslog/certificates)."""
+    """Returns the fields that have values, in their order, without those of certificates, which
+    tests/tlslog/certificates compares."""
     if isinstance(value, dict):
         for field, inner in value.items():
             if field != "certificates":

@@ -50,8 +50,8 @@ def by_tshark(capture: str, lines: list[Line], compared: Counter[str]) -> int:
 
 
 def by_ndpi(capture: str, lines: list[Line], compared: Counter[str]) -> int:
-    """How many fingerprints differ, of those that nDPI has. It joins connections between the same
-    two ends, and tells one hello of them."""
+    """Returns how many of nDPI's fingerprints differ. nDPI joins connections between the same two
+    ends, and prints one hello for them."""
     command = ["ndpiReader", "-i", str(capture), "-v", "2"]
     text = subprocess.run(command, stdout=subprocess.PIPE, stderr=subprocess.DEVNULL, text=True, check=True).stdout
     ours, differ = {}, 0

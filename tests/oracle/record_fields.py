@@ -14,8 +14,8 @@ FIELDS = """
 
 
 def rows(file: Path | str, options: Sequence[str], is_udp: bool) -> list[list[str]]:
-    """Returns the FIELDS of each packet with TLS or DTLS. Ports are the innermost ones; over TCP
-    the column of UDP's is empty, since it has that of a tunnel."""
+    """Returns the FIELDS of each packet with TLS or DTLS. Ports are the innermost ones. Over TCP
+    the column for UDP is empty, since tshark has the tunnel's port there."""
     fields = [word for field in FIELDS for word in ("-e", field)]
     words = ["tshark", "-r", str(file), *options, "-Y", "tls or dtls", "-T", "fields", *fields]
     words += ["-E", "occurrence=a", "-E", "separator=;"]

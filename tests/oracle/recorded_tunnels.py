@@ -24,7 +24,7 @@ PORT = "4433"
 
 
 class Tunnel(NamedTuple):
-    """What is told of a tunnel, and how long its headers are behind that of IPv4."""
+    """The fields of a tunnel, and the length of its headers behind the IPv4 header."""
 
     name: str
     number: int
@@ -54,7 +54,7 @@ def inner(data: bytes, outer: int) -> bytes:
 
 
 def lines(capture: Path) -> list[dict[str, object]]:
-    """The lines of a capture, by the tunnel that its name says."""
+    """Returns the lines of a capture, whose tunnel is known by its file name."""
     tunnel = TUNNELS[capture.stem]
     with tempfile.NamedTemporaryFile(suffix=".pcap") as file:
         file.write(inner(capture.read_bytes(), 14 + 20 + tunnel.headers))

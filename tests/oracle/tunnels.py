@@ -2,9 +2,9 @@
 
 tests/oracle/compare tunnels CAPTURE..
 
-The tunnels are those of tests/support/packets.py. Compared are the fields of records and
-handshakes, in order, and the innermost ports. tshark is told that 8472 is a port of VXLAN, and
-which MPLS label has frames behind a control word.
+The tunnels are those of tests/support/packets.py. It compares the fields of records
+and handshakes, in order, and the innermost ports. Options of tshark set 8472 as a port of VXLAN,
+and the MPLS label that has frames behind a control word.
 """
 
 from __future__ import annotations

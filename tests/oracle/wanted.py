@@ -13,13 +13,20 @@ from tests.support import identifiers, log_columns, suite_names
 from tests.support.shapes import Line, Row
 
 FIELDS = """
-    handshake.type handshake.version handshake.random handshake.extensions.supported_version handshake.ciphersuite
-    handshake.extensions_key_share_group handshake.extensions_key_share_selected_group handshake.server_named_curve
-    handshake.extensions_server_name_type handshake.extensions_server_name handshake.extensions_alpn_str handshake.extension.type record.content_type
+    handshake.type handshake.version handshake.random handshake.extensions.supported_version
+    handshake.ciphersuite handshake.extensions_key_share_group
+    handshake.extensions_key_share_selected_group handshake.server_named_curve
+    handshake.extensions_server_name_type handshake.extensions_server_name
+    handshake.extensions_alpn_str handshake.extension.type record.content_type
     alert_message.level alert_message.desc record.length
 """.split()
-OUTER = ["frame.time_epoch", "ip.src", "ipv6.src", "ip.dst", "ipv6.dst", "_ws.col.Info", "communityid"]
-OF_TCP = ["tcp.stream", "tcp.srcport", "tcp.dstport", "tcp.flags.syn", "tcp.flags.fin", "tcp.flags.reset", "tcp.flags.ack", "tcp.seq_raw", "tcp.ack_raw", "tcp.len"]
+OUTER = [
+    "frame.time_epoch", "ip.src", "ipv6.src", "ip.dst", "ipv6.dst", "_ws.col.Info", "communityid",
+]
+OF_TCP = [
+    "tcp.stream", "tcp.srcport", "tcp.dstport", "tcp.flags.syn", "tcp.flags.fin", "tcp.flags.reset",
+    "tcp.flags.ack", "tcp.seq_raw", "tcp.ack_raw", "tcp.len",
+]
 OF_UDP = ["udp.stream", "udp.srcport", "udp.dstport", "udp.length"]
 UDP_HEADER = 8
 VERSIONS = {
@@ -27,11 +34,15 @@ VERSIONS = {
     0xFEFF: "DTLSv10", 0xFEFD: "DTLSv12", 0xFEFC: "DTLSv13",
 }
 ALERTS = {
-    0: "close_notify", 10: "unexpected_message", 20: "bad_record_mac", 22: "record_overflow", 40: "handshake_failure", 42: "bad_certificate",
-    43: "unsupported_certificate", 44: "certificate_revoked", 45: "certificate_expired", 46: "certificate_unknown", 47: "illegal_parameter",
-    48: "unknown_ca", 49: "access_denied", 50: "decode_error", 51: "decrypt_error", 52: "too_many_cids_requested",
-    70: "protocol_version", 71: "insufficient_security", 80: "internal_error", 86: "inappropriate_fallback", 90: "user_canceled", 100: "no_renegotiation",
-    109: "missing_extension", 110: "unsupported_extension", 112: "unrecognized_name", 116: "certificate_required", 120: "no_application_protocol",
+    0: "close_notify", 10: "unexpected_message", 20: "bad_record_mac", 22: "record_overflow",
+    40: "handshake_failure", 42: "bad_certificate", 43: "unsupported_certificate",
+    44: "certificate_revoked", 45: "certificate_expired", 46: "certificate_unknown",
+    47: "illegal_parameter", 48: "unknown_ca", 49: "access_denied", 50: "decode_error",
+    51: "decrypt_error", 52: "too_many_cids_requested", 70: "protocol_version",
+    71: "insufficient_security", 80: "internal_error", 86: "inappropriate_fallback",
+    90: "user_canceled", 100: "no_renegotiation", 109: "missing_extension",
+    110: "unsupported_extension", 112: "unrecognized_name", 116: "certificate_required",
+    120: "no_application_protocol",
 }
 # The random of a ServerHello that is a HelloRetryRequest (RFC 8446, section 4.1.3).
 RETRY = "cf21ad74e59a6111be1d8c021e65b891c2a211167abb8c5e079e09e2c8a8339c"
@@ -39,16 +50,19 @@ CLIENT_HELLO, SERVER_HELLO, KEY_EXCHANGE, SERVER_DONE = "1", "2", "12", "14"
 CHANGE, PRE_SHARED_KEY, HOST_NAME = "20", "41", "0"
 # The letter of Zeek's ssl_history by tshark's name of a message; the client's are in upper case.
 LETTERS = {
-    "Hello Request": "h", "Client Hello": "c", "Server Hello": "s", "Hello Verify Request": "v", "Hello Retry Request": "j",
-    "New Session Ticket": "t", "Certificate": "x", "Server Key Exchange": "k", "Certificate Request": "r", "Server Hello Done": "n",
-    "Certificate Verify": "y", "Client Key Exchange": "g", "Finished": "f", "Certificate Status": "u", "Change Cipher Spec": "i", "Alert": "l",
-    "Heartbeat Request": "b", "Heartbeat Response": "b",
+    "Hello Request": "h", "Client Hello": "c", "Server Hello": "s", "Hello Verify Request": "v",
+    "Hello Retry Request": "j", "New Session Ticket": "t", "Certificate": "x",
+    "Server Key Exchange": "k", "Certificate Request": "r", "Server Hello Done": "n",
+    "Certificate Verify": "y", "Client Key Exchange": "g", "Finished": "f",
+    "Certificate Status": "u", "Change Cipher Spec": "i", "Alert": "l", "Heartbeat Request": "b",
+    "Heartbeat Response": "b",
 }
-# Of these, 0 is told too.
+# Fields that are also logged if they are 0.
 ALWAYS = ["comp_method", "cert_count", "client_cert_count", *wanted_certificates.ALWAYS]
-# What tshark doesn't tell.
+# Fields that tshark doesn't have.
 UNTOLD = """
-    orig_dropped_pkts resp_dropped_pkts orig_dropped_for resp_dropped_for orig_preamble_bytes resp_preamble_bytes tunnels tunnel_ids ssl2_hello ended_early
+    orig_dropped_pkts resp_dropped_pkts orig_dropped_for resp_dropped_for orig_preamble_bytes
+    resp_preamble_bytes tunnels tunnel_ids ssl2_hello ended_early
 """.split()
 ORDER = [name for name in log_columns.names() if name not in UNTOLD]
 TIMES = ("ts", "duration")
@@ -56,7 +70,10 @@ TIMES = ("ts", "duration")
 
 def key(line: Line) -> tuple[str, int, str, int, float]:
     """What a connection is known by: its ends and its first packet's time, to a microsecond."""
-    return line["id.orig_h"], line["id.orig_p"], line["id.resp_h"], line["id.resp_p"], round(line["ts"], 6)
+    return (
+        line["id.orig_h"], line["id.orig_p"], line["id.resp_h"], line["id.resp_p"],
+        round(line["ts"], 6),
+    )
 
 
 def is_same(field: str, mine: Any, other: Any) -> bool:
@@ -80,7 +97,9 @@ def lines(capture: Path | str, port: int | str | None = None, udp: bool = False)
         talk.note(row)
         if talk.is_over():
             ended.append(talk)
-    left = sorted((talk for talk in talks.values() if not talk.is_over()), key=lambda talk: talk.last)
+    left = sorted(
+        (talk for talk in talks.values() if not talk.is_over()), key=lambda talk: talk.last
+    )
     return [talk.line() for talk in ended + left if talk.is_tls]
 
 
@@ -94,7 +113,10 @@ def tshark_fields(udp: bool) -> list[str]:
 def tshark(capture: Path | str, port: int | str | None, udp: bool) -> list[str]:
     """The command that prints them, of each packet of that protocol."""
     layer, prefix = ("udp", "dtls") if udp else ("tcp", "tls")
-    command = ["tshark", "--enable-protocol", "communityid", "-r", str(capture), "-T", "fields", "-E", "separator=/t", "-E", "occurrence=a", "-E", "aggregator=;", "-Y", layer]
+    command = [
+        "tshark", "--enable-protocol", "communityid", "-r", str(capture), "-T", "fields", "-E",
+        "separator=/t", "-E", "occurrence=a", "-E", "aggregator=;", "-Y", layer,
+    ]
     command += ["-o", "tcp.reassemble_out_of_order:TRUE"]
     if port:
         command += ["-d", f"{layer}.port=={port},{prefix}"]
@@ -105,10 +127,18 @@ def tshark(capture: Path | str, port: int | str | None, udp: bool) -> list[str]:
 
 def rows(capture: Path | str, port: int | str | None, udp: bool) -> Iterator[Row]:
     """tshark's fields of each packet of that protocol, as dictionaries of lists."""
-    names = [field if field in wanted_hellos.SHARED else re.sub("^d?tls[.]", "", field) for field in tshark_fields(udp)]
-    text = subprocess.run(tshark(capture, port, udp), stdout=subprocess.PIPE, stderr=subprocess.DEVNULL, text=True, check=True).stdout
+    names = [
+        field if field in wanted_hellos.SHARED else re.sub("^d?tls[.]", "", field)
+        for field in tshark_fields(udp)
+    ]
+    text = subprocess.run(
+        tshark(capture, port, udp), stdout=subprocess.PIPE, stderr=subprocess.DEVNULL, text=True,
+        check=True,
+    ).stdout
     for line in text.splitlines():
-        yield {name: [v for v in part.split(";") if v] for name, part in zip(names, line.split("\t"))}
+        yield {
+            name: [v for v in part.split(";") if v] for name, part in zip(names, line.split("\t"))
+        }
 
 
 def first(row: Row, *fields: str) -> str | None:
@@ -139,7 +169,8 @@ class Sent:
     front."""
 
     def __init__(self) -> None:
-        self.packets, self.bytes, self.records, self.repeated, self.behind, self.fin = 0, 0, 0, 0, None, None
+        self.packets = self.bytes = self.records = self.repeated = 0
+        self.behind = self.fin = None
 
     def note(self, row: Row, layer: str) -> None:
         self.packets += 1
@@ -147,7 +178,8 @@ class Sent:
         if layer == "udp":
             self.bytes += int(first(row, "udp.length")) - UDP_HEADER
         elif not is_set(row, "tcp.flags.reset"):
-            begin, count = int(first(row, "tcp.seq_raw")) + is_set(row, "tcp.flags.syn"), int(first(row, "tcp.len"))
+            begin = int(first(row, "tcp.seq_raw")) + is_set(row, "tcp.flags.syn")
+            count = int(first(row, "tcp.len"))
             self.note_segment(begin, count)
             if is_set(row, "tcp.flags.fin"):
                 self.fin = begin + count
@@ -169,19 +201,22 @@ class Sent:
 
     def told(self, front: str) -> Line:
         return {
-            f"{front}_pkts": self.packets, f"{front}_bytes": self.bytes, f"{front}_records": self.records,
+            f"{front}_pkts": self.packets,
+            f"{front}_bytes": self.bytes,
+            f"{front}_records": self.records,
             f"{front}_repeated_bytes": self.repeated or None,
         }
 
 
 class Analyzer:
-    """What one connection says."""
+    """The fields of one connection, from its packets."""
 
     def __init__(self, row: Row, layer: str) -> None:
         self.layer = layer
         self.begun = self.last = float(first(row, "frame.time_epoch"))
         self.community_id = first(row, "communityid")
-        self.ends = self.source(row), (first(row, "ip.dst", "ipv6.dst"), int(first(row, f"{layer}.dstport")))
+        destination = first(row, "ip.dst", "ipv6.dst"), int(first(row, f"{layer}.dstport"))
+        self.ends = self.source(row), destination
         self.is_tls, self.said, self.messages = False, {}, 0
         self.closed, self.changed, self.has_done, self.is_13 = set(), [], False, False
         self.stop, self.history, self.sent = None, "", {True: Sent(), False: Sent()}
@@ -199,7 +234,8 @@ class Analyzer:
         self.sent[side].note(row, self.layer)
         types = row["handshake.type"]
         self.is_tls |= bool(types or row["alert_message.desc"] or row["record.content_type"])
-        if CLIENT_HELLO in types and row["handshake.version"]:  # Of a fragment there is a type alone.
+        # A fragment has the type alone.
+        if CLIENT_HELLO in types and row["handshake.version"]:
             self.note_server_names(row)
             self.said |= wanted_hellos.of_client(row, self.layer, VERSIONS)
         if SERVER_HELLO in types:
@@ -229,7 +265,11 @@ class Analyzer:
         if is_set(row, "tcp.flags.reset"):
             self.closed |= {True, False}
         fin = self.sent[not side].fin
-        if is_set(row, "tcp.flags.ack") and fin is not None and (int(first(row, "tcp.ack_raw")) - fin) % 2**32 == 1:
+        if (
+            is_set(row, "tcp.flags.ack")
+            and fin is not None
+            and (int(first(row, "tcp.ack_raw")) - fin) % 2**32 == 1
+        ):
             self.closed.add(not side)
 
     def note_server_names(self, row: Row) -> None:
@@ -237,11 +277,13 @@ class Analyzer:
         types = row["handshake.extensions_server_name_type"]
         names = [*zip(types, row["handshake.extensions_server_name"])]
         self.said["server_name"] = next((name for kind, name in names if kind == HOST_NAME), None)
-        self.said["other_server_names"] = [f"{kind}:{name}" for kind, name in names if kind != HOST_NAME] or None
+        self.said["other_server_names"] = [
+            f"{kind}:{name}" for kind, name in names if kind != HOST_NAME
+        ] or None
 
     def note_names(self, row: Row, side: bool) -> None:
-        """Adds the letters of what a packet says, by tshark's column of names. Of fragments the
-        last one counts."""
+        """Adds the history letters of a packet, by the names in tshark's Info column. A fragmented
+        message counts at its last fragment."""
         names = re.sub(r" [(]Level: [^)]*[)]", "", ";".join(row["_ws.col.Info"]))
         for name in re.split(", ", names.replace(" (Reassembled)", "")):
             letter = LETTERS.get(name, "")
@@ -253,7 +295,7 @@ class Analyzer:
             self.history += letter.upper() if side else letter
 
     def note_record(self, kind: int, side: bool) -> None:
-        """Counts a ChangeCipherSpec, and a record behind that of its side, which is encrypted."""
+        """Counts a ChangeCipherSpec, and each record behind it, which is encrypted."""
         if kind == CHANGE or (side in self.changed and not self.is_13):
             self.messages += 1
         if kind == CHANGE:
@@ -267,10 +309,14 @@ class Analyzer:
         version = int(first(row, "handshake.extensions.supported_version", "handshake.version"), 16)
         self.said["version"] = VERSIONS[version]
         self.said["cipher"] = suite_names.suite_name(int(first(row, "handshake.ciphersuite"), 16))
-        share = first(row, "handshake.extensions_key_share_group", "handshake.extensions_key_share_selected_group")
+        share = first(
+            row,
+            "handshake.extensions_key_share_group",
+            "handshake.extensions_key_share_selected_group",
+        )
         self.said["curve"] = group(int(share)) if share else None
         self.said["next_protocol"] = first(row, "handshake.extensions_alpn_str")
-        # (0x7f and a number is that of a draft of TLS 1.3)
+        # (0x7f and a number is a draft of TLS 1.3)
         is_13 = version in (0x304, 0xFEFC) or version >> 8 == 0x7F
         self.said["resumed"] = is_13 and PRE_SHARED_KEY in row["handshake.extension.type"]
         self.is_13 |= is_13
@@ -283,7 +329,11 @@ class Analyzer:
         for level, name in zip(row["alert_message.level"], row["alert_message.desc"]):
             self.said["last_alert"] = ALERTS[int(name)]
             if level == "2" and not self.stop and not self.is_established():
-                self.stop = {"message": "alert", "sender": "client" if side else "server", "messages_before": self.messages}
+                self.stop = {
+                    "message": "alert",
+                    "sender": "client" if side else "server",
+                    "messages_before": self.messages,
+                }
             self.messages += 1
 
     def is_established(self) -> bool:
@@ -292,13 +342,37 @@ class Analyzer:
 
     def line(self) -> Line:
         is_short = self.is_established() and not self.is_13 and not self.has_done
-        outcome = "tls13" if self.is_13 else "resumed" if is_short else "full" if self.is_established() else "broken_off" if self.stop else "waiting"
+        outcome = (
+            "tls13"
+            if self.is_13
+            else "resumed"
+            if is_short
+            else "full"
+            if self.is_established()
+            else "broken_off"
+            if self.stop
+            else "waiting"
+        )
         known = {
-            "ts": round(self.begun, 6), "proto": self.layer, "community_id": self.community_id, "duration": round(self.last - self.begun, 6),
-            "id.orig_h": self.ends[0][0], "id.orig_p": self.ends[0][1], "id.resp_h": self.ends[1][0], "id.resp_p": self.ends[1][1],
-            **self.said, **wanted_certificates.of_talk(self.said.get("server_name"), self.own[False], self.own[True]), "resumed": is_short or (self.is_13 and self.said["resumed"]),
-            "established": self.is_established(), "outcome": outcome, "stop": self.stop, "ssl_history": self.history or None,
-            **self.sent[True].told("orig"), **self.sent[False].told("resp"),
+            "ts": round(self.begun, 6),
+            "proto": self.layer,
+            "community_id": self.community_id,
+            "duration": round(self.last - self.begun, 6),
+            "id.orig_h": self.ends[0][0],
+            "id.orig_p": self.ends[0][1],
+            "id.resp_h": self.ends[1][0],
+            "id.resp_p": self.ends[1][1],
+            **self.said,
+            **wanted_certificates.of_talk(
+                self.said.get("server_name"), self.own[False], self.own[True]
+            ),
+            "resumed": is_short or (self.is_13 and self.said["resumed"]),
+            "established": self.is_established(),
+            "outcome": outcome,
+            "stop": self.stop,
+            "ssl_history": self.history or None,
+            **self.sent[True].told("orig"),
+            **self.sent[False].told("resp"),
         }
         # (tshark has no uid)
         known["uid"] = identifiers.uid(known)

@@ -11,23 +11,27 @@ from tests.support import log_columns, suite_names
 from tests.support.shapes import Line, Row
 
 FIELDS = """
-    handshake.session_id handshake.comp_method handshake.extension.len handshake.extensions_supported_group
-    handshake.extensions_ec_point_format handshake.sig_hash_alg handshake.certificate handshake.ja3 handshake.ja3_full handshake.ja3s
-    handshake.ja3s_full
+    handshake.session_id handshake.comp_method handshake.extension.len
+    handshake.extensions_supported_group handshake.extensions_ec_point_format handshake.sig_hash_alg
+    handshake.certificate handshake.ja3 handshake.ja3_full handshake.ja3s handshake.ja3s_full
 """.split()
 # Fields that tshark has under the names of TLS alone, also of DTLS.
 SHARED = ["tls.extension.psk_ke_mode", "tls.sct.sct_length"]
-# They stand behind the others in a line.
+# They follow the other fields in a line.
 ORDER = log_columns.names()[log_columns.names().index("client_version") :]
 TICKET, CERTIFICATE, CERTIFICATE_REQUEST, STATUS = "4", "11", "13", "22"
 LETTERS = {
-    0x304: "13", 0x303: "12", 0x302: "11", 0x301: "10", 0x300: "s3", 2: "s2", 0xFEFF: "d1", 0xFEFD: "d2", 0xFEFC: "d3",
+    0x304: "13", 0x303: "12", 0x302: "11", 0x301: "10", 0x300: "s3", 2: "s2", 0xFEFF: "d1",
+    0xFEFD: "d2", 0xFEFC: "d3",
 }
 
 
 def names_of(*fields: str) -> list[dict[int, str]]:
     """tshark's names of the numbers of fields."""
-    text = subprocess.run(["tshark", "-G", "values"], stdout=subprocess.PIPE, stderr=subprocess.DEVNULL, text=True, check=True).stdout
+    text = subprocess.run(
+        ["tshark", "-G", "values"], stdout=subprocess.PIPE, stderr=subprocess.DEVNULL, text=True,
+        check=True,
+    ).stdout
     known = {field: {} for field in fields}
     for row in (line.split("\t") for line in text.splitlines()):
         if row[0] == "V" and row[1] in known and " " not in row[3]:
@@ -37,25 +41,26 @@ def names_of(*fields: str) -> list[dict[int, str]]:
 
 # Those of the registries that tshark 4.0 has otherwise, or not.
 LATER_EXTENSIONS = {
-    26: "tls_lts", 29: "pwd_protect", 30: "pwd_clear", 31: "password_salt", 32: "ticket_pinning", 33: "tls_cert_with_extern_psk",
-    34: "delegated_credential", 36: "TLMSP", 37: "TLMSP_proxying", 38: "TLMSP_delegate", 39: "supported_ekt_ciphers",
-    60: "sequence_number_encryption_algorithms", 61: "rrc", 62: "tls_flags", 0xFD00: "ech_outer_extensions", 0xFE0D: "encrypted_client_hello",
+    26: "tls_lts", 29: "pwd_protect", 30: "pwd_clear", 31: "password_salt", 32: "ticket_pinning",
+    33: "tls_cert_with_extern_psk", 34: "delegated_credential", 36: "TLMSP", 37: "TLMSP_proxying",
+    38: "TLMSP_delegate", 39: "supported_ekt_ciphers", 60: "sequence_number_encryption_algorithms",
+    61: "rrc", 62: "tls_flags", 0xFD00: "ech_outer_extensions", 0xFE0D: "encrypted_client_hello",
     0x44CD: "application_settings", 0xCA34: "trust_anchors",
 }
 # RFC 8446, 4.2.3, without the mark that they are reserved; pairs of RFC 5246, 7.4.1.4.1, that it
 # leaves out, in the same form; draft-ietf-tls-mldsa.
 LATER_SCHEMES = {
     0x0202: "dsa_sha1", 0x0402: "dsa_sha256", 0x0502: "dsa_sha384", 0x0602: "dsa_sha512",
-    0x0101: "rsa_pkcs1_md5", 0x0301: "rsa_pkcs1_sha224", 0x0302: "dsa_sha224", 0x0303: "ecdsa_sha224",
-    0x0904: "mldsa44", 0x0905: "mldsa65", 0x0906: "mldsa87",
+    0x0101: "rsa_pkcs1_md5", 0x0301: "rsa_pkcs1_sha224", 0x0302: "dsa_sha224",
+    0x0303: "ecdsa_sha224", 0x0904: "mldsa44", 0x0905: "mldsa65", 0x0906: "mldsa87",
 }
 LATER_GROUPS = {
     31: "brainpoolP256r1tls13", 32: "brainpoolP384r1tls13", 33: "brainpoolP512r1tls13",
-    34: "GC256A", 35: "GC256B", 36: "GC256C", 37: "GC256D", 38: "GC512A", 39: "GC512B", 40: "GC512C",
-    512: "MLKEM512", 513: "MLKEM768", 514: "MLKEM1024", 4587: "SecP256r1MLKEM768", 4588: "X25519MLKEM768", 4589: "SecP384r1MLKEM1024",
-    4590: "curveSM2MLKEM768",
-    0x6399: "X25519Kyber768Draft00", 0x639A: "SecP256r1Kyber768Draft00", 0xFF01: "arbitrary_explicit_prime_curves",
-    0xFF02: "arbitrary_explicit_char2_curves",
+    34: "GC256A", 35: "GC256B", 36: "GC256C", 37: "GC256D", 38: "GC512A", 39: "GC512B",
+    40: "GC512C", 512: "MLKEM512", 513: "MLKEM768", 514: "MLKEM1024", 4587: "SecP256r1MLKEM768",
+    4588: "X25519MLKEM768", 4589: "SecP384r1MLKEM1024", 4590: "curveSM2MLKEM768",
+    0x6399: "X25519Kyber768Draft00", 0x639A: "SecP256r1Kyber768Draft00",
+    0xFF01: "arbitrary_explicit_prime_curves", 0xFF02: "arbitrary_explicit_char2_curves",
 }
 
 
@@ -64,7 +69,9 @@ def registries() -> tuple[dict[int, str], dict[int, str], dict[int, str]]:
     """The names of extensions, signature schemes and groups. Schemes for private use have none in
     the registry."""
     extensions, schemes, groups = names_of(
-        "tls.handshake.extension.type", "tls.handshake.sig_hash_alg", "tls.handshake.extensions_supported_group"
+        "tls.handshake.extension.type",
+        "tls.handshake.sig_hash_alg",
+        "tls.handshake.extensions_supported_group",
     )
     schemes = {number: name for number, name in schemes.items() if number < 0xFE00}
     groups = {number: name for number, name in groups.items() if number < 0x200}
@@ -91,9 +98,14 @@ def short(text: str) -> str:
     return hashlib.sha256(text.encode()).hexdigest()[:12] if text else "0" * 12
 
 
-def ja4(layer: str, version: int, ciphers: list[int], types: list[int], versions: list[int], schemes: list[int], protocols: list[str]) -> str:
+def ja4(
+    layer: str, version: int, ciphers: list[int], types: list[int], versions: list[int],
+    schemes: list[int], protocols: list[str],
+) -> str:
     """JA4 of a ClientHello (github.com/FoxIO-LLC/ja4, technical_details/JA4.md)."""
-    ciphers, types, schemes = ([n for n in ns if not is_grease(n)] for ns in (ciphers, types, schemes))
+    ciphers, types, schemes = (
+        [n for n in ns if not is_grease(n)] for ns in (ciphers, types, schemes)
+    )
     versions = [n for n in versions if not is_grease(n)] or [version]
     best = max(versions)
     first = (protocols or [""])[0]
@@ -116,11 +128,12 @@ def first(row: Row, field: str) -> str | None:
 
 
 def of_client(row: Row, layer: str, versions_by: dict[int, str]) -> Line:
-    """What a ClientHello says."""
+    """The fields of a ClientHello."""
     extensions, schemes_by, groups = registries()
     types = numbers(row, "handshake.extension.type")
     lengths = dict(zip(types, numbers(row, "handshake.extension.len")))
-    version, versions = numbers(row, "handshake.version")[0], numbers(row, "handshake.extensions.supported_version")
+    version = numbers(row, "handshake.version")[0]
+    versions = numbers(row, "handshake.extensions.supported_version")
     ciphers, schemes = numbers(row, "handshake.ciphersuite"), numbers(row, "handshake.sig_hash_alg")
     protocols = row["handshake.extensions_alpn_str"]
     return {
@@ -134,17 +147,24 @@ def of_client(row: Row, layer: str, versions_by: dict[int, str]) -> Line:
         "point_formats": numbers(row, "handshake.extensions_ec_point_format"),
         "sigalgs": named(schemes_by, schemes),
         "orig_alpn": protocols,
-        "client_key_share_groups": named(groups, numbers(row, "handshake.extensions_key_share_group")),
+        "client_key_share_groups": named(
+            groups, numbers(row, "handshake.extensions_key_share_group")
+        ),
         "psk_key_exchange_modes": numbers(row, "tls.extension.psk_ke_mode"),
-        "offers_psk": 41 in types, "offers_early_data": 42 in types, "offers_ticket": lengths.get(35, 0) > 0, "cookie": 44 in types,
-        "ech": 0xFE0D in types, "delegated_credential": 34 in types,
-        "ja3": first(row, "handshake.ja3"), "ja3_string": first(row, "handshake.ja3_full"),
+        "offers_psk": 41 in types,
+        "offers_early_data": 42 in types,
+        "offers_ticket": lengths.get(35, 0) > 0,
+        "cookie": 44 in types,
+        "ech": 0xFE0D in types,
+        "delegated_credential": 34 in types,
+        "ja3": first(row, "handshake.ja3"),
+        "ja3_string": first(row, "handshake.ja3_full"),
         "ja4": ja4(layer, version, ciphers, types, versions, schemes, protocols),
     }
 
 
 def of_server(row: Row, versions_by: dict[int, str]) -> Line:
-    """What a ServerHello says."""
+    """The fields of a ServerHello."""
     extensions, _, groups = registries()
     share = numbers(row, "handshake.extensions_key_share_group")
     return {
@@ -154,7 +174,8 @@ def of_server(row: Row, versions_by: dict[int, str]) -> Line:
         "ssl_server_exts": named(extensions, numbers(row, "handshake.extension.type")),
         "server_key_share_group": named(groups, share)[0] if share else None,
         "scts": len(row["tls.sct.sct_length"]),
-        "ja3s": first(row, "handshake.ja3s"), "ja3s_string": first(row, "handshake.ja3s_full"),
+        "ja3s": first(row, "handshake.ja3s"),
+        "ja3s_string": first(row, "handshake.ja3s_full"),
     }
 
 
@@ -166,15 +187,21 @@ def chain_of(row: Row) -> list[bytes] | None:
 
 
 def of_messages(row: Row, side: bool) -> Line:
-    """What other messages in the clear say; `side` is whether the client sent them."""
+    """The fields of other messages in the clear; `side` is whether the client sent them."""
     types, said = row["handshake.type"], {}
     chain = chain_of(row)
     if chain is not None:
-        front, whole = ("client_cert_", "client_cert_chain_fps") if side else ("cert_", "cert_chain_fps")
+        front, whole = (
+            ("client_cert_", "client_cert_chain_fps") if side else ("cert_", "cert_chain_fps")
+        )
         said[front + "count"] = len(chain)
         said[front + "lengths"] = [len(one) for one in chain]
         said[whole] = [hashlib.sha256(one).hexdigest() for one in chain]
-    marks = {CERTIFICATE_REQUEST: "client_cert_requested", STATUS: "ocsp_stapled", TICKET: "ticket_issued"}
+    marks = {
+        CERTIFICATE_REQUEST: "client_cert_requested",
+        STATUS: "ocsp_stapled",
+        TICKET: "ticket_issued",
+    }
     for kind, field in marks.items():
         if kind in types:
             said[field] = True

@@ -147,7 +147,7 @@ def bent(pieces: Iterable[tuple[bool, bytes]], work: Path) -> list[tuple[bool, b
 
 
 def detail(one: bytes, fault: str | None) -> Line:
-    """What is wanted of one certificate in a line of its own."""
+    """The expected line of one certificate."""
     line = {"fingerprint": wanted_certificates.fingerprint(one), "length": len(one)}
     return line | ({"error": fault} if fault else wanted_certificates.of_line(one))
 
@@ -170,8 +170,8 @@ def wanted_of(work: Path, file: Path, case: str) -> dict[str, list[Line]]:
 
 
 def wanted_of_broken(work: Path, file: Path) -> Line:
-    """The line of a connection whose second certificate tshark doesn't know for one: that of the
-    whole one, but for what the byte changes."""
+    """The line of a connection whose second certificate tshark can't read: the line with the intact
+    certificate, except for the fields that the changed byte affects."""
     [found] = wanted.lines(file)
     chain = [der(work, name) for name in CASES[BROKEN][0]]
     chain[1] = b"\x31" + chain[1][1:]

@@ -1,5 +1,5 @@
-"""Handshakes of this machine's OpenSSL and GnuTLS, by what is run, and a relay on 127.0.0.1 that
-keeps what they say."""
+"""Handshakes of this machine's OpenSSL and GnuTLS, by their commands, and a relay on 127.0.0.1 that
+records the bytes."""
 
 from __future__ import annotations
 
@@ -36,7 +36,7 @@ def make_keys(work: Path) -> None:
 
 
 class Relay(threading.Thread):
-    """Hands on what client and server say, and keeps it."""
+    """Relays the bytes of client and server, and records them."""
 
     def __init__(self, udp: bool) -> None:
         super().__init__(daemon=True)

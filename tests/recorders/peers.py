@@ -14,15 +14,15 @@ HOST = "127.0.0.1"
 
 
 def enter_own_network() -> None:
-    """Starts the script again in a network of its own, in which nothing else is captured and any
-    port is free."""
+    """Starts the script again in a separate network, in which nothing else is captured and any port
+    is free."""
     script.enter_own_network()
     for words in (["gso_max_segs", "1"], ["up"]):
         subprocess.run(["ip", "link", "set", "dev", "lo", *words], check=True)
 
 
 def make_keys(work: Path) -> None:
-    """A certificate of its own for each kind of key: rsa.pem, rsa.key, ec.pem, ec.key."""
+    """Makes a certificate for each kind of key: rsa.pem, rsa.key, ec.pem, ec.key."""
     for name, kind in (("rsa", "rsa:2048"), ("ec", "ec -pkeyopt ec_paramgen_curve:P-256")):
         words = f"openssl req -x509 -nodes -days 3650 -subj /CN=example.test -newkey {kind} -keyout {name}.key -out {name}.pem"
         subprocess.run(words.split(), cwd=work, check=True, stderr=subprocess.DEVNULL)

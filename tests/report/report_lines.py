@@ -26,15 +26,29 @@ DAY = 86400
 # 2026-11-23 00:00:00 UTC
 START = 1795392000
 DAYS = 3
-HOSTS = [f"{name}.{domain}" for domain in ("example.com", "example.net", "example.org") for name in "www api mail cdn login static img docs git shop".split()]
+HOSTS = [
+    f"{name}.{domain}"
+    for domain in ("example.com", "example.net", "example.org")
+    for name in "www api mail cdn login static img docs git shop".split()
+]
 HOSTS += [f"node-{number}.cluster.example" for number in range(170)]
 # Servers that were never looked after: name, version, suite, last alert.
 FORGOTTEN = [
-    ("printer-2.office.example", "TLSv10", "0x0005"), ("printer-3.office.example", "TLSv10", "0x0005"), ("camera.gate.example", "TLSv10", "0x000a"),
-    ("console.rack-7.example", "SSLv3", "0x0004"), ("intranet.office.example", "TLSv11", "0x002f"), ("ftp.archive.example", "TLSv12", "0x0035"),
-    ("meter-11.plant.example", "TLSv12", "0x009c"), ("old-api.example.net", "TLSv12", "0xc014"), ("lab.example.org", "TLSv12", "0x0018"),
+    ("printer-2.office.example", "TLSv10", "0x0005"),
+    ("printer-3.office.example", "TLSv10", "0x0005"),
+    ("camera.gate.example", "TLSv10", "0x000a"),
+    ("console.rack-7.example", "SSLv3", "0x0004"),
+    ("intranet.office.example", "TLSv11", "0x002f"),
+    ("ftp.archive.example", "TLSv12", "0x0035"),
+    ("meter-11.plant.example", "TLSv12", "0x009c"),
+    ("old-api.example.net", "TLSv12", "0xc014"),
+    ("lab.example.org", "TLSv12", "0x0018"),
 ]
-ISSUERS = ["CN=Example Issuing CA 1, O=Example Trust", "CN=Example Issuing CA 2, O=Example Trust", "CN=Office CA, O=Example"]
+ISSUERS = [
+    "CN=Example Issuing CA 1, O=Example Trust",
+    "CN=Example Issuing CA 2, O=Example Trust",
+    "CN=Office CA, O=Example",
+]
 
 
 # Fields that each line of tlslog has.
@@ -73,15 +87,24 @@ def _certificate(name: str, number: int) -> Line:
         names = [f"other.{name}"]
     issuer = f"CN={name}" if number % 31 == 7 else ISSUERS[number % len(ISSUERS)]
     return {
-        "subject": f"CN={name}", "issuer": issuer, "self_issued": issuer == f"CN={name}", "not_after": moment(START + DAYS * DAY + left * DAY + number % DAY),
-        "san_dns": names, "cert_chain_fps": [print_of],
+        "subject": f"CN={name}", "issuer": issuer, "self_issued": issuer == f"CN={name}",
+        "not_after": moment(START + DAYS * DAY + left * DAY + number % DAY), "san_dns": names,
+        "cert_chain_fps": [print_of],
     }
 
 
 def _spoken(lines: list[Line]) -> list[list[Line]]:
     """Which of the lines each host has: a few, those of other versions seldom."""
-    usual = [line for line in lines if line.get("version") in ("TLSv12", "TLSv13") and line["outcome"] in ("full", "resumed", "tls13")]
-    return [[*random.Random(at).sample(usual, 6), *random.Random(-at - 1).sample(lines, 1)] for at in range(len(HOSTS))]
+    usual = [
+        line
+        for line in lines
+        if line.get("version") in ("TLSv12", "TLSv13")
+        and line["outcome"] in ("full", "resumed", "tls13")
+    ]
+    return [
+        [*random.Random(at).sample(usual, 6), *random.Random(-at - 1).sample(lines, 1)]
+        for at in range(len(HOSTS))
+    ]
 
 
 def made(count: int, is_distinct: bool = False) -> Iterator[Line]:
@@ -130,10 +153,30 @@ def text_of(lines: Iterable[Line]) -> bytes:
 
 # Names that no page may take for anything but text.
 NAMES = [
-    "<script>document.title='owned'</script>", "</td></tr></table><script>document.title='owned'</script>", "\"><img src=x onerror=\"document.title='owned'\">",
-    "' onmouseover='document.title=1", "&lt;b&gt;&amp;&#x3c;", "<!-- ", "]]>", "</title><b>title", "javascript:document.title=1", "a\0b", "\x1b[31m", "\x7f\x85\x9f",
-    "\u202egpj.exe", "\u200b\ufeff", "\ud800", "\udfff\ud800", "e\u0301\u0489\u0489", "x" * 100000, "\\xff\\x00\\'", "\u2028\u2029\t\r\n", "", " ",
-    "\U000e0001\U0010ffff\ufffe", "example.test",
+    "<script>document.title='owned'</script>",
+    "</td></tr></table><script>document.title='owned'</script>",
+    '"><img src=x onerror="document.title=\'owned\'">',
+    "' onmouseover='document.title=1",
+    "&lt;b&gt;&amp;&#x3c;",
+    "<!-- ",
+    "]]>",
+    "</title><b>title",
+    "javascript:document.title=1",
+    "a\0b",
+    "\x1b[31m",
+    "\x7f\x85\x9f",
+    "\u202egpj.exe",
+    "\u200b\ufeff",
+    "\ud800",
+    "\udfff\ud800",
+    "e\u0301\u0489\u0489",
+    "x" * 100000,
+    "\\xff\\x00\\'",
+    "\u2028\u2029\t\r\n",
+    "",
+    " ",
+    "\U000e0001\U0010ffff\ufffe",
+    "example.test",
 ]
 
 
@@ -141,12 +184,17 @@ def hostile_fields() -> Iterator[Line]:
     """Objects with values of any type in each field that is read, and names that do harm where they
     aren't escaped."""
     names = [
-        "ts", "uid", "client_version", "client_supported_versions", "client_ciphers", "sni_matches_cert", "self_issued", "id.orig_h", "id.orig_p", "id.resp_h", "id.resp_p", "version", "cipher", "curve", "server_name", "outcome", "resumed", "last_alert", "stop",
+        "ts", "uid", "client_version", "client_supported_versions", "client_ciphers",
+        "sni_matches_cert", "self_issued", "id.orig_h", "id.orig_p", "id.resp_h", "id.resp_p",
+        "version", "cipher", "curve", "server_name", "outcome", "resumed", "last_alert", "stop",
         "ja4", "subject", "issuer", "not_after", "san_dns", "cert_chain_fps",
     ]
     values = [None, True, False, 0, -1, 1 << 70, 1.5, 1e300, -1e300, [], ["a"], [1], [[]], {}]
     values += [{"message": 1, "sender": []}, {"message": "<b>", "sender": "\0"}]
-    values += ["9999-12-31T23:59:59Z", "0000-00-00T00:00:00Z", "0001-01-01T00:00:00Z", "2026-11-25T12:00:00+01:00", "2026-02-30T12:00:00Z"]
+    values += [
+        "9999-12-31T23:59:59Z", "0000-00-00T00:00:00Z", "0001-01-01T00:00:00Z",
+        "2026-11-25T12:00:00+01:00", "2026-02-30T12:00:00Z",
+    ]
     whole = next(made(1))
     for name in names:
         for value in [*values, *NAMES]:
@@ -159,11 +207,33 @@ def hostile_fields() -> Iterator[Line]:
 
 # Lines that are none of a connection, each by itself.
 NO_LINES = [
-    b"{", b"}", b"null", b"1", b'"text"', b"[]", b"[{}]", b"{}", b'{"other":1}', b"{'ts':1}", b'{"ts":NaN}', b'{"ts":-Infinity}', b'{"ts":1}{"ts":1}',
-    b"\xff\xfe", b'{"server_name":"\xff"}', b'{"server_name":"\xed\xa0\x80"}', b'{"server_name":"a\0b"}', b"\xef\xbb\xbf{}", b"\0",
-    b'{"ts":' + b"1" * 5000 + b"}", b"[" * 100000,
-    b'{"ts":' * 50000, b'{"ts":1,"side":"client","place":0,"content_type":22,"name":"client_hello"}', b"ts,version,cipher", b"#separator \\x09",
-    b'{"server_name":"' + b"y" * (5 << 20) + b'"}', b"z" * (13 << 20),
+    b"{",
+    b"}",
+    b"null",
+    b"1",
+    b'"text"',
+    b"[]",
+    b"[{}]",
+    b"{}",
+    b'{"other":1}',
+    b"{'ts':1}",
+    b'{"ts":NaN}',
+    b'{"ts":-Infinity}',
+    b'{"ts":1}{"ts":1}',
+    b"\xff\xfe",
+    b'{"server_name":"\xff"}',
+    b'{"server_name":"\xed\xa0\x80"}',
+    b'{"server_name":"a\0b"}',
+    b"\xef\xbb\xbf{}",
+    b"\0",
+    b'{"ts":' + b"1" * 5000 + b"}",
+    b"[" * 100000,
+    b'{"ts":' * 50000,
+    b'{"ts":1,"side":"client","place":0,"content_type":22,"name":"client_hello"}',
+    b"ts,version,cipher",
+    b"#separator \\x09",
+    b'{"server_name":"' + b"y" * (5 << 20) + b'"}',
+    b"z" * (13 << 20),
 ]
 
 

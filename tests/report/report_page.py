@@ -21,22 +21,34 @@ from tests.support.shapes import Line
 ROWS, SOON, DAY = 100, 30, 86400
 VOID = {"meta", "wbr", "br", "input"}
 COMPLETED = ("full", "resumed", "tls13")
-VERSIONS = {"SSLv3": "SSL 3.0", "TLSv10": "TLS 1.0", "TLSv11": "TLS 1.1", "TLSv12": "TLS 1.2", "TLSv13": "TLS 1.3"}
+VERSIONS = {
+    "SSLv3": "SSL 3.0", "TLSv10": "TLS 1.0", "TLSv11": "TLS 1.1", "TLSv12": "TLS 1.2",
+    "TLSv13": "TLS 1.3",
+}
 VERSIONS |= {"DTLSv10": "DTLS 1.0", "DTLSv12": "DTLS 1.2", "DTLSv13": "DTLS 1.3"}
 OLD = {"SSLv3", "TLSv10", "TLSv11", "DTLSv10", "0x0100"}
 # The suites of the logs that are tried, judged by hand: a log with another one has it added to
 # either.
-WEAK = {"0x0000", "0x0004", "0x0005", "0x000a", "0x0018", "0x002f", "0x0035", "0x009c", "0xc00a", "0xc014"}
+WEAK = {
+    "0x0000", "0x0004", "0x0005", "0x000a", "0x0018", "0x002f", "0x0035", "0x009c", "0xc00a",
+    "0xc014",
+}
 FORBIDDEN = {"0x0000", "0x0004", "0x0005", "0x0018"}
-STRONG = {"0x1301", "0x1302", "0x1303", "0x009e", "0x009f", "0xc02b", "0xc02c", "0xc02f", "0xc030", "0xcca8", "0xcca9"}
+STRONG = {
+    "0x1301", "0x1302", "0x1303", "0x009e", "0x009f", "0xc02b", "0xc02c", "0xc02f", "0xc030",
+    "0xcca8", "0xcca9",
+}
 # The lists of suites of the stored lines with nothing but weak ones, judged by hand: of SSL 2.0, of
 # RSA key transport, of CBC with SHA-1. Each other list has a suite of TLS 1.3, or one with forward
 # secrecy and GCM, CCM or CBC with SHA-256.
 WEAK_LISTS = (
-    {"0x002f"}, {"0x010080", "0x0700c0"}, {"0x009c", "0x00ff"}, {"0x002f", "0x0035", "0x003c", "0x00ff", "0x010080", "0x0700c0"},
+    {"0x002f"}, {"0x010080", "0x0700c0"}, {"0x009c", "0x00ff"},
+    {"0x002f", "0x0035", "0x003c", "0x00ff", "0x010080", "0x0700c0"},
     {"0xc00a", "0xc014", "0x0039", "0xc009", "0xc013", "0x0033", "0x0035", "0x002f", "0x00ff"},
 )
 NONE = "none in the line"
+# The counts in the title of a bar.
+PARTS = r"([\d,]+) (?:completed|broken off|other|1\.3|1\.2|older|none or another)"
 
 
 class Wrong(Exception):
@@ -135,7 +147,9 @@ def static(text: str) -> Page:
     try:
         ElementTree.fromstring(rest)
     except ElementTree.ParseError as reason:
-        raise Wrong(f"the page isn't well formed: {reason}: {rest.splitlines()[reason.position[0] - 1][max(reason.position[1] - 80, 0):][:160]}")
+        row, column = reason.position
+        place = rest.splitlines()[row - 1][max(column - 80, 0) :][:160]
+        raise Wrong(f"the page isn't well formed: {reason}: {place}")
     page = Page(text)
     want(page.tags["script"] == page.tags["style"] == 1, "scripts:", page.tags["script"])
     safe(page)
@@ -143,8 +157,19 @@ def static(text: str) -> Page:
 
 
 def safe(page: Page) -> None:
-    others = [name for name in page.attributes if name.startswith("on") or name in ("src", "srcset", "style", "action", "data")]
-    tags = [tag for tag in ("img", "iframe", "object", "embed", "link", "form", "base", "foreignObject", "image", "use") if page.tags[tag]]
+    others = [
+        name
+        for name in page.attributes
+        if name.startswith("on") or name in ("src", "srcset", "style", "action", "data")
+    ]
+    tags = [
+        tag
+        for tag in (
+            "img", "iframe", "object", "embed", "link", "form", "base", "foreignObject", "image",
+            "use",
+        )
+        if page.tags[tag]
+    ]
     want(not others and not tags, "attributes and elements of others:", others, tags)
     want(page.titles[0].startswith("TLS connections"), "its title:", page.titles[0])
 
@@ -154,31 +179,49 @@ def ranked(counter: dict[Any, int]) -> list[tuple[Any, int]]:
 
 
 def same_table(
-    page: Page, name: str, counter: dict[Any, int], at: int = 1, key: Callable[[str], Any] = lambda text: text, whole: int | None = None,
+    page: Page, name: str, counter: dict[Any, int], at: int = 1,
+    key: Callable[[str], Any] = lambda text: text, whole: int | None = None,
 ) -> None:
     """The rows have the counts of the most frequent values, and the foot has the others."""
     wanted = ranked(counter)
     rows = page.rows[name]
     found = [(key(row[0].strip()), number_of(row[at])) for row in rows["tbody"]]
-    # Equals may stand in another order where the page names them otherwise.
-    want(sorted(found, key=str) == sorted(wanted[:ROWS], key=str) or cut_equals(found, wanted), name, "has", found, "where this is wanted:", wanted[:ROWS])
-    want([count for _, count in found] == [count for _, count in wanted[:ROWS]], name, "isn't in order")
+    # Equal counts may be in another order if the page has other names for them.
+    want(
+        sorted(found, key=str) == sorted(wanted[:ROWS], key=str) or cut_equals(found, wanted), name,
+        "has", found, "where this is wanted:", wanted[:ROWS],
+    )
+    want(
+        [count for _, count in found] == [count for _, count in wanted[:ROWS]],
+        name,
+        "isn't in order",
+    )
     rest = sum(count for _, count in wanted[ROWS:])
     want(bool(rows["tfoot"]) == bool(rest), name, "has a last row:", rows["tfoot"])
-    want((number_of(rows["tfoot"][0][at]) if rows["tfoot"] else 0) == rest, name, "has", rows["tfoot"], "for the others:", rest)
+    want(
+        (number_of(rows["tfoot"][0][at]) if rows["tfoot"] else 0) == rest, name, "has",
+        rows["tfoot"], "for the others:", rest,
+    )
 
 
 def same_shares(page: Page, name: str, whole: int) -> None:
-    """Each share is that of its count, in percent."""
+    """Checks that each share is its count in percent."""
     for row in [*page.rows[name]["tbody"], *page.rows[name]["tfoot"]]:
         percent = 100 * number_of(row[1]) / whole
-        wanted = "<0.1%" if 0 < percent < 0.1 else ">99.9%" if 99.9 < percent < 100 else f"{percent:.1f}%"
+        if 0 < percent < 0.1:
+            wanted = "<0.1%"
+        elif 99.9 < percent < 100:
+            wanted = ">99.9%"
+        else:
+            wanted = f"{percent:.1f}%"
         want(row[2] == wanted, name, "has the share", row, "where this is wanted:", wanted)
 
 
 def cut_equals(found: list[tuple[Any, int]], wanted: list[tuple[Any, int]]) -> bool:
     """Where the last rows are some of many with the same count, these are any of them."""
-    return len(found) == ROWS < len(wanted) and set(found) <= set(wanted) and len(set(found)) == ROWS
+    return (
+        len(found) == ROWS < len(wanted) and set(found) <= set(wanted) and len(set(found)) == ROWS
+    )
 
 
 def server_of(line: Line) -> str:
@@ -204,14 +247,21 @@ def is_weak(line: Line) -> bool:
 def check_figures(page: Page, lines: list[Line]) -> None:
     of = Counter(line["outcome"] for line in lines)
     wanted = {
-        "connections": len(lines), "completed": sum(of[name] for name in COMPLETED), "broken-off": of["broken_off"],
-        "resumed": sum(line.get("resumed", False) for line in lines), "tls13": sum(line.get("version") in ("TLSv13", "DTLSv13") for line in lines),
-        "old": sum(line.get("version") in OLD for line in lines), "weak": sum(map(is_weak, lines)),
+        "connections": len(lines),
+        "completed": sum(of[name] for name in COMPLETED),
+        "broken-off": of["broken_off"],
+        "resumed": sum(line.get("resumed", False) for line in lines),
+        "tls13": sum(line.get("version") in ("TLSv13", "DTLSv13") for line in lines),
+        "old": sum(line.get("version") in OLD for line in lines),
+        "weak": sum(map(is_weak, lines)),
     }
     found = {name: page.number(name) for name in wanted}
     want(found == wanted, "figures", found, "where these are wanted:", wanted)
     times = [line["ts"] for line in lines]
-    want((page.ids["first"], page.ids["last"]) == (at(min(times)), at(max(times))), "times:", page.ids["first"], page.ids["last"])
+    want(
+        (page.ids["first"], page.ids["last"]) == (at(min(times)), at(max(times))), "times:",
+        page.ids["first"], page.ids["last"],
+    )
 
 
 def check_fields(page: Page, lines: list[Line]) -> None:
@@ -219,16 +269,41 @@ def check_fields(page: Page, lines: list[Line]) -> None:
     none = lambda told: lambda text: None if text == told else text  # noqa: E731
     same_table(page, "outcomes", field("outcome"), key=lambda text: text.split(" ")[0])
     same_table(page, "groups", field("curve"), key=none(NONE))
-    versions = Counter({VERSIONS.get(name, name): count for name, count in field("version").items()})
-    same_table(page, "versions", versions, key=lambda text: None if text == NONE else text.removesuffix(" old"))
-    marked = {text.removesuffix(" old") for text in page.column("versions") if text.endswith(" old")}
-    want(marked == {VERSIONS.get(line["version"], line["version"]) for line in lines if line.get("version") in OLD}, "old versions:", marked)
+    versions = Counter(
+        {VERSIONS.get(name, name): count for name, count in field("version").items()}
+    )
+    same_table(
+        page, "versions", versions,
+        key=lambda text: None if text == NONE else text.removesuffix(" old"),
+    )
+    marked = {
+        text.removesuffix(" old") for text in page.column("versions") if text.endswith(" old")
+    }
+    want(
+        marked
+        == {
+            VERSIONS.get(line["version"], line["version"])
+            for line in lines
+            if line.get("version") in OLD
+        },
+        "old versions:",
+        marked,
+    )
     for name in ("outcomes", "groups", "versions", "suites"):
         same_shares(page, name, len(lines))
-    suite = lambda text: None if text == NONE else re.search(r"0x[0-9a-f]{4}", text)[0]  # noqa: E731
+
+    def suite(text: str) -> str | None:
+        return None if text == NONE else re.search(r"0x[0-9a-f]{4}", text)[0]
+
     same_table(page, "suites", Counter(map(number_of_suite, lines)), key=suite)
-    marked = {suite(text) for text in page.column("suites") if not re.search(r"0x[0-9a-f]{4}$|^none", text)}
-    want(marked == {number_of_suite(line) for line in lines if is_weak(line)}, "weak suites:", marked)
+    marked = {
+        suite(text)
+        for text in page.column("suites")
+        if not re.search(r"0x[0-9a-f]{4}$|^none", text)
+    }
+    want(
+        marked == {number_of_suite(line) for line in lines if is_weak(line)}, "weak suites:", marked
+    )
 
 
 def check_names(page: Page, lines: list[Line]) -> None:
@@ -239,7 +314,10 @@ def check_names(page: Page, lines: list[Line]) -> None:
         check_others(page, table, some, lambda line: line[field], lambda line: line["id.orig_h"], 4)
 
 
-def check_others(page: Page, table: str, lines: list[Line], key: Callable[[Line], str], other: Callable[[Line], str], at: int) -> None:
+def check_others(
+    page: Page, table: str, lines: list[Line], key: Callable[[Line], str],
+    other: Callable[[Line], str], at: int,
+) -> None:
     """How many were broken off, and how many different ones there are of another kind."""
     broken, others = Counter(), {}
     for line in lines:
@@ -247,11 +325,17 @@ def check_others(page: Page, table: str, lines: list[Line], key: Callable[[Line]
         others.setdefault(key(line), set()).add(other(line))
     for row in page.rows[table]["tbody"]:
         want(number_of(row[3]) == broken[row[0]], table, row, "broken off:", broken[row[0]])
-        want(number_of(row[at]) == len(others[row[0]]), table, row, "different ones:", len(others[row[0]]))
+        want(
+            number_of(row[at]) == len(others[row[0]]), table, row, "different ones:",
+            len(others[row[0]]),
+        )
 
 
 def check_addresses(page: Page, lines: list[Line]) -> None:
-    for table, key, other in (("clients", lambda line: line["id.orig_h"], server_of), ("servers", server_of, lambda line: line["id.orig_h"])):
+    for table, key, other in (
+        ("clients", lambda line: line["id.orig_h"], server_of),
+        ("servers", server_of, lambda line: line["id.orig_h"]),
+    ):
         same_shares(page, table, len(lines))
         same_table(page, table, Counter(map(key, lines)))
         check_others(page, table, lines, key, other, 4)
@@ -265,7 +349,9 @@ def is_weak_offer(line: Line) -> bool:
 
 
 def old_offers(line: Line) -> set[str]:
-    return (OLD | {"0x0002"}) & set(line.get("client_supported_versions") or [line.get("client_version")])
+    return (OLD | {"0x0002"}) & set(
+        line.get("client_supported_versions") or [line.get("client_version")]
+    )
 
 
 def check_offers(page: Page, lines: list[Line]) -> None:
@@ -276,7 +362,14 @@ def check_offers(page: Page, lines: list[Line]) -> None:
     for row in page.rows["offers"]["tbody"] if some else []:
         own = [line for line in some if line["id.orig_h"] == row[0]]
         versions = {VERSIONS.get(name, name) for line in own for name in old_offers(line)}
-        want(row[2] == "–" if not versions else set(row[2].split(" and ")[0].split(", ")) <= versions, "offers", row, versions)
+        want(
+            row[2] == "–"
+            if not versions
+            else set(row[2].split(" and ")[0].split(", ")) <= versions,
+            "offers",
+            row,
+            versions,
+        )
         want((row[3] != "–") == any(map(is_weak_offer, own)), "offers of suites", row)
 
 
@@ -287,71 +380,141 @@ def check_trust(page: Page, lines: list[Line]) -> None:
     wanted = Counter((line["server_name"], server_of(line)) for line in some)
     rows = page.rows["mismatches"]["tbody"] if some else []
     found = [((row[0], row[2]), number_of(row[1])) for row in rows]
-    want(found == ranked(wanted)[:ROWS] or cut_equals(found, ranked(wanted)) or sorted(found) == sorted(wanted.items()), "wrong names", found, ranked(wanted))
+    want(
+        found == ranked(wanted)[:ROWS]
+        or cut_equals(found, ranked(wanted))
+        or sorted(found) == sorted(wanted.items()),
+        "wrong names",
+        found,
+        ranked(wanted),
+    )
     some = [line for line in lines if "subject" in line and line["subject"] == line["issuer"]]
     want(("self-signed" in page.rows) == bool(some), "self-signed:", len(some))
     wanted = Counter(line["cert_chain_fps"][0] for line in some)
-    found = [(row[6], number_of(row[1])) for row in page.rows["self-signed"]["tbody"]] if some else []
+    found = (
+        [(row[6], number_of(row[1])) for row in page.rows["self-signed"]["tbody"]] if some else []
+    )
     want(sorted(found) == sorted(ranked(wanted)[:ROWS]), "self-signed", found, wanted)
 
 
 def check_failures(page: Page, lines: list[Line]) -> None:
     told = lambda line, name: line.get("stop", {}).get(name, "–")  # noqa: E731
-    some = [line for line in lines if "stop" in line or line["outcome"] in ("broken_off", "unknown", "no_handshake")]
-    wanted = Counter((line.get("last_alert", "none"), line["outcome"], told(line, "message"), told(line, "sender")) for line in some)
-    found = {(row[0], *row[3:6]): number_of(row[1]) for row in page.rows["failures"]["tbody"]} if some else {}
+    some = [
+        line
+        for line in lines
+        if "stop" in line or line["outcome"] in ("broken_off", "unknown", "no_handshake")
+    ]
+    wanted = Counter(
+        (
+            line.get("last_alert", "none"), line["outcome"], told(line, "message"),
+            told(line, "sender"),
+        )
+        for line in some
+    )
+    found = (
+        {(row[0], *row[3:6]): number_of(row[1]) for row in page.rows["failures"]["tbody"]}
+        if some
+        else {}
+    )
     want(found == wanted, "failures", found, "where these are wanted:", wanted)
     same_shares(page, "failures", len(some))
 
 
 def check_servers(page: Page, lines: list[Line]) -> None:
     some = [line for line in lines if line.get("version") in OLD or is_weak(line)]
-    wanted, worst = Counter(map(server_of, some)), {server_of(line) for line in some if line.get("version") in OLD or number_of_suite(line) in FORBIDDEN}
-    found = [(row[0], number_of(row[1]), row[2]) for row in page.rows["poor"]["tbody"]] if some else []
+    wanted = Counter(map(server_of, some))
+    worst = {
+        server_of(line)
+        for line in some
+        if line.get("version") in OLD or number_of_suite(line) in FORBIDDEN
+    }
+    found = (
+        [(row[0], number_of(row[1]), row[2]) for row in page.rows["poor"]["tbody"]] if some else []
+    )
     rows = sorted(wanted.items(), key=lambda item: (item[0] not in worst, -item[1], item[0]))
-    rows = [(server, count, "must not" if server in worst else "should not") for server, count in rows]
+    rows = [
+        (server, count, "must not" if server in worst else "should not") for server, count in rows
+    ]
     want(found == rows[:ROWS], "servers", found, "where these are wanted:", rows[:ROWS])
 
 
 def check_certificates(page: Page, lines: list[Line]) -> None:
     """Those that end until the log's last time and some days."""
     some = [line for line in lines if "not_after" in line]
-    want(("certificates" in page.rows) <= bool(some), "there are certificates where the log has none")
+    want(
+        ("certificates" in page.rows) <= bool(some), "there are certificates where the log has none"
+    )
     if not some:
         want(page.ids["expiring"] == "–", "certificates:", page.ids["expiring"])
         return
-    end = {line["cert_chain_fps"][0]: datetime.fromisoformat(line["not_after"].replace("Z", "+00:00")).timestamp() for line in some}
+    end = {
+        line["cert_chain_fps"][0]: datetime.fromisoformat(
+            line["not_after"].replace("Z", "+00:00")
+        ).timestamp()
+        for line in some
+    }
     last = max(line["ts"] for line in lines)
     soon = {print_of: ends for print_of, ends in end.items() if ends <= last + SOON * DAY}
-    want(page.number("expiring") == len(soon), "certificates:", page.ids["expiring"], "where this is wanted:", len(soon))
+    want(
+        page.number("expiring") == len(soon), "certificates:", page.ids["expiring"],
+        "where this is wanted:", len(soon),
+    )
     subjects = {line["cert_chain_fps"][0]: line.get("subject", "none told") for line in some}
     counts = Counter(line["cert_chain_fps"][0] for line in some)
     servers = {}
     for line in some:
         servers.setdefault(line["cert_chain_fps"][0], set()).add(server_of(line))
-    wanted = sorted((ends, subjects[print_of], counts[print_of], int((ends - last) // DAY), print_of) for print_of, ends in soon.items())
+    wanted = sorted(
+        (ends, subjects[print_of], counts[print_of], int((ends - last) // DAY), print_of)
+        for print_of, ends in soon.items()
+    )
     rows = page.rows["certificates"]["tbody"] if soon else []
-    found = [(row[2], row[0], number_of(row[1]), number_of(row[3].removeprefix("expired ")), row[7]) for row in rows]
+    found = [
+        (row[2], row[0], number_of(row[1]), number_of(row[3].removeprefix("expired ")), row[7])
+        for row in rows
+    ]
     for row in rows:
-        want(set(row[6].split(" and ")[0].split(", ")) <= servers[row[7]], "certificates: servers", row, servers[row[7]])
-    want(sorted(found) == sorted((at(ends), *row) for ends, *row in wanted[:ROWS]), "certificates", found, "where these are wanted:", wanted[:ROWS])
+        want(
+            set(row[6].split(" and ")[0].split(", ")) <= servers[row[7]], "certificates: servers",
+            row, servers[row[7]],
+        )
+    want(
+        sorted(found) == sorted((at(ends), *row) for ends, *row in wanted[:ROWS]), "certificates",
+        found, "where these are wanted:", wanted[:ROWS],
+    )
+
+
+def kind_of_outcome(line: Line) -> int:
+    """The place of a line's outcome in a bar: completed, broken off, other."""
+    if line["outcome"] in COMPLETED:
+        return 0
+    return 1 if line["outcome"] == "broken_off" else 2
+
+
+def kind_of_version(line: Line) -> int:
+    """The place of a line's version in a bar: 1.3, 1.2, older, none or another."""
+    number = line.get("version", "")[-2:]
+    if number in ("13", "12"):
+        return 0 if number == "13" else 1
+    return 2 if line.get("version") in OLD else 3
 
 
 def check_times(page: Page, lines: list[Line]) -> None:
     """The bars of both pictures have the connections of their intervals."""
     units = {"s": 1, "min": 60, "h": 3600, "d": DAY}
-    classes = {
-        3: lambda line: 0 if line["outcome"] in COMPLETED else 1 if line["outcome"] == "broken_off" else 2,
-        4: lambda line: 0 if line.get("version", "")[-2:] == "13" else 1 if line.get("version", "")[-2:] == "12" else 2 if line.get("version") in OLD else 3,
-    }
-    for count, kind in classes.items():
+    for count, kind in ((3, kind_of_outcome), (4, kind_of_version)):
         found, step = {}, 0
         for title in page.titles:
             told = re.fullmatch(r"(\S+ \S+), ([\d,]+) (s|min|h|d): (.*)", title)
-            if told and len(parts := re.findall(r"([\d,]+) (?:completed|broken off|other|1\.3|1\.2|older|none or another)", told[4])) == count:
+            parts = re.findall(PARTS, told[4]) if told else []
+            if told and len(parts) == count:
                 step = number_of(told[2]) * units[told[3]]
                 start = datetime.fromisoformat(f"{told[1]}+00:00").timestamp()
-                found |= {(start, place): number_of(part) for place, part in enumerate(parts) if part != "0"}
+                found |= {
+                    (start, place): number_of(part)
+                    for place, part in enumerate(parts)
+                    if part != "0"
+                }
         wanted = Counter((line["ts"] // step * step, kind(line)) for line in lines)
         want(found == wanted, "bars", found, "where these are wanted:", wanted)
 
@@ -363,11 +526,24 @@ def check_commands(page: Page, log: Path, step: int = 1) -> int:
     rows = []
     for name, commands in page.commands.items():
         body = page.rows[name]["tbody"]
-        want(len(commands) in (0, len(body)), name, "has", len(commands), "commands for", len(body), "rows")
+        want(
+            len(commands) in (0, len(body)), name, "has", len(commands), "commands for", len(body),
+            "rows",
+        )
         rows += [(name, row, command) for row, command in list(zip(body, commands))[::step]]
-    parts = [re.fullmatch(r"jq -r 'select\((.*)\) \| \.uid' (\S+)", command) for _, _, command in rows]
-    want(all(parts), "a command of another form:", [row[2] for row, part in zip(rows, parts) if not part][:1])
-    program = "[" + ", ".join(f"({part[1]})" for part in parts) + "] as $is | [.uid, ($is | to_entries | map(select(.value) | .key))]"
+    parts = [
+        re.fullmatch(r"jq -r 'select\((.*)\) \| \.uid' (\S+)", command) for _, _, command in rows
+    ]
+    want(
+        all(parts),
+        "a command of another form:",
+        [row[2] for row, part in zip(rows, parts) if not part][:1],
+    )
+    program = (
+        "["
+        + ", ".join(f"({part[1]})" for part in parts)
+        + "] as $is | [.uid, ($is | to_entries | map(select(.value) | .key))]"
+    )
     listed: list[list[str]] = [[] for _ in rows]
     for line in run_jq(["jq", "-c", program, log]).splitlines():
         uid, places = json.loads(line)
@@ -376,28 +552,42 @@ def check_commands(page: Page, log: Path, step: int = 1) -> int:
     tried = set()
     for (name, row, command), found in zip(rows, listed):
         count = number_of(row[2 if name == "rule" else 1])
-        want(len(found) == count, name, row, "has a command that lists", len(found), "connections:", command)
+        want(
+            len(found) == count, name, row, "has a command that lists", len(found), "connections:",
+            command,
+        )
         shown = re.findall(r"C\w{17}", row[-1].split("jq -r")[0])
-        want(shown == found[: len(shown)] and len(shown) == min(count, 3), name, row, "shows", shown, "of", found[:4])
+        want(
+            shown == found[: len(shown)] and len(shown) == min(count, 3), name, row, "shows", shown,
+            "of", found[:4],
+        )
         if name not in tried:
-            want(run_jq(["bash", "-c", command], log.parent).splitlines() == found, name, "has a command that lists otherwise by the shell:", command)
+            want(
+                run_jq(["bash", "-c", command], log.parent).splitlines() == found,
+                name,
+                "has a command that lists otherwise by the shell:",
+                command,
+            )
         tried.add(name)
     return len(rows)
 
 
 def run_jq(words: list[str | Path], folder: Path | None = None) -> str:
-    done = subprocess.run(words, cwd=folder, stdout=subprocess.PIPE, stderr=subprocess.PIPE, text=True)
+    done = subprocess.run(
+        words, cwd=folder, stdout=subprocess.PIPE, stderr=subprocess.PIPE, text=True
+    )
     want(done.returncode == 0, words, "ends with status", done.returncode, done.stderr[-600:])
     return done.stdout
 
 
 CHECKS = (
-    check_figures, check_fields, check_names, check_addresses, check_failures, check_servers, check_offers, check_certificates, check_trust, check_times,
+    check_figures, check_fields, check_names, check_addresses, check_failures, check_servers,
+    check_offers, check_certificates, check_trust, check_times,
 )
 
 
 def check(page: Page, lines: list[Line]) -> int:
-    """Whether a page says what the lines want; all lines have the fields of tlslog, and few enough
+    """Checks a page against its lines. All lines have the fields of tlslog, and few enough
     different values for exact counts."""
     for one in CHECKS:
         one(page, lines)

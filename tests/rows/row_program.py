@@ -39,7 +39,7 @@ def sources() -> dict[str, Path]:
 
 
 def crates_below() -> set[str]:
-    """The crates of the repository that the program stands on."""
+    """The crates of the repository that the program depends on."""
     lines = (line.split(":") for line in (TOP / "crates.txt").read_text().splitlines() if ":" in line and not line.startswith("#"))
     listed = {names.split()[0]: below.split() for names, below in lines}
     found, wanted = set[str](), STANDS_ON.split()

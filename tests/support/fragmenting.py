@@ -17,14 +17,14 @@ Way = Callable[[bytes, int], tuple[list[bytes], int]]
 
 V4_HEADER, V6_HEADER = 20, 40
 FRAGMENT = 44
-# Destination Options of 8 bytes that say nothing but that a Fragment header follows.
+# Destination Options of 8 bytes without an option; a Fragment header follows.
 OPTIONS = bytes([FRAGMENT, 0, 1, 4, 0, 0, 0, 0])
 MAX_DATAGRAM = 65_535
 
 
 def parts_of(frame: bytes) -> tuple[bytes, bytes, int, bytes]:
-    """The link's header, that of IP with its options, the protocol behind that, and the rest of a
-    datagram in a frame of Ethernet."""
+    """Splits an Ethernet frame into the link header, the IP header with its options, the protocol
+    behind it, and the rest of the datagram."""
     link, ip = frame[:LINK_HEADER], frame[LINK_HEADER:]
     if ip[0] >> 4 == 6:
         return link, ip[:V6_HEADER], ip[6], ip[V6_HEADER : V6_HEADER + int.from_bytes(ip[4:6], "big")]

@@ -12,7 +12,7 @@ from typing import NamedTuple
 CRATES = Path(__file__).resolve().parents[2] / "crates"
 FIELDS, COLUMNS = CRATES / "log_fields/src/fields.rt", CRATES / "log_fields/src/columns.rt"
 TYPES, ZEEK = CRATES / "log_formats/src/column.rt", CRATES / "log_formats/src/zeek.rt"
-# What a row's lines begin with where they say something else than what the field is.
+# The first words of a row's lines that aren't the field's description.
 LABELS = ("RFC", "Zeek", "absent")
 ABOVE = "as above"
 TABLE = re.compile(r"^pub static (\w+): &\[Column<\w+>\] = columns! \{\n(.*?)^\};\n", re.M | re.S)
@@ -31,11 +31,11 @@ class Wrong(Exception):
 class Column(NamedTuple):
     name: str
     kind: str  # the variant of Type
-    said: dict[str, str]  # "is", and of LABELS those that it has; none where the row above tells it
+    said: dict[str, str]  # "is", and its LABELS; empty if the comment is above an earlier row
 
 
 def said(name: str, lines: list[str]) -> dict[str, str]:
-    """What stands in front of a row."""
+    """Returns the texts of the comment in front of a row."""
     if lines == [ABOVE]:
         return {}
     told, label = {"is": []}, "is"
@@ -104,12 +104,12 @@ def tables() -> dict[str, list[Column]]:
     found |= {name: columns(body) for name, body in TABLE.findall(COLUMNS.read_text())}
     for table in found.values():
         if not table[0].said:
-            raise Wrong(f"nothing stands above {table[0].name}")
+            raise Wrong(f"nothing is above {table[0].name}")
     return found
 
 
 def groups(table: list[Column]) -> list[list[Column]]:
-    """The rows by those that tell one text together."""
+    """Groups the rows that share one text."""
     found = []
     for column in table:
         if column.said:
@@ -120,7 +120,7 @@ def groups(table: list[Column]) -> list[list[Column]]:
 
 
 def kinds() -> dict[str, tuple[str, str]]:
-    """The variants of Type: what each says, and Zeek's name of it."""
+    """The variants of Type: each one's description, and Zeek's name for it."""
     body = TYPES.read_text().split("pub enum Type {\n")[1].split("\n}")[0]
     found = re.findall(r"((?:^    /// .*\n)+)    (\w+),$", body, re.M)
     texts = {name: " ".join(line.strip().removeprefix("/// ") for line in text.splitlines()) for text, name in found}

@@ -16,8 +16,8 @@ TCP, UDP = 6, 17
 End = tuple[bytes, bytes]
 # A frame, with its time in microseconds.
 Timed = tuple[int, bytes]
-# What wraps a frame: what stands behind the outer link's type then, and which tunnels these are,
-# with the number of each.
+# Wraps a frame in tunnels: returns the bytes behind the outer link's type, the names of the
+# tunnels, and the number of each.
 Wrap = Callable[[bytes], tuple[bytes, list[str], list[int]]]
 
 
@@ -27,8 +27,8 @@ class Segment:
     microseconds."""
 
     time: int
-    front: bytes  # The link's header and that of IP.
-    tcp: bytes  # The header of TCP, with its options; or that of UDP.
+    front: bytes  # The headers of the link and of IP.
+    tcp: bytes  # The header of TCP, with its options, or of UDP.
     payload: bytes
 
     @property
@@ -97,8 +97,8 @@ def words(data: bytes) -> int:
 
 
 def checksum(total: int) -> bytes:
-    """That of words with this sum; over UDP 0 says that there is none, and 0xffff stands for it
-    (RFC 768)."""
+    """Returns the checksum of words with this sum. A checksum of 0 is sent as 0xffff, since 0 means
+    none over UDP (RFC 768)."""
     return (-total % 65535 or 65535).to_bytes(2, "big")
 
 
@@ -148,8 +148,8 @@ def block(order: str, kind: int, body: bytes) -> bytes:
 
 
 def pcapng(packets: Iterable[Timed], order: str = "<", nano: bool = False, is_obsolete: bool = False, link: int = ETHERNET, offset: int = 0) -> bytes:
-    """A capture in blocks (draft-ietf-opsawg-pcapng), with a block of names that no one reads. All
-    times are that many seconds behind those of its packets where its interface says an offset."""
+    """A capture in blocks (draft-ietf-opsawg-pcapng), with a block of names that nobody reads. With
+    an offset of its interface, all times are so many seconds after those in its packets."""
     options = struct.pack(order + "HHBxxx", 9, 1, 9) if nano else b""
     options += struct.pack(order + "HHq", 14, 8, offset) if offset else b""
     options += struct.pack(order + "HH", 0, 0) if options else b""
@@ -243,7 +243,7 @@ def wrappings() -> Iterator[tuple[str, Wrap, bytes | None]]:
     headers are those of the RFCs that crates/tunnels names."""
 
     def datagram(frame: bytes) -> tuple[bytes, int]:
-        """What the frame carries, and of which version of IP that is."""
+        """Returns the payload of the frame, and its version of IP."""
         return frame[LINK_HEADER:], frame[LINK_HEADER] >> 4
 
     def in_ip(outer: Callable[[int, bytes], bytes], protocol: int | None, header: bytes = b"", name: str | None = None, number: int = 0) -> Wrap:

@@ -12,7 +12,7 @@ from pathlib import Path
 
 TOP = Path(__file__).resolve().parents[2]
 HOST = "tlsview"
-# What the programs stand on beside that.
+# Further crates that the programs use.
 MORE = "tls_parser tls_flow"
 
 

@@ -1,4 +1,4 @@
-"""What every script needs: --help, subcommands, and a network of its own."""
+"""What every script needs: --help, subcommands, and a separate network."""
 
 from __future__ import annotations
 
@@ -28,8 +28,8 @@ def run_subcommand(text: str | None, commands: Mapping[str, Callable[[list[str]]
 
 
 def enter_own_network(*more: str) -> None:
-    """Starts the script again, as root, in a network namespace of its own, where no other traffic
-    is captured."""
+    """Starts the script again, as root, in a new network namespace, where no other traffic is
+    captured."""
     if os.environ.get("OWN_NETWORK") != "yes":
         os.environ["OWN_NETWORK"] = "yes"
         os.execvp("unshare", ["unshare", "--net", *more, sys.executable, "-B", *sys.argv])

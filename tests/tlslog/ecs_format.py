@@ -39,7 +39,7 @@ def own_certificates(lines: list[Line]) -> dict[tuple[str, str], Line]:
 
 
 def certificate(line: Line | None) -> Line:
-    """What is wanted of a certificate, of which this is the line."""
+    """Returns the expected event of a certificate, from its line."""
     if line is None:
         return {}
     of = lambda name: line.get(f"certificate.{name}")  # noqa: E731
@@ -68,7 +68,7 @@ def without_none(value: Any) -> Any:
 
 
 def event_of(line: Line, certificates: dict[tuple[str, str], Line]) -> Line:
-    """The event that is wanted of a connection."""
+    """Returns the expected event of a connection."""
     begin, duration = micro(line["ts"]), micro(line["duration"])
     protocol, number = version(line.get("version"))
     client, server = (certificate(certificates.get((line["uid"], side))) for side in ("client", "server"))
@@ -98,7 +98,7 @@ def event_of(line: Line, certificates: dict[tuple[str, str], Line]) -> Line:
 
 
 def names_in(value: Line, front: str = "") -> Iterator[str]:
-    """The names of an event, with dots between those of its objects."""
+    """The names of an event, with dots between the names of its objects."""
     for name, one in value.items():
         if isinstance(one, dict):
             yield from names_in(one, f"{front}{name}.")
@@ -119,8 +119,8 @@ def unique(pairs: list[tuple[str, Any]]) -> Line:
 
 
 def check_one(ask: Ask, file: Path, told: set[str]) -> int:
-    """Each event of a capture says what the lines of the connection and of its certificates say, in
-    that order; each of its names is told on the page."""
+    """Compares each event of a capture with the lines of the connection and of its certificates, in
+    that order. Each of its names is on the page."""
     lines = [json.loads(line) for line in ask([file])[1].splitlines()]
     certificates = own_certificates([json.loads(line) for line in ask(["--certificates", file])[1].splitlines()])
     status, text, error = ask(["--format", "ecs", file])
@@ -131,7 +131,7 @@ def check_one(ask: Ask, file: Path, told: set[str]) -> int:
         want(event == wanted, "ecs:", event, "wanted is", wanted)
         names = list(names_in(event))
         want(names == list(names_in(wanted)), "ecs: the order of names is", names)
-        want(set(names) <= told, "ecs: docs/TLSLOG.md doesn't tell", set(names) - told)
+        want(set(names) <= told, "ecs: docs/TLSLOG.md doesn't have", set(names) - told)
     return len(events)
 
 

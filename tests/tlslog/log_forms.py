@@ -101,7 +101,7 @@ def fields(ask: Ask, files: list[Path], lines: list[Line]) -> int:
     want({name for line in lines for name in line} <= {*names}, "csv has no column for a field of a line")
     page = (TOP / "docs" / "TLSLOG.md").read_text()
     lacking = [name for name in names if f"`{name}`" not in page]
-    want(not lacking, "docs/TLSLOG.md says nothing of", lacking)
+    want(not lacking, "docs/TLSLOG.md doesn't have", lacking)
     for name in names:
         status, text, _ = ask(["--fields", name, *files])
         wanted = [{name: line[name]} if name in line else {} for line in lines]
@@ -164,10 +164,9 @@ def key(message: Line) -> tuple[int, str]:
 
 
 def messages(ask: Ask, files: list[Path]) -> tuple[int, int]:
-    """The messages are those that tshark has, which `captures/messages` says, at their times; each
-    has its place, and all have their fields as comma-separated values too. Key exchanges,
-    signatures and keys known before have the fields that tshark has, which `captures/exchanges`
-    says."""
+    """Compares the messages and their times with those of tshark, in `captures/messages`. Each has
+    its place, and all have their fields as comma-separated values too. The fields of key
+    exchanges, signatures and pre-shared keys are tshark's, in `captures/exchanges`."""
     wanted = Counter((TOP / "captures" / "messages").read_text().splitlines())
     fields_wanted = Counter((TOP / "captures" / "exchanges").read_text().splitlines())
     found, fields_found, places, rows = Counter(), Counter(), Counter(), []
@@ -274,7 +273,7 @@ def printed(what: str, text: str) -> list[str]:
 
 
 def uses(program: Path, files: list[Path], lines: list[Line], room: Path) -> int:
-    """The commands of docs/REPORT.md, as they stand there."""
+    """Runs the commands of docs/REPORT.md."""
     if not shutil.which("jq"):
         print("tlslog: there is no jq: the commands of docs/REPORT.md weren't run")
         return 0
@@ -295,7 +294,7 @@ def uses(program: Path, files: list[Path], lines: list[Line], room: Path) -> int
 
 
 def many_captures(program: Path, ask: Ask, files: list[Path], room: Path) -> int:
-    """The command of docs/SCALE.md on many captures, as it stands there."""
+    """Runs the command of docs/SCALE.md on many captures."""
     [command] = re.findall(r"^    (printf .*)$", (TOP / "docs" / "SCALE.md").read_text(), re.M)
     folder = room / "many"
     folder.mkdir()
@@ -331,7 +330,7 @@ def with_suite(s: packets.Segment, number: int) -> packets.Segment:
 
 
 def with_compression(s: packets.Segment, number: int) -> packets.Segment:
-    """The same with another compression method."""
+    """Returns the hello with another compression method."""
     if not begins_with_hello(s):
         return s
     at = suites_of(s.payload)
@@ -354,9 +353,9 @@ def others(ask: Ask, file: Path, room: Path, change: Callable[[packets.Segment, 
 
 
 def told_again(ask: Ask, files: list[Path], lines: list[Line], room: Path) -> int:
-    """What a line says of a list or a certificate of which a line before told: all captures twice
-    in one run, fields of certificates apart from one another, and more suites, compression methods
-    and certificates than are kept."""
+    """Lines with a list or a certificate that an earlier line had: all captures twice in one run,
+    fields of certificates one by one, and more suites, compression methods and certificates than
+    are cached."""
     status, text, _ = ask([*files, *files])
     want(status == 0 and [json.loads(row) for row in text.splitlines()] == [*lines, *lines], "twice in one run:", status, text[-300:])
     for names in (
@@ -397,8 +396,8 @@ def check(program: Path, ask: Ask, files: list[Path], lines: list[Line], room: P
     print(f"tlslog: {count} fields alone, in another order and as comma-separated values, and names of suites, are as they are stored")
     [plain] = [file for file in files if file.stem == "openssl_rsa"]
     print(f"tlslog: of {formulas(ask, plain, room)} names those that begin as formulas do are marked as comma-separated values, unless --csv-raw is given")
-    print(f"tlslog: {told_again(ask, files, lines, room)} hellos and certificates that differ in a number, and all captures, say the same when they come again")
-    print(f"tlslog: {len(lines)} lines have the identifiers that hashlib makes, and {identified(ask, files, lines)} of messages and certificates that of their connection")
+    print(f"tlslog: {told_again(ask, files, lines, room)} hellos and certificates that differ in a number, and all captures, have the same lines when they are repeated")
+    print(f"tlslog: {len(lines)} lines have the identifiers that hashlib makes, and {identified(ask, files, lines)} of messages and certificates their connection's")
     count, with_fields = messages(ask, files)
     print(f"tlslog: {count} messages are those that tshark has, with their places, also as comma-separated values; {with_fields} of them have the "
           "fields of key exchanges, signatures and keys known before that tshark has")

@@ -32,7 +32,7 @@ def in_text_both(ends: frozenset[packets.End]) -> frozenset[tuple[str, int]]:
 
 
 def ahead(number: int, other: int) -> int:
-    """How far a number stands behind another; less than 0 where it stands in front."""
+    """Returns how far a number is behind another; less than 0 if it is in front."""
     return (number - other + HALF) % 2**32 - HALF
 
 
@@ -58,7 +58,7 @@ class Sender:
         return end
 
     def has_more(self, end: int, kinds: Callable[[packets.Segment], bool] = lambda s: True) -> bool:
-        """Something stands further behind."""
+        """Whether there is data further behind."""
         return any(place + len(s.payload) > end for s, place in self.segments if kinds(s))
 
     def bytes(self) -> bytes:
@@ -69,8 +69,8 @@ class Sender:
 
 
 def clear(stream: bytes) -> int:
-    """How many bytes stand in front of a side's first record that may be encrypted: up to there it
-    is read, whatever else came."""
+    """Returns how many bytes are in front of the first record of a side that may be encrypted. They
+    are read, whatever else came."""
     at, has_changed = 0, False
     while at + HEADER <= len(stream):
         if has_changed or stream[at] == APPLICATION_DATA:
@@ -105,7 +105,7 @@ class Whole:
         if line and line["ts"] != round(begun.time / 1_000_000, 6):
             return f"the line begins at {line['ts']}, and not at {begun.time}"
         if begun.is_udp:
-            # The numbers of messages tell whether the first ones are missing (`lacks_front`);
+            # The message numbers show whether the first ones are missing (`lacks_front`);
             # tests/units/tls_analyzer/associations has rows for that.
             return None
         is_missing, is_whole, is_told = set(), set(), False
@@ -115,8 +115,8 @@ class Whole:
                 is_told |= in_text_both(ends) in self.lines and end >= HEADER
                 if end < clear(whole.bytes()) and sender.has_more(end, lambda s: not s.says_nothing()):
                     is_missing.add(source)
-            # A packet that acknowledges behind its sender's FIN stands one place further than the
-            # last byte: where the FIN is missing, as if that were a byte.
+            # A packet behind its sender's FIN is one number further than the last byte. If the FIN
+            # is missing, it counts as a missing byte.
             if not sender.has_more(end):
                 is_whole.add(source)
         if not line:

@@ -104,8 +104,8 @@ def rows(ask: Ask, *words: object) -> str:
 
 
 def zeek(ask: Ask, files: list[Path]) -> int:
-    """Each log has the fields and the values of the lines of JSON; chosen fields stand in their
-    order, and awk cuts as zeek-cut does."""
+    """Each log has the fields and values of the JSON lines. Chosen fields are in their order, and
+    awk cuts as zeek-cut does."""
     count = 0
     for words, path in PATHS.items():
         lines = [json.loads(line) for line in rows(ask, *words, *files).splitlines()]
@@ -143,7 +143,7 @@ def hello(name: bytes, protocols: list[bytes]) -> bytes:
 
 
 def with_hello(capture: Path, record: bytes) -> bytes:
-    """A capture of which a hello is the first payload, up to there, with another hello."""
+    """Returns a capture whose first payload is a hello, up to there, with another hello."""
     segments = packets.read(capture.read_bytes())
     place = next(place for place, segment in enumerate(segments) if segment.payload)
     made = [*segments[:place], replace(segments[place], payload=record)]
@@ -151,8 +151,8 @@ def with_hello(capture: Path, record: bytes) -> bytes:
 
 
 def hostile_captures(capture: Path, room: Path) -> list[Path]:
-    """A capture for each name, in whose hello it is the host, and stands in the list of protocols.
-    The capture is one of which a hello is the first payload."""
+    """Writes a capture for each name, with the name as the host and in the list of protocols of its
+    hello. In the capture given, the first payload is a hello."""
     files = []
     for number, name in enumerate(NAMES):
         files.append(room / f"name-{number}.pcap")
@@ -259,7 +259,7 @@ def chains_of(file: Path, event: Line) -> Iterator[str]:
 
 
 def chains(ask: Ask, files: list[Path]) -> None:
-    """The certificates of the events are those that tshark has, which `captures/chains` says."""
+    """Compares the certificates of the events with those of tshark, in `captures/chains`."""
     wanted = Counter((TOP / "captures" / "chains").read_text().splitlines())
     found = Counter(
         chain for file in files for row in rows(ask, "--format", "suricata", file).splitlines() for chain in chains_of(file, json.loads(row))
@@ -268,7 +268,7 @@ def chains(ask: Ask, files: list[Path]) -> None:
 
 
 def suricata(ask: Ask, files: list[Path]) -> int:
-    """Each event says what the line of JSON says. SHA-1 and base64 are Python's, of the certificates
+    """Compares each event with the JSON line. Python computes SHA-1 and base64, of the certificates
     whose SHA-256 the line has."""
     lines = [json.loads(line) for line in rows(ask, *files).splitlines()]
     sent = sent_certificates(json.loads(line) for line in rows(ask, "--messages", *files).splitlines())

@@ -238,7 +238,7 @@ def statuses(program: Program, captures: list[Stored]) -> None:
 
 
 def closed() -> int:
-    """The end of a pipe that nobody reads."""
+    """The write end of a pipe without a reader."""
     reading, writing = os.pipe()
     os.close(reading)
     return writing

@@ -29,7 +29,7 @@ def part_of(line: Line, count: int) -> int:
 
 
 def rotated(segments: list[packets.Segment], count: int) -> Iterator[bytes]:
-    """So many captures, one behind the other, each with a header of its own: of pcap and pcapng in
+    """Returns so many captures, one behind the other, each with its header: pcap and pcapng in
     turn."""
     step = -(-len(segments) // count)
     for number, at in enumerate(range(0, len(segments), step)):

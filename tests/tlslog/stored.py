@@ -53,7 +53,7 @@ def found_in(lines: list[Line]) -> str:
 
 
 def report_of(name: object, lines: list[Line], count: int, *left_out: str) -> str:
-    """What standard error has of a capture with so many packets, of which this was left out."""
+    """Returns the text on standard error for a capture with so many packets, some left out."""
     gaps = sum("gap" in line for line in lines)
     left_out = (*left_out, counted(gaps, "connections", "with lost bytes")) if gaps else left_out
     words = [f"{found_in(lines)}, {counted(count, 'packets')}"]

@@ -38,7 +38,7 @@ def seconds(line: Line) -> str:
 
 
 def values(line: Line) -> dict[str, str]:
-    """What each column tells of a connection, in full."""
+    """The text of each column for a connection, unabridged."""
     begin = datetime.fromtimestamp(micro(line["ts"]) // 1_000_000, timezone.utc)
     return {
         "time (UTC)": f"{begin:%m-%d %H:%M:%S}", "client": line["id.orig_h"], "server": server(line), "host": line.get("server_name", "-"),
@@ -74,7 +74,7 @@ def check(ask: Ask, files: list[Path]) -> int:
 
 
 def refused(ask: Ask, name: str, files: list[Path]) -> None:
-    """A format with fields of its own goes with none of these options."""
+    """A format with fixed fields can't be combined with these options."""
     for words, told in [(["--fields", "ts"], f"--fields doesn't go with --format {name}"), (["--messages"], "neither --messages"), (["--certificates"], "nor --certificates")]:
         status, text, error = ask(["--format", name, *words, *files])
         want((status, text) == (2, "") and told in error, name, *words, status, error)

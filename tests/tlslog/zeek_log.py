@@ -54,7 +54,7 @@ class Log:
         lines = text.split("\n")[:-1]
         meta = [line for line in lines if line.startswith("#")]
         if lines[: len(meta) - 1] != meta[:-1] or lines[-1] != meta[-1]:
-            raise Wrong("lines with # stand among others")
+            raise Wrong("lines with # are among others")
         if meta[0] != r"#separator \x09":
             raise Wrong(f"another separator: {meta[0]}")
         told = [line[1:].split("\t") for line in meta[1:]]

@@ -1,4 +1,4 @@
-"""Which rows are inputs of which group of calls."""
+"""The rows that are inputs of each group of calls."""
 
 from __future__ import annotations
 
@@ -9,7 +9,7 @@ HANDSHAKE, CLIENT_HELLO, CERTIFICATE, CERTIFICATE_REQUEST = 22, 1, 11, 13
 NAMES = """records messages hellos suites methods certificates requests extensions contents timestamps dtls_records
     dtls_messages""".split()
 
-# Calls of which an input begins with a record, a message, and so on.
+# Calls whose input begins with a record, a message, and so on.
 RECORDS = """parse_tls_plaintext tls_parser tls_parser_many parse_tls_raw_record parse_tls_encrypted parse_tls_record_header
     parse_host_name parse_alerts next_record missing_bytes replace_extensions split_pieces gen_tls_plaintext gen_tls_message"""
 MESSAGES = "parse_tls_message_handshake"
@@ -58,7 +58,7 @@ WIDTHS = {0: 2, 10: 2, 11: 1, 13: 2, 16: 2, 43: 1, 45: 1, 48: 2, 51: 2}
 
 
 def front(kind: int) -> bytes:
-    """What stands in front of the length of a record of TLS 1.2."""
+    """The bytes in front of the length of a TLS 1.2 record."""
     return bytes([kind, 3, 3])
 
 

@@ -17,14 +17,14 @@ DATA = Path(__file__).resolve().parent.parent.parent / "tests/rows/data"
 SHORT = 600
 # On each side of the ends of a longer one, and of its repeated parts, it is cut at so many places.
 NEAR = 2
-# Bytes that are repeated stand as one part and a count, from so many bytes on.
+# From so many bytes on, repeated bytes are written as one part and a count.
 REPEATED = 64
 # No part that is read in place is longer.
 MOST = 1 << 17
 
 
 class Within(NamedTuple):
-    """Bytes from `start` up to `end`, and where the last bytes of their length stand."""
+    """Bytes from `start` up to `end`, and the places of the last bytes of their length."""
 
     places: tuple
     start: int
@@ -53,8 +53,7 @@ class Input(NamedTuple):
         return self._replace(data=front + self.data, within=tuple(w.moved(len(front)) for w in self.within))
 
     def counted(self, width: int, start: int = 0) -> Input:
-        """The same, to be cut within the length of so many bytes that stands at `start`, if that is
-        one."""
+        """Adds cuts within the length of so many bytes at `start`, if it is a length."""
         behind = start + width
         end = behind + number(self.data, start, width)
         if not behind < end <= len(self.data):
@@ -126,7 +125,7 @@ def row(name: str, words: list[str], names: dict[str, bytes]) -> tuple[list[str]
 
 
 def parts(data: bytes) -> list[tuple[bytes, int]]:
-    """Bytes, and how often they stand there."""
+    """Bytes, and how often they are repeated."""
     found, plain, k = [], 0, 0
     while k < len(data):
         period, times = repeated(data, k)
@@ -144,8 +143,7 @@ def parts(data: bytes) -> list[tuple[bytes, int]]:
 
 
 def repeated(data: bytes, start: int) -> tuple[int, int]:
-    """How many bytes at `start` are repeated, and how often they stand there; 0 where they are
-    few."""
+    """How many bytes at `start` are repeated, and how often; 0 if they are few."""
     for period in (1, 2, 4):
         end = start + period
         while end < len(data) and data[end] == data[end - period]:

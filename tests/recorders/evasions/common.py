@@ -38,7 +38,7 @@ Play = Callable[[rooms.Room], None]
 class Scene:
     name: str
     says: str  # What is in the capture.
-    rule: str  # Where an RFC says what is wanted.
+    rule: str  # The RFC's section with the rule.
     play: Play
     settings: dict
     offloads: bool
@@ -73,8 +73,8 @@ def begin(
 def forge(
     room: rooms.Room, end: End, why: str, what: str, payload: bytes = b"", wait: float = SOON, flags: int = PSH | ACK, **more: Any
 ) -> list[Packet]:
-    """A packet that the host drops, for the reason `why`; what it says to it is noted. Where the
-    kernel names its reason, this is one that is called so."""
+    """Sends a packet that the host drops, for the reason `why`, and notes its response. If the
+    kernel has a name for the reason, `why` is one with that name."""
     found = room.try_packet(end, what, wait, flags=flags, payload=payload, **more)
     sending = room.sendings[-1]
     words = {rooms.WORDS.get(reason) for reason in sending["reasons"]} - {None}
@@ -110,13 +110,13 @@ def finish(room: rooms.Room, end: End, talk: Analyzer, rest: bytes = b"", name: 
 
 
 def took(room: rooms.Room, talk: Analyzer, name: str = REAL, certificate: str | None = None) -> None:
-    """The host took the hello with this name: its server says so, and answers with the certificate
-    of it."""
+    """Checks that the host took the hello with this name: its server prints the name, and answers
+    with that certificate."""
     room.await_text("server", HOSTNAME_LINE.format(name))
     printed = HOSTNAME.findall(room.printed("server"))
-    expect(printed and printed[-1] == name, f"the server says {printed}")
+    expect(printed and printed[-1] == name, f"the server prints {printed}")
     certificate = certificate or ("real.test" if name == REAL else "other.test")
-    expect(talk.certificate_name() == certificate, f"its certificate is that of {talk.certificate_name()}")
+    expect(talk.certificate_name() == certificate, f"its certificate is for {talk.certificate_name()}")
     room.note(f's_server printed: {HOSTNAME_LINE.format(name)}; its certificate is that of {certificate}, and the handshake ended')
 
 
@@ -142,7 +142,7 @@ def fingerprint(file: Path) -> str:
 
 
 def line(room: rooms.Room, end: End, talk: Analyzer | None = None, is_orig: bool = True, drops: bool = True, **fields: Any) -> None:
-    """Adds a line that is wanted. A field that is given as None is left out, since it isn't known
+    """Adds an expected line. A field that is given as None is left out, since it isn't known
     for certain."""
     ours, other = (str(end.address), end.port), (str(end.to_address), end.to_port)
     orig, resp = (ours, other) if is_orig else (other, ours)

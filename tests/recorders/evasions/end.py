@@ -1,5 +1,5 @@
-"""An end of TCP in this program, which does what it is told: each number, flag, window, timestamp
-and checksum of a segment can be another."""
+"""A TCP endpoint in this program, in which each number, flag, window, timestamp and checksum of a
+segment can be set."""
 
 from __future__ import annotations
 
@@ -71,9 +71,9 @@ class End:
         self, flags: int = ACK, payload: bytes = b"", number: int | None = None, ack: int | None = None, window: int | None = None,
         urgent: int = 0, options: bytes | None = None, spoilt: tuple[str, ...] = (), words: int | None = None, **more: Any
     ) -> None:
-        """Sends a segment, and moves nothing. What isn't given is as it should be; `words` is the
-        length that its header says, and `more` has the timestamp and its echo, and whether it is
-        recorded and delivered."""
+        """Sends a segment, and leaves the state as it is. Fields that aren't given are right;
+        `words` is the length in the header, and `more` has the timestamp and its echo, and whether
+        it is recorded and delivered."""
         stamp, echo = more.pop("stamp", None), more.pop("echo", None)
         if options is None:
             options = self.options_of_syn() if flags & SYN else self.options(stamp, echo)
@@ -107,8 +107,8 @@ class End:
     # What is received.
 
     def receive(self, wait: float = SOON) -> wire.Packet | None:
-        """The host's next segment to this end, whose bytes are added to what was heard if they are
-        the next. Nothing if none comes."""
+        """Returns the host's next segment to this end, or None if none comes. In-order bytes are
+        added to what was received."""
         while True:
             packet = self.wire.receive(wait)
             if packet is None:

@@ -1,5 +1,5 @@
-"""Bytes at one place that differ: the real hello, and parts of one for fake.test at the same
-numbers. Which stand is Linux's own choice, except that acknowledged ones stay."""
+"""Overlapping segments that disagree: the real hello, and parts of one for fake.test at the same
+sequence numbers. Linux chooses which to keep; acknowledged bytes always stay."""
 
 from __future__ import annotations
 

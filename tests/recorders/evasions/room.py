@@ -1,5 +1,5 @@
-"""A network of its own with one host, which is the kernel of this machine: its settings, OpenSSL's
-server and client on it, and why the kernel drops what we send."""
+"""A separate network with one host, which is the kernel of this machine: its settings, OpenSSL's
+server and client on it, and the reasons for which the kernel drops packets."""
 
 from __future__ import annotations
 
@@ -18,7 +18,7 @@ from tests.recorders.evasions.end import End
 HOST = {4: ipaddress.ip_address("192.0.2.1"), 6: ipaddress.ip_address("2001:db8::1")}
 OURS = {4: ipaddress.ip_address("192.0.2.2"), 6: ipaddress.ip_address("2001:db8::2")}
 SERVER_PORT, CLIENT_PORT = 14433, 50000
-# Our ports are these and the number of the scene; the last is that of a connection which isn't
+# Our ports are these plus the number of the scene; the last is for a connection that isn't
 # recorded.
 OUR_PORT, OUR_SERVER_PORT, FIRST_PORT = 40000, 44000, 39000
 TRACING = Path("/sys/kernel/tracing")

@@ -105,7 +105,7 @@ class Analyzer:
 
 
 def other_name(hello: bytes) -> bytes:
-    """The same hello, of the same length, for another name."""
+    """Returns the hello, of the same length, for another name."""
     changed = hello.replace(REAL.encode(), FAKE.encode())
     if changed == hello:
         raise ValueError("the name isn't there")

@@ -1,5 +1,5 @@
-"""The edge of the host's window, probes of it, and bytes that stand apart from the stream: of
-keep-alives and urgent ones."""
+"""The edge of the host's window, window probes, and bytes outside the stream: those of keep-alives
+and urgent ones."""
 
 from __future__ import annotations
 

@@ -129,10 +129,10 @@ def frame(
     source: Address, destination: Address, protocol: int, upper: bytes, spoilt: tuple[str, ...] = (), place: int = 16,
     macs: bytes = HOST_MAC + OUR_MAC,
 ) -> bytes:
-    """A frame around a segment, to the host where no other addresses of Ethernet are given, whose
-    checksum at `place` is filled in. `spoilt` has the names of checksums that are made wrong: "sum"
-    that of TCP or UDP, "ip" that of IPv4's header; "none" leaves that of TCP or UDP as 0, and
-    "partial" as what a sender leaves to its network card."""
+    """Returns a frame around a segment, to the host if no other Ethernet addresses are given. Its
+    checksum at `place` is filled in. `spoilt` names checksums that are made wrong: "sum" of TCP or
+    UDP, "ip" of the IPv4 header. "none" leaves the one of TCP or UDP as 0, and "partial" as a
+    sender leaves it to its network card."""
     if "none" not in spoilt:
         value = checksum(front_of_sum(source, destination, protocol, len(upper)), upper)
         value ^= 0x5555 if "sum" in spoilt else 0

@@ -15,7 +15,7 @@ KINDS = (CHANGE, ALERT, HANDSHAKE, DATA)
 
 
 def other(message: Message) -> Message:
-    """The same message with another name, or with another random."""
+    """Returns the message with another name, or with another random."""
     body = message.body
     if message.kind == HELLO:
         return replace(message, body=renamed(body))
@@ -139,7 +139,7 @@ def rest(datagram: bytes, record: Record) -> bytes:
 
 
 def changed(record: Record, **parts: object) -> bytes:
-    """A fragment that says otherwise, with the number of the record behind it."""
+    """Returns a fragment with other contents, and the number of the record behind it."""
     return replace(record, number=record.number + 1).of(replace(record.message(), **parts)).bytes()
 
 

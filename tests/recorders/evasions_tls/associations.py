@@ -55,7 +55,7 @@ def full(segments: list[packets.Segment], port: int, of: str, more: Line | None 
     fields = {field: value for field, value in found.items() if field not in left} | (more or {})
     certain = {"version": "DTLSv12", "established": True, "outcome": "full"}
     if any(fields[field] != value for field, value in certain.items()):
-        raise ValueError(f"tshark says otherwise: {fields}")
+        raise ValueError(f"tshark has other fields: {fields}")
     others = [field for field in fields if field not in certain and field not in (more or {})]
     absent = ["last_alert"] + ([] if more else ["gap"])
     return said.line(fields, absent, {"seen": list(certain), of: [*others, *absent]})

@@ -78,8 +78,8 @@ class Placed:
 
 
 def untouched(segments: list[packets.Segment], handed: list[tuple[str, bytes, list[bytes]]], side: str) -> list[packets.Segment]:
-    """The segments without what the relay put in: in place of what went on for a datagram stands
-    that datagram."""
+    """Returns the segments with the original datagrams in place of those that the relay sent for
+    them."""
     found, waiting = [], {CLIENT: [], SERVER: []}
     port = (SERVER_PORT if side == CLIENT else RELAY_PORT).to_bytes(2, "big")
     for sender, datagram, parts in handed:
@@ -120,8 +120,8 @@ def line_of(segments: list[packets.Segment], port: int) -> Line:
 
 
 def wanted_of(segments: list[packets.Segment], handed: list[tuple[str, bytes, list[bytes]]], side: str, seen: Line) -> list[Line]:
-    """The lines: where both carried the handshake through, that of the datagrams that they took;
-    else what is certain all the same."""
+    """Returns the expected lines: if both sides completed the handshake, the line of the datagrams
+    that they took; else the fields that are certain all the same."""
     port = SERVER_PORT if side == CLIENT else RELAY_PORT
     taken = without_repeats(untouched(segments, handed, side))
     found = line_of(taken, port)
@@ -130,7 +130,7 @@ def wanted_of(segments: list[packets.Segment], handed: list[tuple[str, bytes, li
         fields = {field: value for field, value in found.items() if field not in COUNTS}
         certain = {"server_name": NAME, "version": "DTLSv12", "established": True, "outcome": "full"}
         if any(found[field] != value for field, value in certain.items()):
-            raise ValueError(f"tshark says otherwise: {found}")
+            raise ValueError(f"tshark has other fields: {found}")
         others = [field for field in fields if field not in (*certain, *ends)]
         sources = {"the first packet": list(ends), "seen": list(certain)}
         sources["tshark, of the datagrams that the peers took"] = [*others, "last_alert", "gap"]

@@ -25,7 +25,7 @@ class Record:
     number: int
     fragment: bytes
     version: int = 0xFEFD
-    length: int = -1  # What its header says, where that isn't the length of the fragment.
+    length: int = -1  # The length in its header, if it isn't the fragment's.
 
     def bytes(self) -> bytes:
         length = len(self.fragment) if self.length < 0 else self.length
@@ -47,8 +47,8 @@ class Record:
 
 @dataclass(frozen=True)
 class Message:
-    """A fragment of a handshake message. Where it is whole its offset is 0, and its bytes are as
-    many as its length says."""
+    """A fragment of a handshake message. A whole message has offset 0, and as many bytes as its
+    length."""
 
     kind: int
     length: int
@@ -87,8 +87,8 @@ def renamed(hello: bytes, old: bytes = b"example.test", new: bytes = b"forged.te
 
 
 class Relay(threading.Thread):
-    """Hands datagrams on between one client and a server. A rule says what goes on in place of
-    each: it is called with the sender and the datagram, and gives the datagrams."""
+    """Relays datagrams between one client and a server. A rule is called with the sender and the
+    datagram, and returns the datagrams to send in its place."""
 
     def __init__(self, rule: Callable[[str, bytes], list[bytes]]) -> None:
         super().__init__(daemon=True)

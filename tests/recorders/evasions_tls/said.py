@@ -12,8 +12,8 @@ ALERT = 21
 
 
 def fault(text: str) -> str:
-    """The last line that tells a fault."""
-    of_keys = "verify error|Verif|[*]{3} PKI"  # Of certificates that nobody vouches for.
+    """The last line with a fault."""
+    of_keys = "verify error|Verif|[*]{3} PKI"  # About certificates without a trusted issuer.
     lines = [line for line in text.splitlines() if re.search("rror|alert (read|write):fatal|fail", line) and not re.match(of_keys, line)]
     return re.sub("^[0-9A-F]{8,}:", "", lines[-1]) if lines else "silent"
 

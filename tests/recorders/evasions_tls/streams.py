@@ -74,7 +74,7 @@ class Rule:
         return [record + self.note(self.forged())] if tls.is_message(record, HELLO) else [record]
 
     def hello_behind_hello(self, record: bytes) -> list[bytes]:
-        """A second hello in a segment of its own, in front of the answer."""
+        """Adds a second hello in a separate segment, in front of the answer."""
         return [record, self.note(self.forged())] if tls.is_message(record, HELLO) else [record]
 
     def hello_behind_answer(self, record: bytes) -> list[bytes]:
@@ -82,7 +82,7 @@ class Rule:
         return [record] if tls.is_message(record, HELLO) else [self.note(self.forged()), record]
 
     def hello_behind_answer_0301(self, record: bytes) -> list[bytes]:
-        """The same with the record's version that a first hello has."""
+        """Returns the forged hello with the record version of a first hello."""
         return [record] if tls.is_message(record, HELLO) else [self.note(self.forged(b"\3\1")), record]
 
     def hello_behind_change(self, record: bytes) -> list[bytes]:
@@ -200,7 +200,7 @@ def wanted_of(file: Path, rule: Rule, version: str, seen: Line) -> list[Line]:
         fields = line_of(with_usual_versions(segments, int(rule.name[-4:], 16)), port)
         certain = {"server_name": NAME.decode(), "version": version, "established": True, "outcome": "tls13" if version == V13 else "full"}
         if seen["client"] != "completed" or seen["server"] != "completed" or any(fields[field] != value for field, value in certain.items()):
-            raise ValueError(f"tshark says otherwise: {fields}, {seen}")
+            raise ValueError(f"tshark has other fields: {fields}, {seen}")
         others = [field for field in fields if field not in certain]
         sources = {"seen": list(certain), "tshark, with the usual version": [*others, "last_alert", "gap"]}
         return [said.line(fields, ["last_alert", "gap"], sources)]

@@ -117,7 +117,7 @@ def lines(file: Path, connection_id: int = 0) -> list[Line]:
         # tshark names the HelloRetryRequest of DTLS as a ServerHello.
         by_hand["ssl_history"] = "CjCs"
     if any(found[field] != value for field, value in certain.items()):
-        raise ValueError(f"tshark says otherwise: {found}")
+        raise ValueError(f"tshark has other fields: {found}")
     # JA4 of DTLS 1.3 depends on which version counts as the highest; tshark has the unified records
     # as no records.
     fields = {field: value for field, value in found.items() if field not in ("ja4",)} | by_hand

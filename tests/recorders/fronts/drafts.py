@@ -12,8 +12,8 @@ from tests.recorders.fronts import told
 from tests.support.shapes import Line
 
 STORED = Path(__file__).resolve().parents[3] / "crates" / "tlslog" / "data" / "openssl_tls13.pcap"
-# Up to draft 21 the ServerHello has the form of draft 18 (draft-ietf-tls-tls13-18, section 4.1.3),
-# from 22 on that of RFC 8446.
+# Up to draft 21 the ServerHello has the form of draft 18 (draft-ietf-tls-tls13-18, section 4.1.3);
+# from draft 22 on it has the form of RFC 8446.
 DRAFTS = {"draft_14": 14, "draft_21": 21, "draft_28": 28}
 NAMES = [*DRAFTS]
 LAST_OLD_FORM = 21

@@ -1,6 +1,6 @@
 """Captures of a ClientHello in the form of SSL 2.0 (RFC 5246, appendix E.2). No client of today
-sends it: this one is made by hand, and carries its handshake of TLS 1.2 through, with RSA and AES
-in CBC, so that a live server says what it took."""
+sends it: this one is made by hand, and completes a handshake of TLS 1.2, with RSA and AES in CBC,
+so that a live server prints what it took."""
 
 from __future__ import annotations
 

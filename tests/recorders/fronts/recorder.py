@@ -58,7 +58,7 @@ class ByHand:
 
 
 def captures() -> dict[str, tuple[int, Callable[[plain.Plain], None], ssl.TLSVersion | None, str | ByHand]]:
-    """Name: port, what the server says first, its highest version, and the client."""
+    """Name: port, the server's plain text, its highest version, and the client."""
     resolve = f"--resolve {NAME}:8443:127.0.0.1"
     psql = f"psql 'host={NAME} hostaddr=127.0.0.1 port=5432 user=me dbname=it sslmode=require gssencmode=disable connect_timeout=4' -c ''"
     gnutls = f"gnutls-cli --insecure --starttls-proto=smtp --sni-hostname {NAME} -p 25 127.0.0.1"

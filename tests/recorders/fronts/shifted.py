@@ -42,7 +42,7 @@ def stored_hello() -> bytes:
 
 
 def of_late(file: Path, port: int) -> list[Line]:
-    """What is captured is encrypted: no alert of it can be told."""
+    """The captured records are encrypted, so no alert in them can be read."""
     [found] = wanted.lines(file, port)
     if "last_alert" in found:
         raise ValueError(f"an alert in the clear: {found}")
@@ -70,8 +70,8 @@ def cut(folder: Path, name: str) -> list[Line]:
 
 
 def capwap(folder: Path, name: str) -> list[Line]:
-    """Each datagram of a stored capture behind the header, and the server's port is that of
-    CAPWAP."""
+    """Puts the header in front of each datagram of a stored capture, and gives the server the port
+    of CAPWAP."""
     file = folder / f"{name}.pcap"
 
     def wrapped(one: packets.Segment) -> packets.Segment:
@@ -90,7 +90,7 @@ def capwap(folder: Path, name: str) -> list[Line]:
         fields[f"{side}_bytes"] += len(HEADER) * fields[f"{side}_pkts"]
     [found] = wanted.lines(file, udp=True)
     if found != {**fields, "duration": found["duration"], "ts": found["ts"]}:
-        raise ValueError(f"tshark says otherwise: {[(key, found.get(key), fields[key]) for key in fields if found.get(key) != fields[key]]}")
+        raise ValueError(f"tshark has other fields: {[(key, found.get(key), fields[key]) for key in fields if found.get(key) != fields[key]]}")
     return [told.line(fields, {"tshark, and captures/dtls/lines": [*fields, "last_alert", "gap"]}, ["last_alert", "gap"])]
 
 
@@ -117,7 +117,7 @@ def old(work: Path, folder: Path) -> list[Line]:
     [found] = wanted.lines(file, PORT, udp=True)
     certain = {"version": "0x0100", "server_name": "example.test", "established": True, "outcome": "full"}
     if any(found[field] != value for field, value in certain.items()):
-        raise ValueError(f"tshark says otherwise: {found}")
+        raise ValueError(f"tshark has other fields: {found}")
     fields = {field: value for field, value in found.items() if field != "ja4"}
     sources = {"seen": list(certain), "tshark": [*(field for field in fields if field not in certain), "last_alert", "gap"]}
     return [told.line(fields, sources, ["last_alert", "gap"])]

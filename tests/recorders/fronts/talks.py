@@ -1,6 +1,5 @@
-"""What a server says before TLS begins on a connection, by the protocol (STARTTLS and its like). A
-talk reads and writes the plain text, and returns when the next byte of the client is that of
-TLS."""
+"""The plain text in front of TLS on a connection, by the protocol (STARTTLS and its like). A talk
+reads and writes it on the server's side, and returns when the client's next byte is TLS."""
 
 from __future__ import annotations
 
