@@ -8,7 +8,7 @@ use Rattle.packets.specs.declared.reader.CaptureError.TheVariants as error
 use Rattle.packets.specs.declared.visit.VisitError.{VisitError}
 use Rattle.packets.specs.declared.visit.VisitError.TheVariants as visit
 
-abbrev pub view_kept : stored.KeptPacket → Packet
+abbrev pub view_kept : stored.OwnedPacket → Packet
 view_kept p = record {
   time = p.time;
   link_type = p.link_type;
@@ -16,7 +16,7 @@ view_kept p = record {
   bytes = p.bytes.items;
 }
 
-abbrev pub kept : Vec stored.KeptPacket → List Packet
+abbrev pub kept : Vec stored.OwnedPacket → List Packet
 kept v = map view_kept v.items
 
 -- Why not all packets were collected: the capture's end, or a cause that isn't in its bytes.

@@ -33,7 +33,7 @@ kind_said v = kind_of_message (message_in v)
 abbrev pub event_of : Side → Said → FlowEvent
 event_of s v = event_with s v (kind_said v)
 
-abbrev pub view_said : rust.Said → Said
+abbrev pub view_said : rust.SideEvent → Said
 view_said (said.Event e) = view_event e
 view_said (said.Fault f) = Failed f
 

@@ -126,7 +126,7 @@ one_content d text text' b r new enc enc' q q' v c read holds rest printed follo
 
 pub one_shown : (d : LineDirection) (text text' : List ℕ) (b new : Bytes) (enc enc' taken : Bool)
     (q q' : TlsState)
-    (n : rust_next.Next) → n ≡ next.Record enc'
+    (n : rust_next.NextRecord) → n ≡ next.Record enc'
     → IsNext d text q text' q' enc (reading raw_record b) n
     → FrontTaken (front record_frame b) b taken new
     → OneShown d text text' (half_of b enc q) (half_of new enc' q')

@@ -12,7 +12,7 @@ pub data Fault : Type 0 where
   Refused : Refusal → Fault
   BadLine : Fault
 
-abbrev pub view_fault : rust.Fault → Fault
+abbrev pub view_fault : rust.ViewFault → Fault
 view_fault (rust_fault.Incomplete n) = Refused (Lacks n)
 view_fault (rust_fault.Error kind) = Refused (Broken kind)
 view_fault rust_fault.BadLine = BadLine

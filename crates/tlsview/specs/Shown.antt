@@ -27,7 +27,7 @@ or_end (Some fault) c = Err fault
 -- a record's content was printed and followed, and whether the next record is encrypted is
 -- returned; or its refusal is the fault
 abbrev pub IsShown : LineDirection → List ℕ → TlsState → List ℕ → TlsState → Bool
-    → Result Content Refusal → rust.Next
+    → Result Content Refusal → rust.NextRecord
     → Type 0
 IsShown d text state text' state' enc (Ok c) (next.Record enc') =
     (text' ≡ text ++ content_text d c) × (state' ≡ state_behind d state c)
@@ -38,13 +38,13 @@ IsShown d text state text' state' enc c n = ⊥
 
 -- this was done with this record
 abbrev pub IsRecordShown : LineDirection → List ℕ → TlsState → List ℕ → TlsState → Bool → RawRecord
-    → rust.Next → Type 0
+    → rust.NextRecord → Type 0
 IsRecordShown d text state text' state' enc raw n =
     IsShown d text state text' state' enc (content_of enc raw) n
 
 -- this was done with the next record; for an unfinished one nothing was done
 abbrev pub IsNext : LineDirection → List ℕ → TlsState → List ℕ → TlsState → Bool → Answer RawRecord
-    → rust.Next → Type 0
+    → rust.NextRecord → Type 0
 IsNext d text state text' state' enc (Ok x) n =
     IsShown d text state text' state' enc (content_of enc x.0) n
 IsNext d text state text' state' enc (Err (Lacks missing)) next.Nothing =
@@ -55,21 +55,21 @@ IsNext d text state text' state' enc a n = ⊥
 
 -- this was done with the first record of the stream
 abbrev pub IsNextShown : LineDirection → List ℕ → TlsState → List ℕ → TlsState → Bool → List ℕ
-    → rust.Next → Type 0
+    → rust.NextRecord → Type 0
 IsNextShown d text state text' state' enc stream n =
     IsNext d text state text' state' enc (reading raw_record stream) n
 
 -- the records of a direction were printed, and the fault that ends them is returned, or the state
 -- after them
 abbrev pub AreShown : LineDirection → List ℕ → Half → List ℕ → Half
-    → Option rust_fault.Fault → Type 0
+    → Option rust_fault.ViewFault → Type 0
 AreShown d text h text' h' fault =
     (text' ≡ text ++ (half_part d h).0)
     × ((half_part d h).1 ≡ or_fault (option_map view_fault fault) h')
 
 -- a line of the conversation was printed
 abbrev pub IsLineShown : List ℕ → List ℕ → ViewedConversation → List ℕ → ViewedConversation
-    → Option rust_fault.Fault → Type 0
+    → Option rust_fault.ViewFault → Type 0
 IsLineShown line text c text' c' fault =
     (text' ≡ text ++ (line_part c line).0)
     × ((line_part c line).1 ≡ or_end (option_map view_fault fault) c')
