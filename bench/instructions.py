@@ -37,7 +37,9 @@ def counted(folder):
     """Each case: its group, its name, and the instructions of a call on our side and on Rust's."""
     found = []
     for place, (group, name) in enumerate(cases_of(folder)):
-        ours, rust = ((total(folder, last) - total(folder, last - 1)) / 10 for last in last_dumps(place))
+        ours, rust = (
+            (total(folder, last) - total(folder, last - 1)) / 10 for last in last_dumps(place)
+        )
         found.append((group, name, ours, rust))
     return found
 
@@ -50,11 +52,20 @@ def cases_of(folder):
 # What moves or zeroes 16 bytes at once, or writes a zero of 8 bytes.
 MOVE = re.compile(r"\b(movups|movaps|movdqu|movdqa|xorps|pxor)\b.*%xmm|movq +\$0x0,")
 MOVERS = ("memcpy", "memmove", "memset")
-WRAPPERS = ("rattle_alloc", "rattle_dealloc", "rattle_realloc", "rust_alloc", "rust_dealloc", "rust_realloc")
+WRAPPERS = (
+    "rattle_alloc",
+    "rattle_dealloc",
+    "rattle_realloc",
+    "rust_alloc",
+    "rust_dealloc",
+    "rust_realloc",
+)
 
 
 def moving_addresses(program):
-    text = subprocess.run(["objdump", "-d", "--no-show-raw-insn", program], capture_output=True, text=True, check=True).stdout
+    text = subprocess.run(
+        ["objdump", "-d", "--no-show-raw-insn", program], capture_output=True, text=True, check=True
+    ).stdout
     lines = (line.split("\t", 1) for line in text.splitlines() if "\t" in line)
     return {int(at.strip(" :"), 16) for at, instruction in lines if MOVE.search(instruction)}
 
@@ -73,7 +84,9 @@ def by_kind(folder, number, moving):
                 is_call = True
             elif cost := re.match(r"(0x[0-9a-f]+|[+-]\d+|\*) \S+ (\d+)$", line):
                 at, count = cost.groups()
-                address = int(at, 16) if at.startswith("0x") else address + (0 if at == "*" else int(at))
+                address = (
+                    int(at, 16) if at.startswith("0x") else address + (0 if at == "*" else int(at))
+                )
                 if not is_call:
                     found[kind_of(function, address in moving)] += int(count)
                 is_call = False
@@ -88,7 +101,9 @@ def kind_of(function, moves):
 
 def moves_table(folder, program):
     moving = moving_addresses(program)
-    print("| group | case | ours: moves | wrapper | other | Rust: moves | wrapper | other | ratio | of the other |")
+    print(
+        "| group | case | ours: moves | wrapper | other | Rust: moves | wrapper | other | ratio | of the other |"
+    )
     print("|---|---|---|---|---|---|---|---|---|---|")
     for place, (group, name) in enumerate(cases_of(folder)):
         sides = []
@@ -98,7 +113,9 @@ def moves_table(folder, program):
             sides.append([found[kind] / 10 for kind in ("moves", "wrapper", "other")])
         cells = " | ".join(f"{count:.0f}" for side in sides for count in side)
         ours, rust = (sum(side) for side in sides)
-        print(f"| {group} | {name} | {cells} | {ours / rust:.2f} | {sides[0][2] / sides[1][2]:.2f} |")
+        print(
+            f"| {group} | {name} | {cells} | {ours / rust:.2f} | {sides[0][2] / sides[1][2]:.2f} |"
+        )
 
 
 def mean(ratios):
@@ -135,7 +152,9 @@ def compare(found, path):
             print(f"| {group} | {name} | {before:.0f} | {ours:.0f} | {ours / before:.2f} |")
         is_kept = is_kept and ours <= 1.01 * before
     if ratios:
-        print(f"\nGeometric mean of the ratios of the {len(ratios)} stored cases: {mean(ratios):.3f}")
+        print(
+            f"\nGeometric mean of the ratios of the {len(ratios)} stored cases: {mean(ratios):.3f}"
+        )
     return is_kept
 
 

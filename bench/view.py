@@ -27,7 +27,14 @@ def hello(length):
 
     def padded(padding):
         extension = (21).to_bytes(2, "big") + padding.to_bytes(2, "big") + bytes(padding)
-        body = b"\3\3" + bytes(range(32)) + b"\0" + (32).to_bytes(2, "big") + b"\xc0\x2f" * 16 + b"\1\0"
+        body = (
+            b"\3\3"
+            + bytes(range(32))
+            + b"\0"
+            + (32).to_bytes(2, "big")
+            + b"\xc0\x2f" * 16
+            + b"\1\0"
+        )
         body += len(extension).to_bytes(2, "big") + extension
         return record(22, b"\1" + len(body).to_bytes(3, "big") + body)
 
@@ -49,7 +56,7 @@ def encrypted(fragment):
 def cut():
     """A hundred hellos in lines of 100 bytes each, again and again."""
     stream = hello(517) * 100
-    part = b"".join(line(b">", stream[at:at + 100]) for at in range(0, len(stream), 100))
+    part = b"".join(line(b">", stream[at : at + 100]) for at in range(0, len(stream), 100))
     return part * (TOTAL // len(part))
 
 
@@ -82,13 +89,19 @@ def run(program, path, shown):
     with open(path, "rb") as source, open(shown, "wb") as sink:
         child = subprocess.Popen([program], stdin=source, stdout=sink)
         _, status, usage = os.wait4(child.pid, 0)
-    return usage.ru_utime + usage.ru_stime, usage.ru_maxrss * 1024, os.waitstatus_to_exitcode(status)
+    return (
+        usage.ru_utime + usage.ru_stime,
+        usage.ru_maxrss * 1024,
+        os.waitstatus_to_exitcode(status),
+    )
 
 
 def main():
     program, core = sys.argv[1:]
     os.sched_setaffinity(0, {int(core)})
-    print("| input | MB | seconds: least, median | peak MB | output MB | status |\n|---|---|---|---|---|---|")
+    print(
+        "| input | MB | seconds: least, median | peak MB | output MB | status |\n|---|---|---|---|---|---|"
+    )
     with tempfile.TemporaryDirectory() as folder:
         path, shown = os.path.join(folder, "lines"), os.path.join(folder, "shown")
         for name, make in INPUTS.items():
@@ -96,7 +109,9 @@ def main():
             runs = sorted(run(program, path, shown) for _ in range(RUNS))
             size, written = os.path.getsize(path) / 1e6, os.path.getsize(shown) / 1e6
             peak = max(it[1] for it in runs) / 1e6
-            print(f"| {name} | {size:.1f} | {runs[0][0]:.2f}, {runs[RUNS // 2][0]:.2f} | {peak:.0f} | {written:.1f} | {runs[0][2]} |")
+            print(
+                f"| {name} | {size:.1f} | {runs[0][0]:.2f}, {runs[RUNS // 2][0]:.2f} | {peak:.0f} | {written:.1f} | {runs[0][2]} |"
+            )
 
 
 main()

@@ -47,13 +47,34 @@ def write_deb(folder, fields, target, control=None):
     It adds the control files to the folder.
     """
     files = sorted(path for path in folder.rglob("*") if path.is_file() and not path.is_symlink())
-    kilobytes = sum((path.stat().st_size + 1023) // 1024 if not path.is_symlink() else 1 for path in folder.rglob("*"))
-    sums = "".join(f"{hashlib.md5(path.read_bytes()).hexdigest()}  {path.relative_to(folder)}\n" for path in files)
+    kilobytes = sum(
+        (path.stat().st_size + 1023) // 1024 if not path.is_symlink() else 1
+        for path in folder.rglob("*")
+    )
+    sums = "".join(
+        f"{hashlib.md5(path.read_bytes()).hexdigest()}  {path.relative_to(folder)}\n"
+        for path in files
+    )
     (folder / "DEBIAN").mkdir()
-    lines = "".join(f"{name}: {text}\n" for name, text in {"Installed-Size": kilobytes, **fields}.items())
+    lines = "".join(
+        f"{name}: {text}\n" for name, text in {"Installed-Size": kilobytes, **fields}.items()
+    )
     texts = {"control": lines, "md5sums": sums, **(control or {})}
     for name, text in texts.items():
         (folder / "DEBIAN" / name).write_text(text)
     settle(folder)
-    words = ["dpkg-deb", "--root-owner-group", "-Zxz", "--threads-max=1", "--build", str(folder), str(target)]
-    subprocess.run(words, check=True, stdout=subprocess.DEVNULL, env={**os.environ, "SOURCE_DATE_EPOCH": str(release.epoch())})
+    words = [
+        "dpkg-deb",
+        "--root-owner-group",
+        "-Zxz",
+        "--threads-max=1",
+        "--build",
+        str(folder),
+        str(target),
+    ]
+    subprocess.run(
+        words,
+        check=True,
+        stdout=subprocess.DEVNULL,
+        env={**os.environ, "SOURCE_DATE_EPOCH": str(release.epoch())},
+    )

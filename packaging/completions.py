@@ -35,7 +35,15 @@ def options_of(text):
         if match := OPTION.match(line):
             short, long, value, said = (part or "" for part in match.groups())
             choices = CHOICES.search(said)
-            found.append(Option(short, long, value, NOTES.sub("", said), tuple(choices[1].split(", ")) if choices else ()))
+            found.append(
+                Option(
+                    short,
+                    long,
+                    value,
+                    NOTES.sub("", said),
+                    tuple(choices[1].split(", ")) if choices else (),
+                )
+            )
     return found
 
 
@@ -115,9 +123,18 @@ def _bash_case(option):
 
 
 def _zsh_spec(option):
-    said = option.help.replace("[", "\\[").replace("]", "\\]").replace(":", "\\:").replace("'", "'\\''")
+    said = (
+        option.help.replace("[", "\\[")
+        .replace("]", "\\]")
+        .replace(":", "\\:")
+        .replace("'", "'\\''")
+    )
     if not option.value:
-        names = f"'({option.short} {option.long})'{{{option.short},{option.long}}}" if option.short else option.long
+        names = (
+            f"'({option.short} {option.long})'{{{option.short},{option.long}}}"
+            if option.short
+            else option.long
+        )
         return f"    {names}'[{said}]' \\"
     if option.choices:
         action = f"({' '.join(option.choices)})"
@@ -128,7 +145,11 @@ def _zsh_spec(option):
 
 
 def _fish_line(option):
-    words = ["complete -c tlslog", f"-s {option.short[1:]}" if option.short else "", f"-l {option.long[2:]}"]
+    words = [
+        "complete -c tlslog",
+        f"-s {option.short[1:]}" if option.short else "",
+        f"-l {option.long[2:]}",
+    ]
     if option.choices:
         words.append(f"-x -a {shlex.quote(' '.join(option.choices))}")
     elif option.is_list:
@@ -151,7 +172,11 @@ def completions_of(text, fields, message_fields, certificate_fields):
     """By shell: its completion file, for the text of --help and the fields of the three kinds of
     lines."""
     options = options_of(text)
-    names = {"FIELDS": " ".join(fields), "MESSAGE_FIELDS": " ".join(message_fields), "CERTIFICATE_FIELDS": " ".join(certificate_fields)}
+    names = {
+        "FIELDS": " ".join(fields),
+        "MESSAGE_FIELDS": " ".join(message_fields),
+        "CERTIFICATE_FIELDS": " ".join(certificate_fields),
+    }
     cases = "\n".join(
         f"        {option.long})\n            {_bash_case(option)}\n            return\n            ;;"
         for option in options

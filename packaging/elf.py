@@ -26,10 +26,15 @@ def text_of(version):
 
 def exported(file):
     """The names that a shared library exports."""
-    return sorted(line.split()[-1] for line in _said("nm", "-D", "--defined-only", str(file)).splitlines())
+    return sorted(
+        line.split()[-1] for line in _said("nm", "-D", "--defined-only", str(file)).splitlines()
+    )
 
 
 def stripped(file, target, *words):
     """Writes a copy of the file without debugging information."""
     target.parent.mkdir(parents=True, exist_ok=True)
-    subprocess.run(["strip", "--enable-deterministic-archives", *words, "-o", str(target), str(file)], check=True)
+    subprocess.run(
+        ["strip", "--enable-deterministic-archives", *words, "-o", str(target), str(file)],
+        check=True,
+    )

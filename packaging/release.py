@@ -19,7 +19,9 @@ MAINTAINER = "Wispuddera maintainers <maintainers@users.noreply.wispuddera.examp
 def _section():
     """The day and the text of this version's section in CHANGELOG.md."""
     text = (TOP / "CHANGELOG.md").read_text()
-    found = re.search(rf"^## \[{re.escape(VERSION)}\] - (\d+-\d+-\d+)\n(.*?)(?=^## |\Z)", text, re.M | re.S)
+    found = re.search(
+        rf"^## \[{re.escape(VERSION)}\] - (\d+-\d+-\d+)\n(.*?)(?=^## |\Z)", text, re.M | re.S
+    )
     if not found:
         raise SystemExit(f"packaging: CHANGELOG.md has no section for {VERSION}")
     return found.groups()

@@ -48,7 +48,9 @@ def show(path):
     ratios = sorted(theirs / mine for mine, theirs in zip(times[ours], times[by_dpkt]))
     first, middle, third = statistics.quantiles(ratios, n=4)
     mine, theirs = (statistics.median(times[call]) / 1000 for call in (ours, by_dpkt))
-    print(f"| {path.name}, {len(record)} bytes | {mine:.2f} | {theirs:.1f} | {middle:.1f} | {first:.1f} to {third:.1f} |")
+    print(
+        f"| {path.name}, {len(record)} bytes | {mine:.2f} | {theirs:.1f} | {middle:.1f} | {first:.1f} to {third:.1f} |"
+    )
 
 
 for name in sys.argv[1:]:

@@ -18,7 +18,15 @@ BATCHES = 40
 def read(der):
     """All fields that `rounds.rt.in` reads too."""
     one = x509.load_der_x509_certificate(der)
-    fields = [one.version, one.serial_number, one.issuer, one.not_valid_before_utc, one.not_valid_after_utc, one.subject, one.signature]
+    fields = [
+        one.version,
+        one.serial_number,
+        one.issuer,
+        one.not_valid_before_utc,
+        one.not_valid_after_utc,
+        one.subject,
+        one.signature,
+    ]
     return fields, [extension.value for extension in one.extensions]
 
 

@@ -21,7 +21,9 @@ def main() -> int:
             for record in records.feed(piece):
                 if record.content_type == CHANGE_CIPHER_SPEC:
                     return 0
-                for message in messages.feed(record.fragment) if record.content_type == HANDSHAKE else ():
+                for message in (
+                    messages.feed(record.fragment) if record.content_type == HANDSHAKE else ()
+                ):
                     if message.kind == CLIENT_HELLO:
                         print(name_of(message.body))
     except wispuddera.Refused as refusal:

@@ -16,13 +16,20 @@ HANDSHAKE, CLIENT_HELLO = 22, 1
 LIMIT = 65536
 
 
-def name_asked(records: wispuddera.RecordStream, messages: wispuddera.MessageStream, piece: bytes) -> tuple[bool, Optional[bytes]]:
+def name_asked(
+    records: wispuddera.RecordStream, messages: wispuddera.MessageStream, piece: bytes
+) -> tuple[bool, Optional[bytes]]:
     """Whether the first message is complete with this piece, and the host name in it."""
     for record in records.feed(piece):
         if record.content_type != HANDSHAKE:
             return True, None
         for message in messages.feed(record.fragment):
-            return True, wispuddera.server_name_of_hello(message.body) if message.kind == CLIENT_HELLO else None
+            return (
+                True,
+                wispuddera.server_name_of_hello(message.body)
+                if message.kind == CLIENT_HELLO
+                else None,
+            )
     return False, None
 
 

@@ -21,9 +21,16 @@ def order(line):
 
 def part_of(program, capture, number, count):
     """The status, the sorted lines and the standard error of tlslog for one part of a capture."""
-    ran = subprocess.run([program, "--part", f"{number}/{count}", capture], stdout=subprocess.PIPE, stderr=subprocess.PIPE, text=True)
+    ran = subprocess.run(
+        [program, "--part", f"{number}/{count}", capture],
+        stdout=subprocess.PIPE,
+        stderr=subprocess.PIPE,
+        text=True,
+    )
     if ran.returncode not in (0, 1):
-        raise RuntimeError(f"{program}, part {number} of {count}: status {ran.returncode}: {ran.stderr}")
+        raise RuntimeError(
+            f"{program}, part {number} of {count}: status {ran.returncode}: {ran.stderr}"
+        )
     return ran.returncode, sorted(ran.stdout.splitlines(), key=order), ran.stderr
 
 
@@ -45,9 +52,15 @@ def main():
     asked = arguments()
     from distributed import Client, LocalCluster
 
-    cluster = asked.scheduler or LocalCluster(n_workers=asked.workers, threads_per_worker=1, dashboard_address=None)
+    cluster = asked.scheduler or LocalCluster(
+        n_workers=asked.workers, threads_per_worker=1, dashboard_address=None
+    )
     with Client(cluster) as client:
-        tasks = [(asked.program, capture, number, asked.parts) for capture in asked.captures for number in range(1, asked.parts + 1)]
+        tasks = [
+            (asked.program, capture, number, asked.parts)
+            for capture in asked.captures
+            for number in range(1, asked.parts + 1)
+        ]
         found = client.gather(client.map(part_of, *zip(*tasks), pure=False))
     for _, _, told in found:
         sys.stderr.write(told)

@@ -17,28 +17,47 @@ PROJECT = (HERE / "pyproject.toml").read_text()
 VERSION = re.search(r'^version = "(.*)"$', PROJECT, re.MULTILINE)[1]
 INFO = f"{NAME}-{VERSION}.dist-info"
 # The licence, and those of the libraries that are linked in.
-LICENSES = [file for file in (HERE.parents[1] / "LICENSE", HERE.parents[1] / "packaging/THIRD_PARTY") if file.is_file()]
+LICENSES = [
+    file
+    for file in (HERE.parents[1] / "LICENSE", HERE.parents[1] / "packaging/THIRD_PARTY")
+    if file.is_file()
+]
 
 
 def _list_of(name):
     """A list of strings in pyproject.toml. (Python 3.9 and 3.10 have no tomllib.)"""
-    return re.findall(r'"(.*?)"', re.search(rf"^{name} = \[(.*?)\]$", PROJECT, re.MULTILINE | re.DOTALL)[1])
+    return re.findall(
+        r'"(.*?)"', re.search(rf"^{name} = \[(.*?)\]$", PROJECT, re.MULTILINE | re.DOTALL)[1]
+    )
 
 
 def metadata():
     """The wheel's METADATA, from pyproject.toml and README.md."""
     summary = re.search(r'^description = "(.*)"$', PROJECT, re.MULTILINE)[1]
-    lines = ["Metadata-Version: 2.1", f"Name: {NAME}", f"Version: {VERSION}", f"Summary: {summary}", "License: MIT"]
+    lines = [
+        "Metadata-Version: 2.1",
+        f"Name: {NAME}",
+        f"Version: {VERSION}",
+        f"Summary: {summary}",
+        "License: MIT",
+    ]
     lines += [f"License-File: {file.name}" for file in LICENSES]
-    lines += [f"Keywords: {','.join(_list_of('keywords'))}", *(f"Classifier: {one}" for one in _list_of("classifiers"))]
+    lines += [
+        f"Keywords: {','.join(_list_of('keywords'))}",
+        *(f"Classifier: {one}" for one in _list_of("classifiers")),
+    ]
     lines += ["Requires-Python: >=3.9", "Description-Content-Type: text/markdown"]
     return "\n".join(lines) + "\n\n" + (HERE / "README.md").read_text()
 
 
 def entry_points():
     """The wheel's entry_points.txt: the commands that pip installs."""
-    found = re.search(r"^\[project\.scripts\]\n(.*?)(?=^\[|\Z)", PROJECT, re.MULTILINE | re.DOTALL)[1]
-    return "[console_scripts]\n" + "".join(f"{name} = {call}\n" for name, call in re.findall(r'^(\S+) = "(.*)"$', found, re.MULTILINE))
+    found = re.search(r"^\[project\.scripts\]\n(.*?)(?=^\[|\Z)", PROJECT, re.MULTILINE | re.DOTALL)[
+        1
+    ]
+    return "[console_scripts]\n" + "".join(
+        f"{name} = {call}\n" for name, call in re.findall(r'^(\S+) = "(.*)"$', found, re.MULTILINE)
+    )
 
 
 # The earliest time that a zip file can have.
@@ -49,18 +68,26 @@ def build_wheel(wheel_directory, config_settings=None, metadata_directory=None):
     if not LIBRARY.exists():
         raise SystemExit(f"there is no {LIBRARY}: run bindings/build")
     platform = re.sub(r"[-.]", "_", sysconfig.get_platform())
-    return write_wheel(wheel_directory, LIBRARY, platform, int(os.environ.get("SOURCE_DATE_EPOCH", FIRST)))
+    return write_wheel(
+        wheel_directory, LIBRARY, platform, int(os.environ.get("SOURCE_DATE_EPOCH", FIRST))
+    )
 
 
 def write_wheel(folder, library, platform, epoch):
     """Writes a reproducible wheel with this library, for this platform tag, with files of this
     time."""
-    sources = [file for file in sorted((HERE / NAME).rglob("*")) if file.suffix in {".py", ".typed", ".css", ".js"}]
+    sources = [
+        file
+        for file in sorted((HERE / NAME).rglob("*"))
+        if file.suffix in {".py", ".typed", ".css", ".js"}
+    ]
     files = {file.relative_to(HERE).as_posix(): file.read_bytes() for file in sources}
     files[f"{NAME}/{LIBRARY.name}"] = library.read_bytes()
     files[f"{INFO}/METADATA"] = metadata().encode()
     tags = "".join(f"Tag: py3-none-{one}\n" for one in platform.split("."))
-    files[f"{INFO}/WHEEL"] = f"Wheel-Version: 1.0\nGenerator: {NAME}\nRoot-Is-Purelib: false\n{tags}".encode()
+    files[
+        f"{INFO}/WHEEL"
+    ] = f"Wheel-Version: 1.0\nGenerator: {NAME}\nRoot-Is-Purelib: false\n{tags}".encode()
     files[f"{INFO}/entry_points.txt"] = entry_points().encode()
     for license_file in LICENSES:
         files[f"{INFO}/{license_file.name}"] = license_file.read_bytes()

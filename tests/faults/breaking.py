@@ -13,7 +13,12 @@ from tests.support.packets import ETHER, LINK, LINK_HEADER, Segment
 V4_HEADER, V6_HEADER, UDP_HEADER = 20, 40, 8
 # Where a tunnel's own header has lengths, behind the header of IP, or of a user datagram in it.
 LENGTHS = {
-    "GENEVE": [0], "GENEVE with options": [0], "GTP-U": [2, 3], "GTP-U with extensions": [2, 3], "AH in IPv4": [1], "AH in IPv6": [1],
+    "GENEVE": [0],
+    "GENEVE with options": [0],
+    "GTP-U": [2, 3],
+    "GTP-U with extensions": [2, 3],
+    "AH in IPv4": [1],
+    "AH in IPv6": [1],
 }
 # Offsets of lengths that are only reduced: of several headers, one with a greater length may end
 # where a later one ends.
@@ -37,7 +42,11 @@ def lengths(name: str, frame: bytes) -> list[tuple[int, range]]:
     kind = frame[LINK_HEADER - 2 : LINK_HEADER]
     if kind == ETHER[4]:
         behind, protocol = LINK_HEADER + V4_HEADER, frame[LINK_HEADER + 9]
-        found = [(LINK_HEADER, range(0x40, frame[LINK_HEADER])), (LINK_HEADER + 2, everything), (LINK_HEADER + 3, everything)]
+        found = [
+            (LINK_HEADER, range(0x40, frame[LINK_HEADER])),
+            (LINK_HEADER + 2, everything),
+            (LINK_HEADER + 3, everything),
+        ]
     elif kind == ETHER[6]:
         behind, protocol = LINK_HEADER + V6_HEADER, frame[LINK_HEADER + 6]
         found = [(LINK_HEADER + 4, everything), (LINK_HEADER + 5, everything)]
@@ -53,7 +62,10 @@ def lengths(name: str, frame: bytes) -> list[tuple[int, range]]:
 def is_open(frame: bytes) -> bool:
     """Whether the outer header of IPv4 has the length 0, of which all captured bytes are read: so
     look segments that a network card is to cut."""
-    return frame[LINK_HEADER - 2 : LINK_HEADER] == ETHER[4] and frame[LINK_HEADER + 2 : LINK_HEADER + 4] == b"\0\0"
+    return (
+        frame[LINK_HEADER - 2 : LINK_HEADER] == ETHER[4]
+        and frame[LINK_HEADER + 2 : LINK_HEADER + 4] == b"\0\0"
+    )
 
 
 def with_other_lengths(name: str, frame: bytes) -> Iterator[bytes]:
@@ -94,14 +106,24 @@ def captures(segments: list[Segment]) -> Iterator[tuple[str, bytes, int, Told]]:
             told[s.is_v6] = names, numbers
         payload, _, _ = wrap(longest.frame())
         whole = LINK + (kind or ETHER[payload[0] >> 4]) + payload
-        yield f"cut in {name}", behind(broken := cut(whole, len(whole) - len(longest.payload)), frames), len(broken), told
-        yield f"other lengths in {name}", behind(broken := list(with_other_lengths(name, whole)), frames), len(broken), told
+        yield f"cut in {name}", behind(
+            broken := cut(whole, len(whole) - len(longest.payload)), frames
+        ), len(broken), told
+        yield f"other lengths in {name}", behind(
+            broken := list(with_other_lengths(name, whole)), frames
+        ), len(broken), told
     plain = [(s.time, s.frame()) for s in segments]
     none: Told = {False: ([], []), True: ([], [])}
-    yield "too many tunnels", behind(broken := list(deep(longest.frame())), plain), len(broken), none
-    pieces = fragmenting.cut(longest.frame(), fragmenting.size_for(longest.frame()), segments.index(longest) + 1)
+    yield "too many tunnels", behind(broken := list(deep(longest.frame())), plain), len(
+        broken
+    ), none
+    pieces = fragmenting.cut(
+        longest.frame(), fragmenting.size_for(longest.frame()), segments.index(longest) + 1
+    )
     broken = [part for piece in pieces for part in cut(piece, len(piece))]
     yield "fragments that are cut", behind(broken, plain), len(broken), none
     options = fragmenting.OPTIONS if longest.is_v6 else b""
     piece = fragmenting.cut(longest.frame(), fragmenting.size_for(longest.frame()), 1, options)[0]
-    yield "a fragment's other lengths", behind(broken := list(with_other_lengths("", piece)), plain), len(broken), none
+    yield "a fragment's other lengths", behind(
+        broken := list(with_other_lengths("", piece)), plain
+    ), len(broken), none

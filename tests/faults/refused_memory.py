@@ -11,7 +11,17 @@ HEAP = Path(__file__).resolve().parent / "refusing_heap.c"
 # All functions by which a program gets memory from the C library or the system. The heap of
 # refusing_heap.c replaces the first two.
 COVERED = {"malloc", "realloc"}
-REQUESTS = COVERED | {"calloc", "reallocarray", "aligned_alloc", "memalign", "posix_memalign", "mmap", "mmap64", "brk", "sbrk"}
+REQUESTS = COVERED | {
+    "calloc",
+    "reallocarray",
+    "aligned_alloc",
+    "memalign",
+    "posix_memalign",
+    "mmap",
+    "mmap64",
+    "brk",
+    "sbrk",
+}
 
 
 def compile_heap(room: str) -> str:

@@ -20,14 +20,20 @@ def chains(capture: str, layer: str, prefix: str) -> Iterator[str]:
     command += ["-o", "tcp.reassemble_out_of_order:TRUE", "-d", f"{layer}.port=={PORTS},{prefix}"]
     for field in (f"{layer}.stream", f"{layer}.srcport", f"{prefix}.handshake.certificate"):
         command += ["-e", field]
-    text = subprocess.run(command, stdout=subprocess.PIPE, stderr=subprocess.DEVNULL, text=True, check=True).stdout
+    text = subprocess.run(
+        command, stdout=subprocess.PIPE, stderr=subprocess.DEVNULL, text=True, check=True
+    ).stdout
     clients = {}
     for line in text.splitlines():
         stream, port, certificates = line.split("|")
         client = clients.setdefault(stream, port)
         if certificates:
-            texts = [base64.b64encode(bytes.fromhex(one)).decode() for one in certificates.split(",")]
-            yield " ".join([Path(capture).stem, client, "client" if port == client else "server", *texts])
+            texts = [
+                base64.b64encode(bytes.fromhex(one)).decode() for one in certificates.split(",")
+            ]
+            yield " ".join(
+                [Path(capture).stem, client, "client" if port == client else "server", *texts]
+            )
 
 
 def write(words: list[str]) -> None:

@@ -56,7 +56,11 @@ def without(capture: bytes, places: set[int]) -> bytes:
     """The capture without the packets of these numbers, from 1 on."""
     ends = packets.ends_of_packets(capture)
     begins = [packets.FILE_HEADER, *ends]
-    kept = [capture[begins[number] : ends[number]] for number in range(len(ends)) if number + 1 not in places]
+    kept = [
+        capture[begins[number] : ends[number]]
+        for number in range(len(ends))
+        if number + 1 not in places
+    ]
     return capture[: packets.FILE_HEADER] + b"".join(kept)
 
 
@@ -69,12 +73,19 @@ def compare(words: list[str]) -> int:
         name = one["capture"].removesuffix(".pcap")
         if names and name not in names:
             continue
-        reason = next((reason for front, reason in LEFT_OUT.items() if name.startswith(front)), None)
+        reason = next(
+            (reason for front, reason in LEFT_OUT.items() if name.startswith(front)), None
+        )
         if reason:
             print(f"{name}: not compared: {reason}")
             continue
         with tempfile.NamedTemporaryFile(suffix=".pcap") as file:
-            file.write(without((folder / one["capture"]).read_bytes(), {drop["packet"] for drop in one["dropped"]}))
+            file.write(
+                without(
+                    (folder / one["capture"]).read_bytes(),
+                    {drop["packet"] for drop in one["dropped"]},
+                )
+            )
             file.flush()
             lines = wanted.lines(file.name, PORTS, "udp" in name)
         mine = one["lines"]

@@ -10,8 +10,25 @@ from typing import Any
 from tests.support.shapes import Line
 
 # A field of a message is a number, bytes in hexadecimal, or escaped text.
-NUMBERS = {"curve_type", "namedcurve", "algorithm", "obfuscated_ticket_age", "selected_identity", "algorithms"}
-BYTES = {"public", "dh_p", "dh_g", "dh_Ys", "signature", "pre_master_secret", "dh_Yc", "ecdh_Yc", "identity"}
+NUMBERS = {
+    "curve_type",
+    "namedcurve",
+    "algorithm",
+    "obfuscated_ticket_age",
+    "selected_identity",
+    "algorithms",
+}
+BYTES = {
+    "public",
+    "dh_p",
+    "dh_g",
+    "dh_Ys",
+    "signature",
+    "pre_master_secret",
+    "dh_Yc",
+    "ecdh_Yc",
+    "identity",
+}
 TEXTS = {"psk_identity_hint", "psk_identity"}
 ESCAPES = {"t": b"\t", "r": b"\r", "n": b"\n"}
 
@@ -19,7 +36,14 @@ ESCAPES = {"t": b"\t", "r": b"\r", "n": b"\n"}
 def unescaped(text: str) -> bytes:
     """The bytes that a peer sent."""
     parts = re.findall(r"\\x(..)|\\(.)|([^\\])", text)
-    return b"".join(bytes.fromhex(code) if code else ESCAPES.get(mark, mark.encode()) if mark else plain.encode() for code, mark, plain in parts)
+    return b"".join(
+        bytes.fromhex(code)
+        if code
+        else ESCAPES.get(mark, mark.encode())
+        if mark
+        else plain.encode()
+        for code, mark, plain in parts
+    )
 
 
 def leaves(value: Any, name: str | None = None) -> Iterator[str]:
@@ -46,4 +70,6 @@ def lines(capture: str, messages: Iterable[Line]) -> Iterator[str]:
         values = list(leaves(said["message"].get("body"))) if said["content_type"] == 22 else []
         if values:
             client = said["id.orig_p"]
-            yield " ".join([capture, str(client), said["side"], str(said["message"]["msg_type"]), *values])
+            yield " ".join(
+                [capture, str(client), said["side"], str(said["message"]["msg_type"]), *values]
+            )

@@ -58,24 +58,56 @@ def told(field: xml.Element, names: dict[str, str]) -> Iterator[str]:
 
 def lines_of_tshark(capture: str) -> Iterator[str]:
     for layer, protocol in (("tcp", "tls"), ("udp", "dtls")):
-        command = ["tshark", "-r", str(capture), "-T", "pdml", "-Y", protocol, "-d", f"{layer}.port=={PORTS},{protocol}"]
+        command = [
+            "tshark",
+            "-r",
+            str(capture),
+            "-T",
+            "pdml",
+            "-Y",
+            protocol,
+            "-d",
+            f"{layer}.port=={PORTS},{protocol}",
+        ]
         command += ["-o", "tcp.reassemble_out_of_order:TRUE"]
-        text = subprocess.run(command, stdout=subprocess.PIPE, stderr=subprocess.DEVNULL, check=True).stdout
+        text = subprocess.run(
+            command, stdout=subprocess.PIPE, stderr=subprocess.DEVNULL, check=True
+        ).stdout
         clients = {}
         for packet in xml.fromstring(text):
-            value = {f.get("name"): f.get("show") for f in packet.iter("field") if f.get("name") in (f"{layer}.stream", f"{layer}.srcport")}
+            value = {
+                f.get("name"): f.get("show")
+                for f in packet.iter("field")
+                if f.get("name") in (f"{layer}.stream", f"{layer}.srcport")
+            }
             port = value[f"{layer}.srcport"]
             client = clients.setdefault(value[f"{layer}.stream"], port)
             for field in packet.iter("field"):
                 if field.get("name") != f"{protocol}.handshake":
                     continue
-                types = [f.get("show") for f in field.iter("field") if f.get("name") == f"{protocol}.handshake.type"]
+                types = [
+                    f.get("show")
+                    for f in field.iter("field")
+                    if f.get("name") == f"{protocol}.handshake.type"
+                ]
                 if not types:
                     continue
-                is_exchange = int(types[0]) in (SERVER_KEY_EXCHANGE, CERTIFICATE_VERIFY, CLIENT_KEY_EXCHANGE)
+                is_exchange = int(types[0]) in (
+                    SERVER_KEY_EXCHANGE,
+                    CERTIFICATE_VERIFY,
+                    CLIENT_KEY_EXCHANGE,
+                )
                 values = list(told(field, OF_EXCHANGES if is_exchange else OF_HELLOS))
                 if values:
-                    yield " ".join([Path(capture).stem, client, "client" if port == client else "server", types[0], *values])
+                    yield " ".join(
+                        [
+                            Path(capture).stem,
+                            client,
+                            "client" if port == client else "server",
+                            types[0],
+                            *values,
+                        ]
+                    )
 
 
 def compare(words: list[str]) -> None:
@@ -85,7 +117,12 @@ def compare(words: list[str]) -> None:
     count = 0
     for capture in captures:
         wanted = Counter(lines_of_tshark(capture))
-        ran = subprocess.run([program, "--messages", capture], stdout=subprocess.PIPE, stderr=subprocess.DEVNULL, text=True)
+        ran = subprocess.run(
+            [program, "--messages", capture],
+            stdout=subprocess.PIPE,
+            stderr=subprocess.DEVNULL,
+            text=True,
+        )
         said = [json.loads(row) for row in ran.stdout.splitlines()]
         found = Counter(exchange_fields.lines(Path(capture).stem, said))
         for line in (wanted - found).elements():

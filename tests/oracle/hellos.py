@@ -41,7 +41,9 @@ def by_tshark(capture: str, lines: list[Line], compared: Counter[str]) -> int:
                     continue
                 compared[field] += 1
                 if not is_same(field, *values):
-                    print(f"{capture}: {key(line)}: {field}: tlslog {values[0]!r}, tshark {values[1]!r}")
+                    print(
+                        f"{capture}: {key(line)}: {field}: tlslog {values[0]!r}, tshark {values[1]!r}"
+                    )
                     differ += 1
     for line in had.values():
         print(f"{capture}: tshark has no TLS in: {line}")
@@ -53,20 +55,31 @@ def by_ndpi(capture: str, lines: list[Line], compared: Counter[str]) -> int:
     """Returns how many of nDPI's fingerprints differ. nDPI joins connections between the same two
     ends, and prints one hello for them."""
     command = ["ndpiReader", "-i", str(capture), "-v", "2"]
-    text = subprocess.run(command, stdout=subprocess.PIPE, stderr=subprocess.DEVNULL, text=True, check=True).stdout
+    text = subprocess.run(
+        command, stdout=subprocess.PIPE, stderr=subprocess.DEVNULL, text=True, check=True
+    ).stdout
     ours, differ = {}, 0
     for line in lines:
-        ends = frozenset(f"{line[f'id.{side}_h'].strip('[]')}:{line[f'id.{side}_p']}" for side in ("orig", "resp"))
+        ends = frozenset(
+            f"{line[f'id.{side}_h'].strip('[]')}:{line[f'id.{side}_p']}"
+            for side in ("orig", "resp")
+        )
         ours.setdefault(ends, []).append(line)
     for row in text.splitlines():
         flow = FLOW.search(row)
-        same = ours.get(frozenset(end.replace("[", "").replace("]", "") for end in flow.groups()), []) if flow else []
+        same = (
+            ours.get(frozenset(end.replace("[", "").replace("]", "") for end in flow.groups()), [])
+            if flow
+            else []
+        )
         for field, pattern in PRINTS.items():
             found = pattern.search(row)
             if found and same:
                 compared[f"{field} of nDPI"] += 1
                 if found[1] not in [line.get(field) for line in same]:
-                    print(f"{capture}: {flow.groups()}: {field}: tlslog {[line.get(field) for line in same]}, nDPI {found[1]}")
+                    print(
+                        f"{capture}: {flow.groups()}: {field}: tlslog {[line.get(field) for line in same]}, nDPI {found[1]}"
+                    )
                     differ += 1
     return differ
 
@@ -77,7 +90,9 @@ def compare(words: list[str]) -> int:
     program, *captures = words
     compared, differ, count = Counter(), 0, 0
     for capture in captures:
-        ran = subprocess.run([program, capture], stdout=subprocess.PIPE, stderr=subprocess.DEVNULL, text=True)
+        ran = subprocess.run(
+            [program, capture], stdout=subprocess.PIPE, stderr=subprocess.DEVNULL, text=True
+        )
         lines = [json.loads(line) for line in ran.stdout.splitlines()]
         count += len(lines)
         differ += by_tshark(capture, lines, compared)

@@ -49,7 +49,9 @@ def compare(words: list[str]) -> int:
             continue
         for field in wanted.ORDER:
             if field != "gap" and not is_same(field, mine.get(field), line.get(field)):
-                print(f"{key(line)}: {field}: tlslog {mine.get(field)!r}, tshark {line.get(field)!r}")
+                print(
+                    f"{key(line)}: {field}: tlslog {mine.get(field)!r}, tshark {line.get(field)!r}"
+                )
                 differ += 1
     for line in had.values():
         print("tshark has no TLS in:", line)

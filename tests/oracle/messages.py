@@ -16,25 +16,59 @@ from pathlib import Path
 
 
 ENDS = ["frame.time_epoch", "tcp.stream", "udp.stream", "tcp.srcport", "udp.srcport"]
-SAID = ["record.content_type", "handshake.type", "handshake.length", "alert_message.level", "alert_message.desc"]
+SAID = [
+    "record.content_type",
+    "handshake.type",
+    "handshake.length",
+    "alert_message.level",
+    "alert_message.desc",
+]
 OF_FRAGMENTS = ["dtls.handshake.message_seq", "dtls.handshake.fragment_length"]
 PORTS = "1024-65535"
 
 
 def rows(capture: str, layer: str, prefix: str) -> Iterator[list[list[str]]]:
-    fields = ENDS + [f"{prefix}.{field}" for field in SAID] + (OF_FRAGMENTS if layer == "udp" else [])
-    command = ["tshark", "-r", str(capture), "-T", "fields", "-E", "separator=|", "-E", "aggregator=;", "-Y", prefix]
+    fields = (
+        ENDS + [f"{prefix}.{field}" for field in SAID] + (OF_FRAGMENTS if layer == "udp" else [])
+    )
+    command = [
+        "tshark",
+        "-r",
+        str(capture),
+        "-T",
+        "fields",
+        "-E",
+        "separator=|",
+        "-E",
+        "aggregator=;",
+        "-Y",
+        prefix,
+    ]
     command += ["-o", "tcp.reassemble_out_of_order:TRUE", "-d", f"{layer}.port=={PORTS},{prefix}"]
     for field in fields:
         command += ["-e", field]
-    text = subprocess.run(command, stdout=subprocess.PIPE, stderr=subprocess.DEVNULL, text=True, check=True).stdout
+    text = subprocess.run(
+        command, stdout=subprocess.PIPE, stderr=subprocess.DEVNULL, text=True, check=True
+    ).stdout
     for line in text.splitlines():
         yield [[v for v in part.split(";") if v] for part in line.split("|")]
 
 
 def messages(capture: str, layer: str, prefix: str) -> Iterator[str]:
     clients, changed, parts = {}, set(), {}
-    for time, tcp, udp, tcp_port, udp_port, contents, types, lengths, levels, codes, *fragments in rows(capture, layer, prefix):
+    for (
+        time,
+        tcp,
+        udp,
+        tcp_port,
+        udp_port,
+        contents,
+        types,
+        lengths,
+        levels,
+        codes,
+        *fragments,
+    ) in rows(capture, layer, prefix):
         stream, port = (tcp + udp)[0], (tcp_port + udp_port)[0]
         client = clients.setdefault(stream, port)
         front = f"{Path(capture).stem} {client} {'client' if port == client else 'server'} {float(time[0]):.6f}"

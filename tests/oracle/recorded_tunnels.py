@@ -48,7 +48,9 @@ def inner(data: bytes, outer: int) -> bytes:
     while at < len(data):
         seconds, micro, length, whole = struct.unpack_from("<IIII", data, at)
         packet = data[at + 16 : at + 16 + length]
-        found.append(struct.pack("<IIII", seconds, micro, length - outer, whole - outer) + packet[outer:])
+        found.append(
+            struct.pack("<IIII", seconds, micro, length - outer, whole - outer) + packet[outer:]
+        )
         at += 16 + length
     return b"".join(found)
 

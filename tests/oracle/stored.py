@@ -59,7 +59,9 @@ def of_lines(judge: Judge, file: Path, folder: Path, udp: bool) -> str:
     had = [json.loads(line) for line in file.read_text().splitlines()]
     right = {}
     for capture in sorted(folder.glob("*.pcap")):
-        times = {round(segment.time / 1_000_000, 6) for segment in packets.read(capture.read_bytes())}
+        times = {
+            round(segment.time / 1_000_000, 6) for segment in packets.read(capture.read_bytes())
+        }
         for port in sorted({line["id.resp_p"] for line in had if line["ts"] in times}):
             right |= {key(line): line for line in wanted.lines(capture, str(port), udp)}
     found = [judge.line(file.relative_to(TOP), line, right[key(line)]) for line in had]
@@ -72,7 +74,9 @@ def of_certificates(judge: Judge, file: Path) -> str:
     for name, lines in found.items():
         right = {key(line): line for line in wanted.lines(file.parent / name)}
         left_out = OF_CHAIN if name == BROKEN else ()
-        lines["connections"] = [judge.line(name, line, right[key(line)], left_out) for line in lines["connections"]]
+        lines["connections"] = [
+            judge.line(name, line, right[key(line)], left_out) for line in lines["connections"]
+        ]
     text = ",\n".join(f" {json.dumps(name)}: {json.dumps(lines)}" for name, lines in found.items())
     return f"{{\n{text}\n}}\n"
 
@@ -98,7 +102,9 @@ def judge_all(fields: list[str], is_written: bool) -> int:
     for file, text in made.items():
         if is_written:
             file.write_text(text)
-    print(f"stored lines: {judge.differ} values {'differed' if is_written else 'differ'} from tshark's")
+    print(
+        f"stored lines: {judge.differ} values {'differed' if is_written else 'differ'} from tshark's"
+    )
     return judge.differ
 
 

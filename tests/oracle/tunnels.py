@@ -33,7 +33,9 @@ def compare(words: list[str]) -> None:
             for what, capture, _ in packets.tunnels(segments):
                 file = Path(folder) / "wrapped.pcap"
                 file.write_bytes(capture)
-                found = record_fields.rows(file, FRAMES if what == "MPLS with frames" else PLAIN, is_udp)
+                found = record_fields.rows(
+                    file, FRAMES if what == "MPLS with frames" else PLAIN, is_udp
+                )
                 if found != wanted:
                     sys.exit(f"{name}, in {what}: {found[:3]} where {wanted[:3]} is wanted")
                 count += 1

@@ -34,11 +34,31 @@ extendedKeyUsage = serverAuth, clientAuth, 1.2.3.4
 """
 # The subject, the key and the extensions of each certificate, and who signs it.
 CERTIFICATES = {
-    "root": ("/C=DE/O=Caf\u00e9, Inc./CN=root", ["-newkey", "rsa:2048"], "basicConstraints = critical, CA:TRUE\nkeyUsage = critical, keyCertSign, cRLSign\n", None),
-    "issuer": ("/DC=test/DC=example/CN=issuer+OU=signs", EC, "basicConstraints = critical, CA:TRUE, pathlen:0\nkeyUsage = keyCertSign\n", "root"),
+    "root": (
+        "/C=DE/O=Caf\u00e9, Inc./CN=root",
+        ["-newkey", "rsa:2048"],
+        "basicConstraints = critical, CA:TRUE\nkeyUsage = critical, keyCertSign, cRLSign\n",
+        None,
+    ),
+    "issuer": (
+        "/DC=test/DC=example/CN=issuer+OU=signs",
+        EC,
+        "basicConstraints = critical, CA:TRUE, pathlen:0\nkeyUsage = keyCertSign\n",
+        "root",
+    ),
     "leaf": ("/CN=example.test", ["-newkey", "rsa:2048"], LEAF, "issuer"),
-    "curve": ("/CN=other.test", ["-newkey", "ec", "-pkeyopt", "ec_paramgen_curve:P-384"], "subjectAltName = DNS:other.test\n", "issuer"),
-    "person": ("/O=Caf\u00e9/CN=a person", ["-newkey", "ed25519"], "extendedKeyUsage = clientAuth\n", "root"),
+    "curve": (
+        "/CN=other.test",
+        ["-newkey", "ec", "-pkeyopt", "ec_paramgen_curve:P-384"],
+        "subjectAltName = DNS:other.test\n",
+        "issuer",
+    ),
+    "person": (
+        "/O=Caf\u00e9/CN=a person",
+        ["-newkey", "ed25519"],
+        "extendedKeyUsage = clientAuth\n",
+        "root",
+    ),
 }
 # The server's certificates, the client's, and the host that is asked for.
 CASES = {
@@ -62,8 +82,24 @@ def make(work: Path, name: str) -> None:
     """Makes a certificate and its key, as name.pem and name.key."""
     subject, key, extensions, signer = CERTIFICATES[name]
     conf = work / f"{name}.conf"
-    conf.write_text(f"[req]\ndistinguished_name = dn\nx509_extensions = v3\nstring_mask = utf8only\nutf8 = yes\n[dn]\n[v3]\n{extensions}")
-    words = ["openssl", "req", "-x509", *key, "-nodes", "-utf8", "-multivalue-rdn", "-days", "3650", "-subj", subject, "-config", str(conf)]
+    conf.write_text(
+        f"[req]\ndistinguished_name = dn\nx509_extensions = v3\nstring_mask = utf8only\nutf8 = yes\n[dn]\n[v3]\n{extensions}"
+    )
+    words = [
+        "openssl",
+        "req",
+        "-x509",
+        *key,
+        "-nodes",
+        "-utf8",
+        "-multivalue-rdn",
+        "-days",
+        "3650",
+        "-subj",
+        subject,
+        "-config",
+        str(conf),
+    ]
     words += ["-keyout", str(work / f"{name}.key"), "-out", str(work / f"{name}.pem")]
     if signer:
         words += ["-CA", str(work / f"{signer}.pem"), "-CAkey", str(work / f"{signer}.key")]
@@ -88,11 +124,18 @@ def context(work: Path, side: int, chain: list[str], other: bool) -> ssl.SSLCont
 def talk(work: Path, server: list[str], client: list[str], host: str) -> list[tuple[bool, bytes]]:
     """The pieces of a handshake in their order, each with whether the client sends it."""
     buffers = [ssl.MemoryBIO() for _ in range(4)]
-    of_client = context(work, ssl.PROTOCOL_TLS_CLIENT, client, False).wrap_bio(buffers[0], buffers[1], server_hostname=host)
-    of_server = context(work, ssl.PROTOCOL_TLS_SERVER, server, bool(client)).wrap_bio(buffers[2], buffers[3], server_side=True)
+    of_client = context(work, ssl.PROTOCOL_TLS_CLIENT, client, False).wrap_bio(
+        buffers[0], buffers[1], server_hostname=host
+    )
+    of_server = context(work, ssl.PROTOCOL_TLS_SERVER, server, bool(client)).wrap_bio(
+        buffers[2], buffers[3], server_side=True
+    )
     pieces, done = [], set()
     for _ in range(20):
-        for one, is_client, out, into in ((of_client, True, buffers[1], buffers[2]), (of_server, False, buffers[3], buffers[0])):
+        for one, is_client, out, into in (
+            (of_client, True, buffers[1], buffers[2]),
+            (of_server, False, buffers[3], buffers[0]),
+        ):
             try:
                 one.do_handshake()
                 done.add(is_client)
@@ -115,9 +158,22 @@ class Capture:
 
     def add(self, is_client: bool, flags: int, payload: bytes = b"") -> None:
         ends = (CLIENT, SERVER) if is_client else (SERVER, CLIENT)
-        ip = struct.pack(">BBHHHBBH4s4s", 0x45, 0, 0, 0, 0x4000, 64, packets.TCP, 0, ends[0][0], ends[1][0])
+        ip = struct.pack(
+            ">BBHHHBBH4s4s", 0x45, 0, 0, 0, 0x4000, 64, packets.TCP, 0, ends[0][0], ends[1][0]
+        )
         acknowledged = 0 if flags == packets.SYN else self.sent[not is_client]
-        tcp = struct.pack(">HHIIBBHHH", ends[0][1], ends[1][1], self.sent[is_client], acknowledged, 0x50, flags, 65535, 0, 0)
+        tcp = struct.pack(
+            ">HHIIBBHHH",
+            ends[0][1],
+            ends[1][1],
+            self.sent[is_client],
+            acknowledged,
+            0x50,
+            flags,
+            65535,
+            0,
+            0,
+        )
         self.segments.append(packets.Segment(self.time, bytes(12) + b"\x08\x00" + ip, tcp, payload))
         self.sent[is_client] += len(payload) + bool(flags & (packets.SYN | packets.FIN))
         self.time += STEP
@@ -162,8 +218,20 @@ def wanted_of(work: Path, file: Path, case: str) -> dict[str, list[Line]]:
             is_bent = case == BROKEN and place == 1
             one = der(work, name)
             one = b"\x31" + one[1:] if is_bent else one
-            line = {"ts": times[is_client], **{field: connection[field] for field in connection if field == "uid" or field.startswith("id.")}, "proto": "tcp"}
-            line |= {"side": "client" if is_client else "server", "place": place, **detail(one, FAULT if is_bent else None)}
+            line = {
+                "ts": times[is_client],
+                **{
+                    field: connection[field]
+                    for field in connection
+                    if field == "uid" or field.startswith("id.")
+                },
+                "proto": "tcp",
+            }
+            line |= {
+                "side": "client" if is_client else "server",
+                "place": place,
+                **detail(one, FAULT if is_bent else None),
+            }
             line |= {"client_cert" if is_client else "host_cert": True} if place == 0 else {}
             lines.append(line)
     return {"connections": [connection], "certificates": sorted(lines, key=lambda line: line["ts"])}
@@ -175,17 +243,40 @@ def wanted_of_broken(work: Path, file: Path) -> Line:
     [found] = wanted.lines(file)
     chain = [der(work, name) for name in CASES[BROKEN][0]]
     chain[1] = b"\x31" + chain[1][1:]
-    found |= {"cert_count": len(chain), "cert_lengths": [len(one) for one in chain], "cert_chain_fps": [wanted_certificates.fingerprint(one) for one in chain]}
+    found |= {
+        "cert_count": len(chain),
+        "cert_lengths": [len(one) for one in chain],
+        "cert_chain_fps": [wanted_certificates.fingerprint(one) for one in chain],
+    }
     found |= wanted_certificates.of_talk(CASES[BROKEN][2], chain[0], None)
     found["cert_error"] = [f"1:{FAULT}"]
-    return {field: found[field] for field in wanted.ORDER if wanted.is_told(field, found.get(field))}
+    return {
+        field: found[field] for field in wanted.ORDER if wanted.is_told(field, found.get(field))
+    }
 
 
 def time_of_messages(file: Path) -> dict[bool, float]:
     """When the Certificate of each side is whole."""
-    words = ["tshark", "-r", str(file), "-T", "fields", "-e", "frame.time_epoch", "-e", "tcp.dstport", "-Y", "tls.handshake.type == 11"]
-    text = subprocess.run(words, stdout=subprocess.PIPE, stderr=subprocess.DEVNULL, text=True, check=True).stdout
-    return {port == str(SERVER[1]): round(float(time), 6) for time, port in (line.split("\t") for line in text.splitlines())}
+    words = [
+        "tshark",
+        "-r",
+        str(file),
+        "-T",
+        "fields",
+        "-e",
+        "frame.time_epoch",
+        "-e",
+        "tcp.dstport",
+        "-Y",
+        "tls.handshake.type == 11",
+    ]
+    text = subprocess.run(
+        words, stdout=subprocess.PIPE, stderr=subprocess.DEVNULL, text=True, check=True
+    ).stdout
+    return {
+        port == str(SERVER[1]): round(float(time), 6)
+        for time, port in (line.split("\t") for line in text.splitlines())
+    }
 
 
 def names() -> list[str]:
@@ -205,6 +296,6 @@ def record(folder: Path, chosen: list[str]) -> bool:
             file = folder / f"{case}.pcap"
             Capture().write(file, bent(pieces, work) if case == BROKEN else pieces)
             lines[file.name] = wanted_of(work, file, case)
-    text = ",\n".join(f' {json.dumps(name)}: {json.dumps(lines[name])}' for name in sorted(lines))
+    text = ",\n".join(f" {json.dumps(name)}: {json.dumps(lines[name])}" for name in sorted(lines))
     stored.write_text(f"{{\n{text}\n}}\n")
     return True

@@ -30,12 +30,19 @@ STORED_DTLS = """
     gnutls_dtls12 gnutls_dtls12_no_cookie gnutls_dtls12_mtu
 """.split()
 # Packets on these are of at most 576 bytes, so that a message comes in several.
-SMALL = {"openssl_rsa", "openssl_client_certificate_rsa", "openssl_tls13_client_certificate", "gnutls_dhe"}
+SMALL = {
+    "openssl_rsa",
+    "openssl_client_certificate_rsa",
+    "openssl_tls13_client_certificate",
+    "gnutls_dhe",
+}
 
 
 def with_names(command: str) -> str:
     """The clients ask for a host and for protocols, and the servers have one of these."""
-    command = command.replace("openssl s_client", "openssl s_client -servername example.test -alpn h2,http/1.1")
+    command = command.replace(
+        "openssl s_client", "openssl s_client -servername example.test -alpn h2,http/1.1"
+    )
     command = command.replace("openssl s_server", "openssl s_server -alpn http/1.1")
     return command.replace("gnutls-cli", "gnutls-cli --sni-hostname example.test")
 
@@ -43,23 +50,44 @@ def with_names(command: str) -> str:
 def conversations() -> dict[str, Any]:
     found = handshakes.conversations()
     server, clients = found["openssl_tls13"]
-    found["openssl_ipv6"] = (server.replace("127.0.0.1", "[::1]"), [client.replace("127.0.0.1", "[::1]") for client in clients])
+    found["openssl_ipv6"] = (
+        server.replace("127.0.0.1", "[::1]"),
+        [client.replace("127.0.0.1", "[::1]") for client in clients],
+    )
     return found
 
 
-def capture(work: Path, folder: Path, name: str, server: str, clients: list[str | None], udp: bool = False) -> None:
+def capture(
+    work: Path, folder: Path, name: str, server: str, clients: list[str | None], udp: bool = False
+) -> None:
     mtu = 576 if name in SMALL else 65536
     # The device cuts no segment that is longer than a packet, and IPv6 comes back with a new
     # beginning.
     for words in (["down"], ["mtu", str(mtu), "gso_max_segs", "1"], ["up"]):
         subprocess.run(["ip", "link", "set", "dev", "lo", *words], check=True)
-    words = ["tcpdump", "-q", "-i", "lo", "--immediate-mode", "-U", "-w", str(folder / f"{name}.pcap"), f"port {handshakes.SERVER}"]
+    words = [
+        "tcpdump",
+        "-q",
+        "-i",
+        "lo",
+        "--immediate-mode",
+        "-U",
+        "-w",
+        str(folder / f"{name}.pcap"),
+        f"port {handshakes.SERVER}",
+    ]
     dump = subprocess.Popen(words, stderr=subprocess.PIPE)
     dump.stderr.readline()
 
     def start() -> subprocess.Popen[bytes]:
         words = ["bash", "-c", "exec " + with_names(server)]
-        process = subprocess.Popen(words, cwd=work, stdin=subprocess.PIPE, stdout=subprocess.DEVNULL, stderr=subprocess.DEVNULL)
+        process = subprocess.Popen(
+            words,
+            cwd=work,
+            stdin=subprocess.PIPE,
+            stdout=subprocess.DEVNULL,
+            stderr=subprocess.DEVNULL,
+        )
         time.sleep(0.7)
         return process
 

@@ -35,7 +35,17 @@ class Dump:
         self.file, self.words = Path(file), words
 
     def __enter__(self) -> Dump:
-        words = ["tcpdump", "-q", "-i", "lo", "--immediate-mode", "-U", "-w", str(self.file), self.words]
+        words = [
+            "tcpdump",
+            "-q",
+            "-i",
+            "lo",
+            "--immediate-mode",
+            "-U",
+            "-w",
+            str(self.file),
+            self.words,
+        ]
         self.process = subprocess.Popen(words, stderr=subprocess.PIPE)
         self.process.stderr.readline()
         return self
@@ -52,7 +62,13 @@ class Peer:
     def __init__(self, work: Path, command: str, name: str) -> None:
         self.file = Path(work) / f"{name}.said"
         with self.file.open("wb") as out:
-            self.process = subprocess.Popen(["bash", "-c", "exec " + command], cwd=work, stdin=subprocess.PIPE, stdout=out, stderr=subprocess.STDOUT)
+            self.process = subprocess.Popen(
+                ["bash", "-c", "exec " + command],
+                cwd=work,
+                stdin=subprocess.PIPE,
+                stdout=out,
+                stderr=subprocess.STDOUT,
+            )
 
     def said(self) -> str:
         return self.file.read_text(errors="replace")

@@ -36,7 +36,11 @@ def make_keys(room: Path) -> None:
 
 def suites() -> list[str]:
     words = ["openssl", "ciphers", ALL]
-    names = subprocess.run(words, stdout=subprocess.PIPE, text=True, check=True).stdout.strip().split(":")
+    names = (
+        subprocess.run(words, stdout=subprocess.PIPE, text=True, check=True)
+        .stdout.strip()
+        .split(":")
+    )
     return [name for name in names if not name.startswith("TLS_")]
 
 
@@ -44,7 +48,14 @@ def talk(room: Path, version: str, port: int, suite: str) -> None:
     identity = f"{KEY} -psk_identity client" if "PSK" in suite else ""
     words = f"openssl s_client -connect 127.0.0.1:{port} {version} -cipher {suite}:@SECLEVEL=0 {identity} -cert ec.pem -key ec.key"
     try:
-        subprocess.run(words.split(), cwd=room, input=b"Q\n", timeout=2, stdout=subprocess.DEVNULL, stderr=subprocess.DEVNULL)
+        subprocess.run(
+            words.split(),
+            cwd=room,
+            input=b"Q\n",
+            timeout=2,
+            stdout=subprocess.DEVNULL,
+            stderr=subprocess.DEVNULL,
+        )
     except subprocess.TimeoutExpired:
         pass
 
@@ -64,8 +75,21 @@ def record(into: Path, _: list[str]) -> bool:
             # One asks for a certificate of the client.
             one = f"{SERVER} {version} -cert rsa.pem -key rsa.key -dcert ec.pem -dkey ec.key -verify 1 -accept {port}"
             other = f"{SERVER} {version} -cert dsa.pem -key dsa.key -accept {port + 1}"
-            running += [subprocess.Popen(words.split(), cwd=room, **QUIET) for words in (one, other)]
-        words = ["tcpdump", "-q", "-i", "lo", "--immediate-mode", "-B", "65536", "-U", "-w", str(into / "suites.pcap")]
+            running += [
+                subprocess.Popen(words.split(), cwd=room, **QUIET) for words in (one, other)
+            ]
+        words = [
+            "tcpdump",
+            "-q",
+            "-i",
+            "lo",
+            "--immediate-mode",
+            "-B",
+            "65536",
+            "-U",
+            "-w",
+            str(into / "suites.pcap"),
+        ]
         dump = subprocess.Popen(words, stderr=subprocess.PIPE)
         dump.stderr.readline()
         time.sleep(1)

@@ -42,14 +42,32 @@ def servers() -> list[str]:
 
 
 def by_openssl(chance: random.Random, port: int, name: str) -> str:
-    version = chance.choice(["", "-tls1_2", "-tls1_3", "-tls1_1 -cipher " + LOW, "-tls1 -cipher " + LOW])
-    more = chance.choice(["", "-alpn h2,http/1.1", "-groups X448:P-256", "-groups P-521:P-384", "-cipher AES256-SHA", "-no_ticket"])
+    version = chance.choice(
+        ["", "-tls1_2", "-tls1_3", "-tls1_1 -cipher " + LOW, "-tls1 -cipher " + LOW]
+    )
+    more = chance.choice(
+        [
+            "",
+            "-alpn h2,http/1.1",
+            "-groups X448:P-256",
+            "-groups P-521:P-384",
+            "-cipher AES256-SHA",
+            "-no_ticket",
+        ]
+    )
     again = chance.choice(["", "", "-reconnect" if version == "-tls1_2" else ""])
     return f"openssl s_client -connect 127.0.0.1:{port} -servername {name} {version} {more} {again}"
 
 
 def by_gnutls(chance: random.Random, port: int, name: str) -> str:
-    version = chance.choice(["NORMAL", "NORMAL:-VERS-ALL:+VERS-TLS1.2", "NORMAL:-VERS-ALL:+VERS-TLS1.3", "NORMAL:-GROUP-ALL:+GROUP-X448"])
+    version = chance.choice(
+        [
+            "NORMAL",
+            "NORMAL:-VERS-ALL:+VERS-TLS1.2",
+            "NORMAL:-VERS-ALL:+VERS-TLS1.3",
+            "NORMAL:-GROUP-ALL:+GROUP-X448",
+        ]
+    )
     more = chance.choice(["", "-r", "--alpn http/1.1"])
     return f"gnutls-cli --insecure -p {port} --sni-hostname {name} --priority {version} {more} 127.0.0.1"
 
@@ -67,7 +85,9 @@ def by_python(chance: random.Random, port: int, name: str) -> None:
     if chance.random() < 0.3:
         context.set_alpn_protocols(["http/1.1"])
     try:
-        with socket.create_connection(("127.0.0.1", port), timeout=4) as plain, context.wrap_socket(plain, server_hostname=name) as talk:
+        with socket.create_connection(("127.0.0.1", port), timeout=4) as plain, context.wrap_socket(
+            plain, server_hostname=name
+        ) as talk:
             talk.sendall(b"GET / HTTP/1.0\r\n\r\n")
             while talk.recv(4096):
                 pass
@@ -82,7 +102,13 @@ def talk(chance: random.Random, number: int) -> None:
     if not command:
         return
     try:
-        subprocess.run(command.split(), input=b"GET / HTTP/1.0\r\n\r\n", timeout=6, stdout=subprocess.DEVNULL, stderr=subprocess.DEVNULL)
+        subprocess.run(
+            command.split(),
+            input=b"GET / HTTP/1.0\r\n\r\n",
+            timeout=6,
+            stdout=subprocess.DEVNULL,
+            stderr=subprocess.DEVNULL,
+        )
     except subprocess.TimeoutExpired:
         pass
 

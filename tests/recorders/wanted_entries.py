@@ -14,12 +14,24 @@ def keep(folder: Path, name: str, entry: dict[str, Any]) -> None:
     file = folder / "wanted.json"
     known = json.loads(file.read_text()) if file.exists() else {}
     known[name] = {**known.get(name, {}), **entry}
-    file.write_text("{\n" + ",\n".join(f" {json.dumps(key)}: {text(known[key])}" for key in sorted(known)) + "\n}\n")
+    file.write_text(
+        "{\n"
+        + ",\n".join(f" {json.dumps(key)}: {text(known[key])}" for key in sorted(known))
+        + "\n}\n"
+    )
 
 
 def text(entry: dict[str, Any]) -> str:
     """An entry as JSON: a line for each member and for each of its log lines, so that a change is
     read in the lines that differ."""
-    notes = [f"  {json.dumps(member)}: {json.dumps(value)},\n" for member, value in entry.items() if member != "lines"]
+    notes = [
+        f"  {json.dumps(member)}: {json.dumps(value)},\n"
+        for member, value in entry.items()
+        if member != "lines"
+    ]
     lines = ",\n".join("   " + json.dumps(line) for line in entry["lines"])
-    return "{\n" + "".join(notes) + ('  "lines": [\n' + lines + "\n  ]\n }" if lines else '  "lines": []\n }')
+    return (
+        "{\n"
+        + "".join(notes)
+        + ('  "lines": [\n' + lines + "\n  ]\n }" if lines else '  "lines": []\n }')
+    )

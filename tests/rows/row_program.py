@@ -33,14 +33,20 @@ def files() -> list[Path]:
 
 def sources() -> dict[str, Path]:
     """The sources of the program, by their place in its crate."""
-    own = {str(file.relative_to(OURS).with_suffix("")): file for file in OURS.rglob("*.rt.unproved")}
+    own = {
+        str(file.relative_to(OURS).with_suffix("")): file for file in OURS.rglob("*.rt.unproved")
+    }
     callers = {f"uses/{file.stem}": file for file in CALLERS.glob("*.rt.unproved")}
     return {**own, **callers}
 
 
 def crates_below() -> set[str]:
     """The crates of the repository that the program depends on."""
-    lines = (line.split(":") for line in (TOP / "crates.txt").read_text().splitlines() if ":" in line and not line.startswith("#"))
+    lines = (
+        line.split(":")
+        for line in (TOP / "crates.txt").read_text().splitlines()
+        if ":" in line and not line.startswith("#")
+    )
     listed = {names.split()[0]: below.split() for names, below in lines}
     found, wanted = set[str](), STANDS_ON.split()
     while wanted:
@@ -53,8 +59,14 @@ def crates_below() -> set[str]:
 
 def sum_of_sources() -> str:
     """The sum of all that is compiled, and of what compiles it."""
-    said = hashlib.sha256(subprocess.run(["rt", "version"], stdout=subprocess.PIPE, check=True).stdout)
-    below = (file for name in sorted(crates_below()) for file in sorted((TOP / "crates" / name / "src").rglob("*.rt")))
+    said = hashlib.sha256(
+        subprocess.run(["rt", "version"], stdout=subprocess.PIPE, check=True).stdout
+    )
+    below = (
+        file
+        for name in sorted(crates_below())
+        for file in sorted((TOP / "crates" / name / "src").rglob("*.rt"))
+    )
     for file in [QUICK_BUILD, *sources().values(), *below]:
         said.update(repr((str(file.relative_to(TOP)), file.read_bytes())).encode())
     return said.hexdigest()
@@ -64,7 +76,11 @@ def compile_to(program: Path) -> None:
     """Compiles the program, with nothing proved."""
     with tempfile.TemporaryDirectory(prefix="rows-") as place:
         room = Path(place)
-        shutil.copytree(TOP / "crates", room / "crates", ignore=shutil.ignore_patterns("out", "must-fail", "wrong"))
+        shutil.copytree(
+            TOP / "crates",
+            room / "crates",
+            ignore=shutil.ignore_patterns("out", "must-fail", "wrong"),
+        )
         shutil.copy(TOP / "HANDLES", room)
         (room / "crates.txt").write_text(f"{(TOP / 'crates.txt').read_text()}{NAME}: {STANDS_ON}\n")
         crate = room / "crates" / NAME

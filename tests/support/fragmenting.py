@@ -27,12 +27,24 @@ def parts_of(frame: bytes) -> tuple[bytes, bytes, int, bytes]:
     behind it, and the rest of the datagram."""
     link, ip = frame[:LINK_HEADER], frame[LINK_HEADER:]
     if ip[0] >> 4 == 6:
-        return link, ip[:V6_HEADER], ip[6], ip[V6_HEADER : V6_HEADER + int.from_bytes(ip[4:6], "big")]
+        return (
+            link,
+            ip[:V6_HEADER],
+            ip[6],
+            ip[V6_HEADER : V6_HEADER + int.from_bytes(ip[4:6], "big")],
+        )
     length = ip[0] % 16 * 4
     return link, ip[:length], ip[9], ip[length : int.from_bytes(ip[2:4], "big")]
 
 
-def fragment(frame: bytes, identification: int, offset: int, has_more: bool, payload: bytes, in_front: bytes = b"") -> bytes:
+def fragment(
+    frame: bytes,
+    identification: int,
+    offset: int,
+    has_more: bool,
+    payload: bytes,
+    in_front: bytes = b"",
+) -> bytes:
     """The frame with that fragment in the place of its datagram; in IPv6 behind these headers."""
     link, header, protocol, _ = parts_of(frame)
     if header[0] >> 4 == 6:
@@ -41,12 +53,20 @@ def fragment(frame: bytes, identification: int, offset: int, has_more: bool, pay
         first = OPTIONS and (60 if in_front else FRAGMENT)
         return link + header[:4] + struct.pack(">HB", len(behind), first) + header[7:] + behind
     flags = offset // 8 | (0x2000 if has_more else 0)
-    header = header[:2] + struct.pack(">HHH", len(header) + len(payload), identification % 65536, flags) + header[8:10] + b"\0\0" + header[12:]
+    header = (
+        header[:2]
+        + struct.pack(">HHH", len(header) + len(payload), identification % 65536, flags)
+        + header[8:10]
+        + b"\0\0"
+        + header[12:]
+    )
     header = header[:10] + packets.checksum(packets.words(header)) + header[12:]
     return link + header + payload
 
 
-def cut(frame: bytes, size: int, identification: int, in_front: bytes = b"", overlap: int = 0) -> list[bytes]:
+def cut(
+    frame: bytes, size: int, identification: int, in_front: bytes = b"", overlap: int = 0
+) -> list[bytes]:
     """The fragments of the frame's datagram, each of so many bytes, which is a multiple of 8, and
     of so many of the next one's."""
     _, _, _, payload = parts_of(frame)
@@ -60,7 +80,9 @@ def cut(frame: bytes, size: int, identification: int, in_front: bytes = b"", ove
     return made
 
 
-def changed(frame: bytes, identification: int, made: list[bytes], size: int) -> tuple[list[bytes], int]:
+def changed(
+    frame: bytes, identification: int, made: list[bytes], size: int
+) -> tuple[list[bytes], int]:
     """The same fragments, and behind the first of each two a copy of which every second byte is
     another; and how many that are."""
     _, _, _, payload = parts_of(frame)
@@ -97,7 +119,9 @@ def in_vxlan(frame: bytes) -> bytes:
     return LINK + ETHER[4] + payload
 
 
-def captures(segments: list[Segment]) -> Iterator[tuple[str, bytes, list[str], dict[tuple[packets.End, packets.End], int]]]:
+def captures(
+    segments: list[Segment],
+) -> Iterator[tuple[str, bytes, list[str], dict[tuple[packets.End, packets.End], int]]]:
     """The capture with each datagram cut, in each way: its name, the capture, the tunnels, and how
     many bytes disagree, by the packet's source and destination."""
 
@@ -142,7 +166,13 @@ def captures(segments: list[Segment]) -> Iterator[tuple[str, bytes, list[str], d
         "odd ones first": (plain(lambda m: m[1::2] + m[::2]), []),
         "doubled": (plain(doubled), []),
         "overlapping": (lambda f, n: (cut(f, size_for(f), n, overlap=16)[::-1], 0), []),
-        "behind options": (lambda f, n: (cut(f, size_for(f), n, in_front=OPTIONS if f[LINK_HEADER] >> 4 == 6 else b""), 0), []),
+        "behind options": (
+            lambda f, n: (
+                cut(f, size_for(f), n, in_front=OPTIONS if f[LINK_HEADER] >> 4 == 6 else b""),
+                0,
+            ),
+            [],
+        ),
         "disagreeing": (disagreeing, []),
         "in a VLAN": (tagged, []),
         "in VXLAN": (cut_in_vxlan, ["vxlan"]),
@@ -169,7 +199,9 @@ def bad(segments: list[Segment]) -> Iterator[tuple[str, bytes, dict[str, int]]]:
 
     missing = "datagrams of which fragments were missing at the end"
     for number in range(len(pieces)):
-        yield f"without fragment {number}", told(pieces[:number] + pieces[number + 1 :]), {missing: 1}
+        yield f"without fragment {number}", told(pieces[:number] + pieces[number + 1 :]), {
+            missing: 1
+        }
     other_end = "fragments with another end than their datagram's"
     last = fragment(frame, 7, len(payload) // 8 * 8 + 8, False, b"x" * 8)
     yield "another end behind", told([*pieces[1:], last]), {other_end: 1, missing: 1}
@@ -178,16 +210,25 @@ def bad(segments: list[Segment]) -> Iterator[tuple[str, bytes, dict[str, int]]]:
     behind = fragment(frame, 7, len(payload) // 8 * 8 + 16, True, b"x" * 8)
     yield "bytes behind the end", told([*pieces[1:], behind]), {other_end: 1, missing: 1}
     uneven = fragment(frame, 9, 0, True, payload[: size - 1])
-    yield "a length that is no multiple of 8", told([uneven]), {"fragments with a length that is no multiple of 8": 1}
+    yield "a length that is no multiple of 8", told([uneven]), {
+        "fragments with a length that is no multiple of 8": 1
+    }
     front = 0 if header[0] >> 4 == 6 else len(header)
     long = fragment(frame, 9, 65_528, False, b"x" * (8 - front % 8))
     yield "too long", told([long]), {"fragments of datagrams of more than 65,535 bytes": 1}
-    yield "late", told([*pieces[:-1], pieces[-1]], step=31_000_000 // max(1, len(pieces) - 1) + 1), {"datagrams of which fragments were missing for 30 seconds": 1, missing: 1}
+    yield "late", told(
+        [*pieces[:-1], pieces[-1]], step=31_000_000 // max(1, len(pieces) - 1) + 1
+    ), {"datagrams of which fragments were missing for 30 seconds": 1, missing: 1}
     many = [fragment(frame, number, 8, True, b"x" * 8) for number in range(30_000)]
-    yield "many that never end", told(many), {missing: WAITING, "datagrams of which fragments were missing, and that had no room": 30_000 - WAITING}
+    yield "many that never end", told(many), {
+        missing: WAITING,
+        "datagrams of which fragments were missing, and that had no room": 30_000 - WAITING,
+    }
     same = [fragment(frame, 7, 8, True, payload[8:16])] * 1000
     yield "the same again and again", told(same), {missing: 1}
-    yield "empty ones", told([fragment(frame, 7, 8 * number, True, b"") for number in range(1000)]), {missing: 1}
+    yield "empty ones", told(
+        [fragment(frame, 7, 8 * number, True, b"") for number in range(1000)]
+    ), {missing: 1}
 
 
 HELD_LIMIT = 33_554_432

@@ -17,7 +17,9 @@ DIGITS = "0123456789abcdefghijklmnopqrstuvwxyzABCDEFGHIJKLMNOPQRSTUVWXYZ"
 def ends(line: Line) -> Iterator[tuple[bytes, int]]:
     """Address and port of the originator and of the responder, as bytes."""
     for side in ("orig", "resp"):
-        yield ipaddress.ip_address(line[f"id.{side}_h"]).packed, line[f"id.{side}_p"].to_bytes(2, "big")
+        yield ipaddress.ip_address(line[f"id.{side}_h"]).packed, line[f"id.{side}_p"].to_bytes(
+            2, "big"
+        )
 
 
 def community_id(line: Line) -> str:
@@ -31,7 +33,15 @@ def digest(line: Line) -> bytes:
     """What uid and flow_id are made of."""
     (originator, its_port), (responder, other_port) = ends(line)
     microseconds = round(line["ts"] * 1_000_000)
-    hashed = KEY + originator + responder + bytes([PROTOCOLS[line["proto"]]]) + its_port + other_port + microseconds.to_bytes(8, "big")
+    hashed = (
+        KEY
+        + originator
+        + responder
+        + bytes([PROTOCOLS[line["proto"]]])
+        + its_port
+        + other_port
+        + microseconds.to_bytes(8, "big")
+    )
     return hashlib.sha256(hashed).digest()
 
 

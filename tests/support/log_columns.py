@@ -123,12 +123,17 @@ def kinds() -> dict[str, tuple[str, str]]:
     """The variants of Type: each one's description, and Zeek's name for it."""
     body = TYPES.read_text().split("pub enum Type {\n")[1].split("\n}")[0]
     found = re.findall(r"((?:^    /// .*\n)+)    (\w+),$", body, re.M)
-    texts = {name: " ".join(line.strip().removeprefix("/// ") for line in text.splitlines()) for text, name in found}
+    texts = {
+        name: " ".join(line.strip().removeprefix("/// ") for line in text.splitlines())
+        for text, name in found
+    }
     names = {}
     for variants, name in re.findall(r'^ +(Type::.*) => "(.*)",$', ZEEK.read_text(), re.M):
         names |= dict.fromkeys(re.findall(r"Type::(\w+)", variants), name)
     if {*texts} != {*names}:
-        raise Wrong(f"types without a text, or without a name of Zeek's: {', '.join({*texts} ^ {*names})}")
+        raise Wrong(
+            f"types without a text, or without a name of Zeek's: {', '.join({*texts} ^ {*names})}"
+        )
     return {kind: (text, names[kind]) for kind, text in texts.items()}
 
 

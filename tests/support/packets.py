@@ -37,11 +37,21 @@ class Segment:
 
     @property
     def source(self) -> End:
-        return self.front[LINK_HEADER + 8 : LINK_HEADER + 24] if self.is_v6 else self.front[LINK_HEADER + 12 : LINK_HEADER + 16], self.tcp[0:2]
+        return (
+            self.front[LINK_HEADER + 8 : LINK_HEADER + 24]
+            if self.is_v6
+            else self.front[LINK_HEADER + 12 : LINK_HEADER + 16],
+            self.tcp[0:2],
+        )
 
     @property
     def destination(self) -> End:
-        return self.front[LINK_HEADER + 24 : LINK_HEADER + 40] if self.is_v6 else self.front[LINK_HEADER + 16 : LINK_HEADER + 20], self.tcp[2:4]
+        return (
+            self.front[LINK_HEADER + 24 : LINK_HEADER + 40]
+            if self.is_v6
+            else self.front[LINK_HEADER + 16 : LINK_HEADER + 20],
+            self.tcp[2:4],
+        )
 
     @property
     def ends(self) -> frozenset[End]:
@@ -71,7 +81,13 @@ class Segment:
         """The segment of a part of its payload. The last part has its FIN."""
         flags = self.flags if end == len(self.payload) else self.flags & ~(FIN | PSH)
         sequence = (self.sequence + begin) % 2**32
-        tcp = self.tcp[:4] + sequence.to_bytes(4, "big") + self.tcp[8:13] + bytes([flags]) + self.tcp[14:]
+        tcp = (
+            self.tcp[:4]
+            + sequence.to_bytes(4, "big")
+            + self.tcp[8:13]
+            + bytes([flags])
+            + self.tcp[14:]
+        )
         return replace(self, tcp=tcp, payload=self.payload[begin:end])
 
     def frame(self) -> bytes:
@@ -79,14 +95,20 @@ class Segment:
         others."""
         front, behind = bytearray(self.front), len(self.tcp) + len(self.payload)
         if self.is_v6:
-            front[LINK_HEADER + 4 : LINK_HEADER + 6] = (len(front) - LINK_HEADER - 40 + behind).to_bytes(2, "big")
+            front[LINK_HEADER + 4 : LINK_HEADER + 6] = (
+                len(front) - LINK_HEADER - 40 + behind
+            ).to_bytes(2, "big")
         else:
-            front[LINK_HEADER + 2 : LINK_HEADER + 4] = (len(front) - LINK_HEADER + behind).to_bytes(2, "big")
+            front[LINK_HEADER + 2 : LINK_HEADER + 4] = (len(front) - LINK_HEADER + behind).to_bytes(
+                2, "big"
+            )
             front[LINK_HEADER + 10 : LINK_HEADER + 12] = bytes(2)
             front[LINK_HEADER + 10 : LINK_HEADER + 12] = checksum(words(front[LINK_HEADER:]))
         place = 6 if self.is_udp else 16
         tcp = self.tcp[:place] + bytes(2) + self.tcp[place + 2 :]
-        pseudo = words(self.source[0] + self.destination[0]) + (UDP if self.is_udp else TCP) + behind
+        pseudo = (
+            words(self.source[0] + self.destination[0]) + (UDP if self.is_udp else TCP) + behind
+        )
         sum_of_all = checksum(pseudo + words(tcp) + words(self.payload))
         return bytes(front) + tcp[:place] + sum_of_all + tcp[place + 2 :] + self.payload
 
@@ -133,9 +155,13 @@ def ends_of_packets(capture: bytes) -> list[int]:
     return found
 
 
-def pcap(packets: Iterable[Timed], order: str = "<", nano: bool = False, link: int = ETHERNET) -> bytes:
+def pcap(
+    packets: Iterable[Timed], order: str = "<", nano: bool = False, link: int = ETHERNET
+) -> bytes:
     """A pcap file (draft-ietf-opsawg-pcap) of pairs of a time in microseconds and bytes."""
-    parts = [struct.pack(order + "IHHiIII", 0xA1B23C4D if nano else 0xA1B2C3D4, 2, 4, 0, 0, 262144, link)]
+    parts = [
+        struct.pack(order + "IHHiIII", 0xA1B23C4D if nano else 0xA1B2C3D4, 2, 4, 0, 0, 262144, link)
+    ]
     for time, frame in packets:
         part = time % 1_000_000 * (1000 if nano else 1)
         parts += [struct.pack(order + "4I", time // 1_000_000, part, len(frame), len(frame)), frame]
@@ -144,10 +170,21 @@ def pcap(packets: Iterable[Timed], order: str = "<", nano: bool = False, link: i
 
 def block(order: str, kind: int, body: bytes) -> bytes:
     body += bytes(-len(body) % 4)
-    return struct.pack(order + "2I", kind, len(body) + 12) + body + struct.pack(order + "I", len(body) + 12)
+    return (
+        struct.pack(order + "2I", kind, len(body) + 12)
+        + body
+        + struct.pack(order + "I", len(body) + 12)
+    )
 
 
-def pcapng(packets: Iterable[Timed], order: str = "<", nano: bool = False, is_obsolete: bool = False, link: int = ETHERNET, offset: int = 0) -> bytes:
+def pcapng(
+    packets: Iterable[Timed],
+    order: str = "<",
+    nano: bool = False,
+    is_obsolete: bool = False,
+    link: int = ETHERNET,
+    offset: int = 0,
+) -> bytes:
     """A capture in blocks (draft-ietf-opsawg-pcapng), with a block of names that nobody reads. With
     an offset of its interface, all times are so many seconds after those in its packets."""
     options = struct.pack(order + "HHBxxx", 9, 1, 9) if nano else b""
@@ -160,7 +197,9 @@ def pcapng(packets: Iterable[Timed], order: str = "<", nano: bool = False, is_ob
     ]
     for time, frame in packets:
         units = (time - offset * 1_000_000) * (1000 if nano else 1)
-        front = struct.pack(order + "HH" if is_obsolete else order + "I", *((0, 0) if is_obsolete else (0,)))
+        front = struct.pack(
+            order + "HH" if is_obsolete else order + "I", *((0, 0) if is_obsolete else (0,))
+        )
         front += struct.pack(order + "4I", units >> 32, units % 2**32, len(frame), len(frame))
         parts.append(block(order, 2 if is_obsolete else 6, front + frame))
     return b"".join(parts)
@@ -176,7 +215,9 @@ def forms(segments: list[Segment]) -> Iterator[tuple[str, bytes]]:
             yield f"pcapng {name} {unit}", pcapng(plain, order, nano)
         yield f"pcapng {name} obsolete", pcapng(plain, order, is_obsolete=True)
         for offset in (1_000_000_000, -1_000_000_000):
-            yield f"pcapng {name} moved by {offset} seconds", pcapng(plain, order, nano, offset=offset)
+            yield f"pcapng {name} moved by {offset} seconds", pcapng(
+                plain, order, nano, offset=offset
+            )
 
 
 def links(segments: list[Segment]) -> Iterator[tuple[str, bytes]]:
@@ -194,10 +235,16 @@ def links(segments: list[Segment]) -> Iterator[tuple[str, bytes]]:
     yield "null", of(0, lambda s: (30 if s.is_v6 else 2).to_bytes(4, "little"))
     yield "loopback", of(108, lambda s: (24 if s.is_v6 else 2).to_bytes(4, "big"))
     yield "cooked", of(113, lambda s: b"\0\0\3\4\0\6" + bytes(8) + kind[s.is_v6])
-    yield "cooked, tagged", of(113, lambda s: b"\0\0\3\4\0\6" + bytes(8) + b"\x81\0\0\7" + kind[s.is_v6])
+    yield "cooked, tagged", of(
+        113, lambda s: b"\0\0\3\4\0\6" + bytes(8) + b"\x81\0\0\7" + kind[s.is_v6]
+    )
     yield "cooked 2", of(276, lambda s: kind[s.is_v6] + b"\0\0\0\0\0\1\3\4\0\6" + bytes(8))
-    yield "cooked 2, tagged", of(276, lambda s: b"\x81\0" + b"\0\0\0\0\0\1\3\4\0\6" + bytes(8) + b"\0\7" + kind[s.is_v6])
-    yield "cooked 2, tagged twice", of(276, lambda s: b"\x88\xa8" + bytes(18) + b"\0\7\x81\0\0\7" + kind[s.is_v6])
+    yield "cooked 2, tagged", of(
+        276, lambda s: b"\x81\0" + b"\0\0\0\0\0\1\3\4\0\6" + bytes(8) + b"\0\7" + kind[s.is_v6]
+    )
+    yield "cooked 2, tagged twice", of(
+        276, lambda s: b"\x88\xa8" + bytes(18) + b"\0\7\x81\0\0\7" + kind[s.is_v6]
+    )
     yield "tagged", of(ETHERNET, lambda s: inner(s, b"\x81\0\0\7"))
     yield "tagged twice", of(ETHERNET, lambda s: inner(s, b"\x88\xa8\0\7\x81\0\0\7"))
     ppp = {False: b"\0\x21", True: b"\0\x57"}
@@ -246,17 +293,34 @@ def wrappings() -> Iterator[tuple[str, Wrap, bytes | None]]:
         """Returns the payload of the frame, and its version of IP."""
         return frame[LINK_HEADER:], frame[LINK_HEADER] >> 4
 
-    def in_ip(outer: Callable[[int, bytes], bytes], protocol: int | None, header: bytes = b"", name: str | None = None, number: int = 0) -> Wrap:
+    def in_ip(
+        outer: Callable[[int, bytes], bytes],
+        protocol: int | None,
+        header: bytes = b"",
+        name: str | None = None,
+        number: int = 0,
+    ) -> Wrap:
         """The datagram itself in one of IP, behind a header."""
 
         def wrap(frame: bytes) -> tuple[bytes, list[str], list[int]]:
             inner, version = datagram(frame)
             kind = protocol or {4: 4, 6: 41}[version]
-            return outer(kind, header.replace(b"TT", ETHER[version]) + inner), [name or f"ipv{version}"], [number]
+            return (
+                outer(kind, header.replace(b"TT", ETHER[version]) + inner),
+                [name or f"ipv{version}"],
+                [number],
+            )
 
         return wrap
 
-    def over(protocol: int, header: bytes, name: str, number: int, outer: Callable[[int, bytes], bytes] = ipv4, port: int | None = None) -> Wrap:
+    def over(
+        protocol: int,
+        header: bytes,
+        name: str,
+        number: int,
+        outer: Callable[[int, bytes], bytes] = ipv4,
+        port: int | None = None,
+    ) -> Wrap:
         """The whole frame in one of IP, or in a user datagram."""
 
         def wrap(frame: bytes) -> tuple[bytes, list[str], list[int]]:
@@ -275,7 +339,11 @@ def wrappings() -> Iterator[tuple[str, Wrap, bytes | None]]:
         def wrap(frame: bytes) -> tuple[bytes, list[str], list[int]]:
             inner, _ = datagram(frame)
             flags = 0x34 if optional else 0x30
-            message = struct.pack(">BBHI", flags, 255, len(optional) + len(inner), 0xA0B0C0D) + optional + inner
+            message = (
+                struct.pack(">BBHI", flags, 255, len(optional) + len(inner), 0xA0B0C0D)
+                + optional
+                + inner
+            )
             return ipv4(17, udp(2152, 2152, message)), ["gtp"], [0xA0B0C0D]
 
         return wrap
@@ -283,7 +351,13 @@ def wrappings() -> Iterator[tuple[str, Wrap, bytes | None]]:
     def geneve(frame: bytes) -> tuple[bytes, list[str], list[int]]:
         inner, version = datagram(frame)
         options = bytes.fromhex("0102" "0301" "00000007")
-        return ipv6(17, udp(49152, 6081, b"\x02\0" + ETHER[version] + b"\0\0\x09\0" + options + inner)), ["geneve"], [9]
+        return (
+            ipv6(
+                17, udp(49152, 6081, b"\x02\0" + ETHER[version] + b"\0\0\x09\0" + options + inner)
+            ),
+            ["geneve"],
+            [9],
+        )
 
     def teredo(headers: bytes) -> Wrap:
         def wrap(frame: bytes) -> tuple[bytes, list[str], list[int]]:
@@ -313,7 +387,9 @@ def wrappings() -> Iterator[tuple[str, Wrap, bytes | None]]:
             frame = LINK + ETHER[payload[0] >> 4] + payload
         return payload, names, numbers
 
-    origin, identity = bytes.fromhex("0000" "1234" "c0000203"), bytes.fromhex("0001" "0203" "4142" "515253") + bytes(9)
+    origin, identity = bytes.fromhex("0000" "1234" "c0000203"), bytes.fromhex(
+        "0001" "0203" "4142" "515253"
+    ) + bytes(9)
     vxlan = over(17, b"\x08\0\0\0\0\x12\x34\0", "vxlan", 0x1234, port=4789)
     gre_frame = over(47, b"\0\0\x65\x58", "gre", 0)
     keyed = in_ip(ipv6, 47, b"\x20\0TT\0\0\0\x07", "gre", 7)
@@ -323,18 +399,45 @@ def wrappings() -> Iterator[tuple[str, Wrap, bytes | None]]:
         return ipv4(47, payload), ["gre", "mpls"], [0, 32]
 
     everywhere = {
-        "IP in IPv4": in_ip(ipv4, None), "IP in IPv6": in_ip(ipv6, None),
-        "GRE": in_ip(ipv4, 47, b"\0\0TT", "gre"), "GRE with all fields": in_ip(ipv6, 47, b"\xb0\0TT" + bytes(4) + b"\0\0\1\0" + bytes(4), "gre", 256),
-        "GRE with frames": gre_frame, "GRE with a key": keyed, "MPLS in GRE": labels_in_gre,
+        "IP in IPv4": in_ip(ipv4, None),
+        "IP in IPv6": in_ip(ipv6, None),
+        "GRE": in_ip(ipv4, 47, b"\0\0TT", "gre"),
+        "GRE with all fields": in_ip(
+            ipv6, 47, b"\xb0\0TT" + bytes(4) + b"\0\0\1\0" + bytes(4), "gre", 256
+        ),
+        "GRE with frames": gre_frame,
+        "GRE with a key": keyed,
+        "MPLS in GRE": labels_in_gre,
         "ERSPAN I": over(47, b"\0\0\x88\xbe", "erspan", 0),
-        "ERSPAN II": over(47, bytes.fromhex("100088be" "00000001" "10070123" "00000005"), "erspan", 0x123),
-        "ERSPAN III": over(47, bytes.fromhex("100022eb" "00000001" "20070123" "01020304" "00000000"), "erspan", 0x123),
-        "ERSPAN III with a platform": over(47, bytes.fromhex("100022eb" "00000001" "20070123" "01020304" "00000001" "0000000000000000"), "erspan", 0x123),
-        "VXLAN": vxlan, "VXLAN in Linux": over(17, b"\x08\0\0\0\0\x12\x35\0", "vxlan", 0x1235, ipv6, 8472),
-        "GENEVE": over(17, b"\0\0\x65\x58\0\0\x08\0", "geneve", 8, port=6081), "GENEVE with options": geneve,
-        "GTP-U": gtp(b""), "GTP-U with extensions": gtp(bytes.fromhex("00000085" "01000940" "0201010101010100")),
-        "Teredo": teredo(b""), "Teredo with an origin": teredo(origin), "Teredo with both": teredo(identity + origin),
-        "AH in IPv4": authenticated(ipv4), "AH in IPv6": authenticated(ipv6), "8 tunnels": nested,
+        "ERSPAN II": over(
+            47, bytes.fromhex("100088be" "00000001" "10070123" "00000005"), "erspan", 0x123
+        ),
+        "ERSPAN III": over(
+            47,
+            bytes.fromhex("100022eb" "00000001" "20070123" "01020304" "00000000"),
+            "erspan",
+            0x123,
+        ),
+        "ERSPAN III with a platform": over(
+            47,
+            bytes.fromhex(
+                "100022eb" "00000001" "20070123" "01020304" "00000001" "0000000000000000"
+            ),
+            "erspan",
+            0x123,
+        ),
+        "VXLAN": vxlan,
+        "VXLAN in Linux": over(17, b"\x08\0\0\0\0\x12\x35\0", "vxlan", 0x1235, ipv6, 8472),
+        "GENEVE": over(17, b"\0\0\x65\x58\0\0\x08\0", "geneve", 8, port=6081),
+        "GENEVE with options": geneve,
+        "GTP-U": gtp(b""),
+        "GTP-U with extensions": gtp(bytes.fromhex("00000085" "01000940" "0201010101010100")),
+        "Teredo": teredo(b""),
+        "Teredo with an origin": teredo(origin),
+        "Teredo with both": teredo(identity + origin),
+        "AH in IPv4": authenticated(ipv4),
+        "AH in IPv6": authenticated(ipv6),
+        "8 tunnels": nested,
     }
     for name, wrap in everywhere.items():
         yield name, wrap, None
@@ -342,10 +445,14 @@ def wrappings() -> Iterator[tuple[str, Wrap, bytes | None]]:
     yield "MPLS", on_link(labels, "mpls", 32, False), b"\x88\x47"
     yield "MPLS to many", on_link(labels, "mpls", 32, False), b"\x88\x48"
     yield "MPLS with frames", on_link(labels + bytes(4), "mpls", 32, True), b"\x88\x47"
-    yield "a provider's backbone", on_link(bytes.fromhex("00000100"), "pbb", 256, True), b"\x88\xa8\0\x05\x88\xe7"
+    yield "a provider's backbone", on_link(
+        bytes.fromhex("00000100"), "pbb", 256, True
+    ), b"\x88\xa8\0\x05\x88\xe7"
 
 
-def tunnels(segments: list[Segment]) -> Iterator[tuple[str, bytes, dict[bool, tuple[list[str], list[int]]]]]:
+def tunnels(
+    segments: list[Segment],
+) -> Iterator[tuple[str, bytes, dict[bool, tuple[list[str], list[int]]]]]:
     """The capture wrapped in each way: its name, the capture, and by whether a packet is of IPv6
     the tunnels and their numbers."""
     for name, wrap, kind in wrappings():
@@ -389,7 +496,17 @@ def networks() -> Iterator[tuple[str, InNetwork, InNetwork]]:
         """In GRE with a key (RFC 2890, section 2.1)."""
 
         def put(frame: bytes) -> bytes:
-            return LINK + ETHER[4] + ipv4(47, b"\x20\0" + frame[LINK_HEADER - 2 : LINK_HEADER] + struct.pack(">I", key) + frame[LINK_HEADER:])
+            return (
+                LINK
+                + ETHER[4]
+                + ipv4(
+                    47,
+                    b"\x20\0"
+                    + frame[LINK_HEADER - 2 : LINK_HEADER]
+                    + struct.pack(">I", key)
+                    + frame[LINK_HEADER:],
+                )
+            )
 
         return put
 
@@ -399,6 +516,12 @@ def networks() -> Iterator[tuple[str, InNetwork, InNetwork]]:
     yield "two VLANs in one", (tagged(5, 6), none), (tagged(5, 7), none)
     yield "a VLAN in another and the other way", (tagged(5, 6), none), (tagged(6, 5), none)
     yield "two VXLANs", (vxlan(1), one), (vxlan(0x100001), other)
-    yield "two VLANs in a VXLAN", (vxlan(1, inside=tagged(5)), one), (vxlan(1, inside=tagged(6)), one)
-    yield "a VXLAN in two VLANs", (vxlan(1, outside=tagged(5)), one), (vxlan(1, outside=tagged(6)), one)
+    yield "two VLANs in a VXLAN", (vxlan(1, inside=tagged(5)), one), (
+        vxlan(1, inside=tagged(6)),
+        one,
+    )
+    yield "a VXLAN in two VLANs", (vxlan(1, outside=tagged(5)), one), (
+        vxlan(1, outside=tagged(6)),
+        one,
+    )
     yield "a VXLAN and GRE of one number", (vxlan(1), one), (keyed(1), third)

@@ -15,7 +15,9 @@ def answer_help(text: str | None) -> None:
         sys.exit(0)
 
 
-def run_subcommand(text: str | None, commands: Mapping[str, Callable[[list[str]], int | None]]) -> NoReturn:
+def run_subcommand(
+    text: str | None, commands: Mapping[str, Callable[[list[str]], int | None]]
+) -> NoReturn:
     """Calls the subcommand that the first argument names with the other arguments, and ends the
     script with the status that it returns. `text` is the script's description; `--help` behind a
     subcommand prints the description of its module."""

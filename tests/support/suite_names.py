@@ -4,7 +4,11 @@ from __future__ import annotations
 
 from pathlib import Path
 
-ROWS = [line.split() for line in (Path(__file__).parent / "cipher_suites").read_text().splitlines() if not line.startswith("#")]
+ROWS = [
+    line.split()
+    for line in (Path(__file__).parent / "cipher_suites").read_text().splitlines()
+    if not line.startswith("#")
+]
 NAMES = {int(number, 16): name for number, name in ROWS}
 
 
@@ -15,7 +19,11 @@ def suite_name(number: int) -> str:
 
 def named(text: str) -> str:
     """The name of a suite whose number is written as `0x1301`; any other text stays."""
-    return NAMES.get(int(text, 16), text) if len(text) == len("0x1301") and text.startswith("0x") else text
+    return (
+        NAMES.get(int(text, 16), text)
+        if len(text) == len("0x1301") and text.startswith("0x")
+        else text
+    )
 
 
 def numbered(text: str) -> str:

@@ -47,14 +47,28 @@ def certificate(line: Line | None) -> Line:
     exponent, serial = of("exponent"), of("serial")
     is_read = "error" not in line
     subject, issuer = of("subject"), of("issuer")
-    before, after = (date(of(f"not_valid_{when}")) if is_read else None for when in ("before", "after"))
+    before, after = (
+        date(of(f"not_valid_{when}")) if is_read else None for when in ("before", "after")
+    )
     return {
-        "subject": subject, "issuer": issuer, "not_before": before, "not_after": after, "hash": {"sha256": line["fingerprint"].upper()},
+        "subject": subject,
+        "issuer": issuer,
+        "not_before": before,
+        "not_after": after,
+        "hash": {"sha256": line["fingerprint"].upper()},
         "x509": {
-            "version_number": of("version"), "serial_number": serial and serial.upper(), "not_before": before, "not_after": after,
-            "alternative_names": names or None, "public_key_algorithm": of("key_alg"), "public_key_size": of("key_length"),
-            "public_key_exponent": int(exponent) if exponent and exponent.isdigit() else None, "public_key_curve": of("curve"),
-            "signature_algorithm": of("sig_alg"), "subject": {"distinguished_name": subject}, "issuer": {"distinguished_name": issuer},
+            "version_number": of("version"),
+            "serial_number": serial and serial.upper(),
+            "not_before": before,
+            "not_after": after,
+            "alternative_names": names or None,
+            "public_key_algorithm": of("key_alg"),
+            "public_key_size": of("key_length"),
+            "public_key_exponent": int(exponent) if exponent and exponent.isdigit() else None,
+            "public_key_curve": of("curve"),
+            "signature_algorithm": of("sig_alg"),
+            "subject": {"distinguished_name": subject},
+            "issuer": {"distinguished_name": issuer},
         },
     }
 
@@ -71,30 +85,68 @@ def event_of(line: Line, certificates: dict[tuple[str, str], Line]) -> Line:
     """Returns the expected event of a connection."""
     begin, duration = micro(line["ts"]), micro(line["duration"])
     protocol, number = version(line.get("version"))
-    client, server = (certificate(certificates.get((line["uid"], side))) for side in ("client", "server"))
+    client, server = (
+        certificate(certificates.get((line["uid"], side))) for side in ("client", "server")
+    )
     ends = {
-        name: {"ip": line[f"id.{side}_h"], "port": line[f"id.{side}_p"], "bytes": line[f"{side}_bytes"], "packets": line[f"{side}_pkts"]}
+        name: {
+            "ip": line[f"id.{side}_h"],
+            "port": line[f"id.{side}_p"],
+            "bytes": line[f"{side}_bytes"],
+            "packets": line[f"{side}_pkts"],
+        }
         for name, side in (("source", "orig"), ("destination", "resp"))
     }
-    return without_none({
-        "@timestamp": stamp(begin), "ecs": {"version": "8.11.0"},
-        "event": {
-            "kind": "event", "category": ["network"], "type": ["connection", "protocol"], "dataset": "tlslog.connection", "id": line["uid"],
-            "outcome": SUCCESS.get(line["outcome"], "unknown"), "start": stamp(begin), "end": stamp(begin + duration), "duration": duration * 1000,
-        },
-        **ends,
-        "network": {
-            "transport": line["proto"], "type": f"ipv{ipaddress.ip_address(line['id.orig_h']).version}", "protocol": "tls" if line["proto"] == "tcp" else "dtls",
-            "community_id": line["community_id"], **{what: ends["source"][what] + ends["destination"][what] for what in ("bytes", "packets")},
-        },
-        "tls": {
-            "version": number, "version_protocol": protocol, "cipher": line.get("cipher"), "curve": line.get("curve"), "established": line["established"],
-            "resumed": line["resumed"], "next_protocol": line.get("next_protocol"),
-            "client": {"server_name": line.get("server_name"), "ja3": line.get("ja3"), "supported_ciphers": line.get("client_ciphers"), **client},
-            "server": {"ja3s": line.get("ja3s"), **server},
-        },
-        "tlslog": {"ja4": line.get("ja4"), "outcome": line["outcome"], "last_alert": line.get("last_alert"), "gap": line.get("gap")},
-    })
+    return without_none(
+        {
+            "@timestamp": stamp(begin),
+            "ecs": {"version": "8.11.0"},
+            "event": {
+                "kind": "event",
+                "category": ["network"],
+                "type": ["connection", "protocol"],
+                "dataset": "tlslog.connection",
+                "id": line["uid"],
+                "outcome": SUCCESS.get(line["outcome"], "unknown"),
+                "start": stamp(begin),
+                "end": stamp(begin + duration),
+                "duration": duration * 1000,
+            },
+            **ends,
+            "network": {
+                "transport": line["proto"],
+                "type": f"ipv{ipaddress.ip_address(line['id.orig_h']).version}",
+                "protocol": "tls" if line["proto"] == "tcp" else "dtls",
+                "community_id": line["community_id"],
+                **{
+                    what: ends["source"][what] + ends["destination"][what]
+                    for what in ("bytes", "packets")
+                },
+            },
+            "tls": {
+                "version": number,
+                "version_protocol": protocol,
+                "cipher": line.get("cipher"),
+                "curve": line.get("curve"),
+                "established": line["established"],
+                "resumed": line["resumed"],
+                "next_protocol": line.get("next_protocol"),
+                "client": {
+                    "server_name": line.get("server_name"),
+                    "ja3": line.get("ja3"),
+                    "supported_ciphers": line.get("client_ciphers"),
+                    **client,
+                },
+                "server": {"ja3s": line.get("ja3s"), **server},
+            },
+            "tlslog": {
+                "ja4": line.get("ja4"),
+                "outcome": line["outcome"],
+                "last_alert": line.get("last_alert"),
+                "gap": line.get("gap"),
+            },
+        }
+    )
 
 
 def names_in(value: Line, front: str = "") -> Iterator[str]:
@@ -109,7 +161,12 @@ def names_in(value: Line, front: str = "") -> Iterator[str]:
 def told_names() -> set[str]:
     """The names in the table of the page, where SIDE is each of both sides."""
     table = PAGE.read_text().split("### Elastic Common Schema")[1].split("\n\n#")[0]
-    names = [name for line in table.splitlines() if line.startswith("| `") for name in re.findall("`([^`]+)`", line.split("|")[1])]
+    names = [
+        name
+        for line in table.splitlines()
+        if line.startswith("| `")
+        for name in re.findall("`([^`]+)`", line.split("|")[1])
+    ]
     return {name.replace("SIDE", side) for name in names for side in ("client", "server")}
 
 
@@ -122,10 +179,21 @@ def check_one(ask: Ask, file: Path, told: set[str]) -> int:
     """Compares each event of a capture with the lines of the connection and of its certificates, in
     that order. Each of its names is on the page."""
     lines = [json.loads(line) for line in ask([file])[1].splitlines()]
-    certificates = own_certificates([json.loads(line) for line in ask(["--certificates", file])[1].splitlines()])
+    certificates = own_certificates(
+        [json.loads(line) for line in ask(["--certificates", file])[1].splitlines()]
+    )
     status, text, error = ask(["--format", "ecs", file])
     events = [json.loads(line, object_pairs_hook=unique) for line in text.splitlines()]
-    want(status == 0 and len(events) == len(lines), "ecs:", status, error, len(events), "events of", len(lines), "connections")
+    want(
+        status == 0 and len(events) == len(lines),
+        "ecs:",
+        status,
+        error,
+        len(events),
+        "events of",
+        len(lines),
+        "connections",
+    )
     for event, line in zip(events, lines):
         wanted = event_of(line, certificates)
         want(event == wanted, "ecs:", event, "wanted is", wanted)

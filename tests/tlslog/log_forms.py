@@ -57,7 +57,10 @@ def want(is_so: object, *words: object) -> None:
 def with_suites(lines: list[Line], text: Callable[[str], str]) -> list[Line]:
     """The lines with another text for each suite."""
     fields = {"cipher": text, "client_ciphers": lambda suites: list(map(text, suites))}
-    return [{field: fields.get(field, lambda v: v)(value) for field, value in line.items()} for line in lines]
+    return [
+        {field: fields.get(field, lambda v: v)(value) for field, value in line.items()}
+        for line in lines
+    ]
 
 
 def with_numbers(message: Line) -> Line:
@@ -97,18 +100,37 @@ def fields(ask: Ask, files: list[Path], lines: list[Line]) -> int:
     names, *rows = records(text)
     want(status == 0 and len(rows) == len(lines), "csv:", status, len(rows))
     for line, row in zip(lines, rows):
-        want(row == [as_text(line[name]) if name in line else "" for name in names], "csv:", line, row)
-    want({name for line in lines for name in line} <= {*names}, "csv has no column for a field of a line")
+        want(
+            row == [as_text(line[name]) if name in line else "" for name in names],
+            "csv:",
+            line,
+            row,
+        )
+    want(
+        {name for line in lines for name in line} <= {*names},
+        "csv has no column for a field of a line",
+    )
     page = (TOP / "docs" / "TLSLOG.md").read_text()
     lacking = [name for name in names if f"`{name}`" not in page]
     want(not lacking, "docs/TLSLOG.md doesn't have", lacking)
     for name in names:
         status, text, _ = ask(["--fields", name, *files])
         wanted = [{name: line[name]} if name in line else {} for line in lines]
-        want(status == 0 and [json.loads(row) for row in text.splitlines()] == wanted, "the field", name, status, text[-300:])
+        want(
+            status == 0 and [json.loads(row) for row in text.splitlines()] == wanted,
+            "the field",
+            name,
+            status,
+            text[-300:],
+        )
     status, text, _ = ask(["--fields", ",".join(reversed(names)), *files])
     for line, row in zip(lines, text.splitlines()):
-        want(list(json.loads(row).items()) == [(name, line[name]) for name in reversed(names) if name in line], "another order:", row)
+        want(
+            list(json.loads(row).items())
+            == [(name, line[name]) for name in reversed(names) if name in line],
+            "another order:",
+            row,
+        )
     return len(names)
 
 
@@ -119,21 +141,42 @@ def suites(ask: Ask, files: list[Path], lines: list[Line], room: Path) -> None:
     good.write_text(SUITES)
     bad.write_text("TLS_AES_128_GCM_SHA256\n")
     for words, other in (
-        (["--ciphers", good], own_name), (["--numbers"], suite_names.numbered),
+        (["--ciphers", good], own_name),
+        (["--numbers"], suite_names.numbered),
         (["--ciphers", good, "--numbers"], lambda suite: own_name(suite_names.numbered(suite))),
     ):
         status, text, _ = ask([*words, *files])
-        want(status == 0 and [json.loads(row) for row in text.splitlines()] == with_suites(lines, other), *words, status, text[-300:])
+        want(
+            status == 0
+            and [json.loads(row) for row in text.splitlines()] == with_suites(lines, other),
+            *words,
+            status,
+            text[-300:],
+        )
     _, named, _ = ask(["--messages", *files])
     numbered = [with_numbers(json.loads(row)) for row in named.splitlines()]
     for words, wanted_messages in (
-        (["--numbers"], numbered), (["--numbers", "--ciphers", good], numbered), (["--ciphers", good], list(map(json.loads, named.splitlines()))),
+        (["--numbers"], numbered),
+        (["--numbers", "--ciphers", good], numbered),
+        (["--ciphers", good], list(map(json.loads, named.splitlines()))),
     ):
         status, text, _ = ask(["--messages", *words, *files])
-        want(status == 0 and [json.loads(row) for row in text.splitlines()] == wanted_messages, "--messages", *words, status, text[-300:])
+        want(
+            status == 0 and [json.loads(row) for row in text.splitlines()] == wanted_messages,
+            "--messages",
+            *words,
+            status,
+            text[-300:],
+        )
     for words, wanted in [
-        (["--ciphers", bad], 2), (["--ciphers", room / "none"], 3), (["--fields", "no_such_field"], 2), (["--fields", "ts,ts"], 2),
-        (["--fields", ""], 2), (["--messages", "--fields", "version"], 2), (["--format", "xml"], 2), (["--format"], 2),
+        (["--ciphers", bad], 2),
+        (["--ciphers", room / "none"], 3),
+        (["--fields", "no_such_field"], 2),
+        (["--fields", "ts,ts"], 2),
+        (["--fields", ""], 2),
+        (["--messages", "--fields", "version"], 2),
+        (["--format", "xml"], 2),
+        (["--format"], 2),
     ]:
         status, text, told = ask([*words, *files])
         want((status, text) == (wanted, "") and told, *words, "status", status, text, told)
@@ -145,14 +188,25 @@ def formulas(ask: Ask, file: Path, room: Path) -> int:
     files = []
     for number, name in enumerate(NAMES):
         files.append(room / f"formula-{number}.pcap")
-        files[-1].write_bytes(other_formats.with_hello(file, other_formats.hello(name, [b"=h2", name])))
+        files[-1].write_bytes(
+            other_formats.with_hello(file, other_formats.hello(name, [b"=h2", name]))
+        )
     status, text, _ = ask(files)
     lines = [json.loads(row) for row in text.splitlines()]
-    want(status == 0 and [line["server_name"] for line in lines] == [name.decode() for name in NAMES], "names as formulas:", status, text[-300:])
+    want(
+        status == 0
+        and [line["server_name"] for line in lines] == [name.decode() for name in NAMES],
+        "names as formulas:",
+        status,
+        text[-300:],
+    )
     for is_raw in (False, True):
         status, text, _ = ask(["--format", "csv", *["--csv-raw"][: int(is_raw)], *files])
         names, *rows = records(text)
-        wanted = [[as_text(line[name], is_raw) if name in line else "" for name in names] for line in lines]
+        wanted = [
+            [as_text(line[name], is_raw) if name in line else "" for name in names]
+            for line in lines
+        ]
         want(status == 0 and rows == wanted, "formulas as csv:", is_raw, text[-300:])
     marked = [name for name in NAMES if as_text(name.decode()) != name.decode()]
     want(len(marked) == 5, "names with a mark:", marked)
@@ -177,24 +231,52 @@ def messages(ask: Ask, files: list[Path]) -> tuple[int, int]:
         fields_found.update(exchange_fields.lines(Path(file).stem, said))
         rows += said
         for message in said:
-            want(list(message) == [field for field in OF_MESSAGES if field in message], "fields of a message:", *message)
+            want(
+                list(message) == [field for field in OF_MESSAGES if field in message],
+                "fields of a message:",
+                *message,
+            )
             want(message["place"] == places[file, *key(message)], "the place of", message)
             places[file, *key(message)] += 1
             told, kind = message.get("message"), message["content_type"]
-            front = f"{Path(file).stem} {message['id.orig_p']} {message['side']} {message['ts']:.6f}"
+            front = (
+                f"{Path(file).stem} {message['id.orig_p']} {message['side']} {message['ts']:.6f}"
+            )
             if kind == HANDSHAKE:
                 found[f"{front} {told['msg_type']} {told['length']}"] += 1
             elif kind == ALERT:
                 found[f"{front} alert {told['level']} {told['description']}"] += 1
             else:
                 want(kind in (CHANGE, HEARTBEAT), "a message of the type", kind)
-    want(found == wanted, "messages that tshark hasn't:", found - wanted, "messages that it has:", wanted - found)
-    want(fields_found == fields_wanted, "fields that tshark hasn't:", fields_found - fields_wanted, "that it has:", fields_wanted - fields_found)
+    want(
+        found == wanted,
+        "messages that tshark hasn't:",
+        found - wanted,
+        "messages that it has:",
+        wanted - found,
+    )
+    want(
+        fields_found == fields_wanted,
+        "fields that tshark hasn't:",
+        fields_found - fields_wanted,
+        "that it has:",
+        fields_wanted - fields_found,
+    )
     status, text, _ = ask(["--messages", "--format", "csv", *files])
     names, *others = records(text)
-    want(status == 0 and names == OF_MESSAGES and len(others) == len(rows), "messages as csv:", status, names)
+    want(
+        status == 0 and names == OF_MESSAGES and len(others) == len(rows),
+        "messages as csv:",
+        status,
+        names,
+    )
     for message, row in zip(rows, others):
-        want(row == [as_text(message[name]) if name in message else "" for name in names], "csv:", message, row)
+        want(
+            row == [as_text(message[name]) if name in message else "" for name in names],
+            "csv:",
+            message,
+            row,
+        )
     return len(rows), fields_found.total()
 
 
@@ -206,14 +288,27 @@ def identified(ask: Ask, files: list[Path], lines: list[Line]) -> int:
     """Each stored line has the identifiers that hashlib makes, and those of messages and
     certificates have the uid of their connection."""
     for line in lines:
-        want(list(line.items()) == list(identifiers.of_connection(line).items()), "identifiers:", line, "wanted are", identifiers.of_connection(line))
+        want(
+            list(line.items()) == list(identifiers.of_connection(line).items()),
+            "identifiers:",
+            line,
+            "wanted are",
+            identifiers.of_connection(line),
+        )
     uids = Counter((*ends(line), line["uid"]) for line in lines)
     want(len({uid for *_, uid in uids}) == len(lines), "two connections have the same uid")
     count = 0
     for kind in ("--messages", "--certificates"):
-        status, text, _ = ask([kind, "--fields", "uid,id.orig_h,id.orig_p,id.resp_h,id.resp_p", *files])
+        status, text, _ = ask(
+            [kind, "--fields", "uid,id.orig_h,id.orig_p,id.resp_h,id.resp_p", *files]
+        )
         found = [json.loads(row) for row in text.splitlines()]
-        want(status == 0 and found and all((*ends(line), line["uid"]) in uids for line in found), kind, "uid", status)
+        want(
+            status == 0 and found and all((*ends(line), line["uid"]) in uids for line in found),
+            kind,
+            "uid",
+            status,
+        )
         count += len(found)
     return count
 
@@ -225,33 +320,62 @@ def counted(values: Iterable[Any]) -> list[str]:
 def wanted_of_uses(lines: list[Line]) -> dict[str, list[str] | None]:
     """What each use prints, in any order, from the lines."""
     plain = lambda line: json.dumps(line, separators=(",", ":"))  # noqa: E731
-    only = lambda line, *names: plain({name: line[name] for name in names if name in line})  # noqa: E731
-    chains = {(line["id.resp_h"], str(line["id.resp_p"]), line["cert_chain_fps"][0]) for line in lines if "cert_chain_fps" in line}
+    only = lambda line, *names: plain(
+        {name: line[name] for name in names if name in line}
+    )  # noqa: E731
+    chains = {
+        (line["id.resp_h"], str(line["id.resp_p"]), line["cert_chain_fps"][0])
+        for line in lines
+        if "cert_chain_fps" in line
+    }
     servers = Counter(chain[:2] for chain in chains)
     said = [line.split() for line in (TOP / "captures" / "messages").read_text().splitlines()]
     return {
-        "still speaks": counted(line["id.orig_h"] for line in lines if line.get("version") in ("TLSv10", "TLSv11")),
+        "still speaks": counted(
+            line["id.orig_h"] for line in lines if line.get("version") in ("TLSv10", "TLSv11")
+        ),
         "hosts": counted(line["server_name"] for line in lines if "server_name" in line),
-        "have expired": sorted({
-            f"{line['not_after']}\t{line['id.resp_h']}\t{line['serial']}"
-            for line in lines if "not_after" in line and datetime.fromisoformat(line["not_after"].replace("Z", "+00:00")).timestamp() < line["ts"] + 60 * 86400
-        }),
-        "changed their certificate": sorted("\t".join(server) for server, count in servers.items() if count > 1),
+        "have expired": sorted(
+            {
+                f"{line['not_after']}\t{line['id.resp_h']}\t{line['serial']}"
+                for line in lines
+                if "not_after" in line
+                and datetime.fromisoformat(line["not_after"].replace("Z", "+00:00")).timestamp()
+                < line["ts"] + 60 * 86400
+            }
+        ),
+        "changed their certificate": sorted(
+            "\t".join(server) for server, count in servers.items() if count > 1
+        ),
         "broken off": sorted(
-            plain([line.get("server_name"), line.get("last_alert"), line.get("stop", {}).get("sender")])
-            for line in lines if line["outcome"] == "broken_off"
+            plain(
+                [
+                    line.get("server_name"),
+                    line.get("last_alert"),
+                    line.get("stop", {}).get("sender"),
+                ]
+            )
+            for line in lines
+            if line["outcome"] == "broken_off"
         ),
         "cipher suites": counted(line["cipher"] for line in lines if "cipher" in line),
         "client programs": counted(only(line, "ja4", "ja3") for line in lines),
         "resumed": counted(only(line, "version", "resumed") for line in lines),
-        "would still accept": sorted({
-            line["id.orig_h"] for line in lines if "TLSv10" in line.get("client_supported_versions", [line.get("client_version")])
-        }),
+        "would still accept": sorted(
+            {
+                line["id.orig_h"]
+                for line in lines
+                if "TLSv10" in line.get("client_supported_versions", [line.get("client_version")])
+            }
+        ),
         "asked for a certificate": sorted(
             plain([line["id.orig_h"], line["id.resp_h"], line.get("client_cert_count")])
-            for line in lines if "client_cert_requested" in line
+            for line in lines
+            if "client_cert_requested" in line
         ),
-        "in a retry": counted(line["server_key_share_group"] for line in lines if "retried" in line),
+        "in a retry": counted(
+            line["server_key_share_group"] for line in lines if "retried" in line
+        ),
         "which messages": sorted(f"{row[2]}\t{row[4]}" for row in said if row[1] == "54368"),
         "spreadsheet": None,
     }
@@ -259,8 +383,15 @@ def wanted_of_uses(lines: list[Line]) -> dict[str, list[str] | None]:
 
 # The names of handshake messages and their numbers, as far as the uses show them.
 NUMBERS = {
-    "client_hello": 1, "server_hello": 2, "new_session_ticket": 4, "certificate": 11, "server_key_exchange": 12, "certificate_request": 13,
-    "server_hello_done": 14, "certificate_verify": 15, "client_key_exchange": 16,
+    "client_hello": 1,
+    "server_hello": 2,
+    "new_session_ticket": 4,
+    "certificate": 11,
+    "server_key_exchange": 12,
+    "certificate_request": 13,
+    "server_hello_done": 14,
+    "certificate_verify": 15,
+    "client_key_exchange": 16,
 }
 
 
@@ -277,19 +408,31 @@ def uses(program: Path, files: list[Path], lines: list[Line], room: Path) -> int
     if not shutil.which("jq"):
         print("tlslog: there is no jq: the commands of docs/REPORT.md weren't run")
         return 0
-    rows = re.findall(r"^\| (.*?) \| `(\./tlslog .*)` \|$", (TOP / "docs" / "REPORT.md").read_text(), re.M)
+    rows = re.findall(
+        r"^\| (.*?) \| `(\./tlslog .*)` \|$", (TOP / "docs" / "REPORT.md").read_text(), re.M
+    )
     wanted = wanted_of_uses(lines)
     want(len(rows) == len(wanted), len(rows), "commands in docs/REPORT.md")
     for what, command in rows:
         shell = command.replace("\\|", "|").replace("./tlslog", shlex.quote(str(program)))
         shell = shell.replace("capture.pcap", " ".join(shlex.quote(str(file)) for file in files))
-        ran = subprocess.run(["bash", "-c", "set -o pipefail\n" + shell], stdout=subprocess.PIPE, stderr=subprocess.PIPE, text=True)
+        ran = subprocess.run(
+            ["bash", "-c", "set -o pipefail\n" + shell],
+            stdout=subprocess.PIPE,
+            stderr=subprocess.PIPE,
+            text=True,
+        )
         [(short, rows_wanted)] = [(short, rows) for short, rows in wanted.items() if short in what]
         want(ran.returncode == 0, what, ran.returncode, ran.stderr[-300:])
         if rows_wanted is None:
             want(len(records(ran.stdout)) == len(lines) + 1, what, ran.stdout[-300:])
         else:
-            want(rows_wanted and printed(short, ran.stdout) == rows_wanted, what, ran.stdout[-500:], rows_wanted)
+            want(
+                rows_wanted and printed(short, ran.stdout) == rows_wanted,
+                what,
+                ran.stdout[-500:],
+                rows_wanted,
+            )
     return len(rows)
 
 
@@ -301,7 +444,13 @@ def many_captures(program: Path, ask: Ask, files: list[Path], room: Path) -> int
     for file in files:
         shutil.copy(file, folder / f"a {file.name}")
     shell = command.replace("./tlslog", shlex.quote(str(program)))
-    ran = subprocess.run(["bash", "-c", "set -o pipefail\n" + shell], cwd=folder, stderr=subprocess.PIPE, text=True, check=False)
+    ran = subprocess.run(
+        ["bash", "-c", "set -o pipefail\n" + shell],
+        cwd=folder,
+        stderr=subprocess.PIPE,
+        text=True,
+        check=False,
+    )
     want(ran.returncode == 0, command, ran.returncode, ran.stderr[-300:])
     for file in files:
         text = (folder / f"a {file.name}.json").read_text()
@@ -338,13 +487,19 @@ def with_compression(s: packets.Segment, number: int) -> packets.Segment:
     return replace(s, payload=s.payload[:at] + bytes([number]) + s.payload[at + 1 :])
 
 
-def others(ask: Ask, file: Path, room: Path, change: Callable[[packets.Segment, int], packets.Segment]) -> list[Line]:
+def others(
+    ask: Ask, file: Path, room: Path, change: Callable[[packets.Segment, int], packets.Segment]
+) -> list[Line]:
     """The lines of a capture of one connection that is changed by each of so many numbers, twice in
     one run."""
     made = []
     for number in range(MANY):
         made.append(room / f"{number}.pcap")
-        made[-1].write_bytes(packets.pcap([(s.time, change(s, number).frame()) for s in packets.read(file.read_bytes())]))
+        made[-1].write_bytes(
+            packets.pcap(
+                [(s.time, change(s, number).frame()) for s in packets.read(file.read_bytes())]
+            )
+        )
     status, text, _ = ask([*made, *made])
     rows = [json.loads(row) for row in text.splitlines()]
     want(status == 0 and len(rows) == 2 * MANY, "changed", file, status, len(rows))
@@ -357,24 +512,56 @@ def told_again(ask: Ask, files: list[Path], lines: list[Line], room: Path) -> in
     fields of certificates one by one, and more suites, compression methods and certificates than
     are cached."""
     status, text, _ = ask([*files, *files])
-    want(status == 0 and [json.loads(row) for row in text.splitlines()] == [*lines, *lines], "twice in one run:", status, text[-300:])
+    want(
+        status == 0 and [json.loads(row) for row in text.splitlines()] == [*lines, *lines],
+        "twice in one run:",
+        status,
+        text[-300:],
+    )
     for names in (
-        "subject ts issuer serial client_issuer", "client_subject subject client_issuer", "client_ciphers sigalgs", "ts ssl_client_exts",
-        "client_comp_methods point_formats psk_key_exchange_modes", "client_curves client_key_share_groups id.orig_h client_comp_methods",
+        "subject ts issuer serial client_issuer",
+        "client_subject subject client_issuer",
+        "client_ciphers sigalgs",
+        "ts ssl_client_exts",
+        "client_comp_methods point_formats psk_key_exchange_modes",
+        "client_curves client_key_share_groups id.orig_h client_comp_methods",
     ):
         status, text, _ = ask(["--fields", names.replace(" ", ","), *files])
         wanted = [[(name, line[name]) for name in names.split() if name in line] for line in lines]
-        want(status == 0 and [list(json.loads(row).items()) for row in text.splitlines()] == wanted, names, status, text[-300:])
-    [(file, line)] = [(file, line) for file in files if file.stem == "openssl_rsa" for line in lines_of(ask, file)[:1]]
+        want(
+            status == 0 and [list(json.loads(row).items()) for row in text.splitlines()] == wanted,
+            names,
+            status,
+            text[-300:],
+        )
+    [(file, line)] = [
+        (file, line)
+        for file in files
+        if file.stem == "openssl_rsa"
+        for line in lines_of(ask, file)[:1]
+    ]
     for number, row in enumerate(others(ask, file, room, with_suite)):
-        want(row["client_ciphers"] == [suite_names.suite_name(number), *line["client_ciphers"][1:]], "suites:", row)
+        want(
+            row["client_ciphers"] == [suite_names.suite_name(number), *line["client_ciphers"][1:]],
+            "suites:",
+            row,
+        )
         want(without(OF_SUITES, row) == without(OF_SUITES, line), "another suite:", row)
     for number, row in enumerate(others(ask, file, room, with_compression)):
         want(row["client_comp_methods"] == [number], "compression methods:", number, row)
-        want(without(["client_comp_methods"], row) == without(["client_comp_methods"], line), "another compression method:", row)
+        want(
+            without(["client_comp_methods"], row) == without(["client_comp_methods"], line),
+            "another compression method:",
+            row,
+        )
     serial = bytes.fromhex(line["serial"])
     digits = lambda number: serial[:-2] + number.to_bytes(2, "big")  # noqa: E731
-    rows = others(ask, file, room, lambda s, number: replace(s, payload=s.payload.replace(serial, digits(number))))
+    rows = others(
+        ask,
+        file,
+        room,
+        lambda s, number: replace(s, payload=s.payload.replace(serial, digits(number))),
+    )
     for number, row in enumerate(rows):
         want(row["serial"].lower() == digits(number).hex(), "serial number:", number, row)
         want(without(OF_SERIAL, row) == without(OF_SERIAL, line), "another serial number:", row)
@@ -393,13 +580,27 @@ def check(program: Path, ask: Ask, files: list[Path], lines: list[Line], room: P
     """All of them. `ask` runs the program on arguments: its status, output and error output."""
     count = fields(ask, files, lines)
     suites(ask, files, lines, room)
-    print(f"tlslog: {count} fields alone, in another order and as comma-separated values, and names of suites, are as they are stored")
+    print(
+        f"tlslog: {count} fields alone, in another order and as comma-separated values, and names of suites, are as they are stored"
+    )
     [plain] = [file for file in files if file.stem == "openssl_rsa"]
-    print(f"tlslog: of {formulas(ask, plain, room)} names those that begin as formulas do are marked as comma-separated values, unless --csv-raw is given")
-    print(f"tlslog: {told_again(ask, files, lines, room)} hellos and certificates that differ in a number, and all captures, have the same lines when they are repeated")
-    print(f"tlslog: {len(lines)} lines have the identifiers that hashlib makes, and {identified(ask, files, lines)} of messages and certificates their connection's")
+    print(
+        f"tlslog: of {formulas(ask, plain, room)} names those that begin as formulas do are marked as comma-separated values, unless --csv-raw is given"
+    )
+    print(
+        f"tlslog: {told_again(ask, files, lines, room)} hellos and certificates that differ in a number, and all captures, have the same lines when they are repeated"
+    )
+    print(
+        f"tlslog: {len(lines)} lines have the identifiers that hashlib makes, and {identified(ask, files, lines)} of messages and certificates their connection's"
+    )
     count, with_fields = messages(ask, files)
-    print(f"tlslog: {count} messages are those that tshark has, with their places, also as comma-separated values; {with_fields} of them have the "
-          "fields of key exchanges, signatures and keys known before that tshark has")
-    print(f"tlslog: {uses(program, files, lines, room)} commands of docs/REPORT.md print what the stored lines want")
-    print(f"tlslog: the command of docs/SCALE.md on {many_captures(program, ask, files, room)} captures prints the lines of each")
+    print(
+        f"tlslog: {count} messages are those that tshark has, with their places, also as comma-separated values; {with_fields} of them have the "
+        "fields of key exchanges, signatures and keys known before that tshark has"
+    )
+    print(
+        f"tlslog: {uses(program, files, lines, room)} commands of docs/REPORT.md print what the stored lines want"
+    )
+    print(
+        f"tlslog: the command of docs/SCALE.md on {many_captures(program, ask, files, room)} captures prints the lines of each"
+    )

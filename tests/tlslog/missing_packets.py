@@ -46,7 +46,9 @@ class Sender:
 
     def __init__(self, segments: list[packets.Segment]) -> None:
         self.begin = first(segments[0])
-        self.segments = [(s, ahead(first(s), self.begin)) for s in segments if not s.flags & packets.RST]
+        self.segments = [
+            (s, ahead(first(s), self.begin)) for s in segments if not s.flags & packets.RST
+        ]
 
     def read_to(self) -> int:
         """How many bytes there are up to the first that is missing."""
@@ -100,7 +102,9 @@ class Whole:
                 return f"{fault}, in {sorted(in_text_both(ends))}"
         return None
 
-    def wrong_of(self, ends: frozenset[packets.End], segments: list[packets.Segment], line: Line | None) -> str | None:
+    def wrong_of(
+        self, ends: frozenset[packets.End], segments: list[packets.Segment], line: Line | None
+    ) -> str | None:
         begun = segments[0]
         if line and line["ts"] != round(begun.time / 1_000_000, 6):
             return f"the line begins at {line['ts']}, and not at {begun.time}"
@@ -113,7 +117,9 @@ class Whole:
             whole, end = self.senders[ends][source], sender.read_to()
             if sender.begin == whole.begin:
                 is_told |= in_text_both(ends) in self.lines and end >= HEADER
-                if end < clear(whole.bytes()) and sender.has_more(end, lambda s: not s.says_nothing()):
+                if end < clear(whole.bytes()) and sender.has_more(
+                    end, lambda s: not s.says_nothing()
+                ):
                     is_missing.add(source)
             # A packet behind its sender's FIN is one number further than the last byte. If the FIN
             # is missing, it counts as a missing byte.
@@ -123,7 +129,11 @@ class Whole:
             return "no line" if is_told and not acknowledges_missing(segments) else None
         named = {"both": {"orig", "resp"}, None: set()}.get(line.get("gap"), {line.get("gap")})
         of = {(line[f"id.{side}_h"], line[f"id.{side}_p"]): side for side in ("orig", "resp")}
-        waits = {side for side in ("orig", "resp") if {"ack", "window"} & {*line.get(f"{side}_dropped_for", [])}}
+        waits = {
+            side
+            for side in ("orig", "resp")
+            if {"ack", "window"} & {*line.get(f"{side}_dropped_for", [])}
+        }
         lacking = {of[in_text(source)] for source in is_missing} - named - waits
         if lacking and not acknowledges_missing(segments):
             return f"no gap of {lacking}: {line}"
@@ -140,17 +150,25 @@ def acknowledges_missing(segments: list[packets.Segment]) -> bool:
         other = behind.get(s.destination, s.acknowledgment)
         if s.payload and 0 < (s.acknowledgment - other) % 2**32 < 2**31:
             return True
-        end = s.sequence + len(s.payload) + bool(s.flags & packets.SYN) + bool(s.flags & packets.FIN)
+        end = (
+            s.sequence + len(s.payload) + bool(s.flags & packets.SYN) + bool(s.flags & packets.FIN)
+        )
         if (end - behind.get(s.source, end - 1)) % 2**32 < 2**31:
             behind[s.source] = end % 2**32
     return False
 
 
-def connections(segments: list[packets.Segment]) -> dict[frozenset[packets.End], list[packets.Segment]]:
+def connections(
+    segments: list[packets.Segment],
+) -> dict[frozenset[packets.End], list[packets.Segment]]:
     """The segments of each connection, from the one on that begins it."""
     found = defaultdict(list)
     for s in segments:
-        if found[s.ends] or s.is_udp or (not s.flags & packets.RST and (s.payload or s.flags & packets.SYN)):
+        if (
+            found[s.ends]
+            or s.is_udp
+            or (not s.flags & packets.RST and (s.payload or s.flags & packets.SYN))
+        ):
             found[s.ends].append(s)
     return {ends: there for ends, there in found.items() if there}
 
@@ -164,7 +182,9 @@ def senders(segments: list[packets.Segment]) -> dict[packets.End, Sender]:
     return {source: Sender(there) for source, there in found.items()}
 
 
-def choices(chance: random.Random, segments: list[packets.Segment], orders: int) -> Iterator[set[int]]:
+def choices(
+    chance: random.Random, segments: list[packets.Segment], orders: int
+) -> Iterator[set[int]]:
     """Sets of the indices of packets to drop: each alone, and so many times a few and about half of
     all."""
     yield from ({index} for index in range(len(segments)))
@@ -174,7 +194,9 @@ def choices(chance: random.Random, segments: list[packets.Segment], orders: int)
         yield {index for index in range(len(segments)) if chance.randrange(2)}
 
 
-def acknowledgements(chance: random.Random, segments: list[packets.Segment], orders: int) -> Iterator[set[int]]:
+def acknowledgements(
+    chance: random.Random, segments: list[packets.Segment], orders: int
+) -> Iterator[set[int]]:
     """The same of packets that only acknowledge: all, and some of them. Those behind their sender's
     FIN stay."""
     ended, indices = set(), []

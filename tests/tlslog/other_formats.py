@@ -35,27 +35,62 @@ OF_ZEEK = {
 # zeek-cut of two fields, as a program of awk.
 CUT = r"""BEGIN { FS = OFS = "\t" } /^#fields/ { for (i = 2; i <= NF; i++) at[$i] = i - 1 } !/^#/ { print $at["uid"], $at["id.resp_p"] }"""
 VERSION_NUMBERS = {
-    "SSLv3": 0x0300, "TLSv10": 0x0301, "TLSv11": 0x0302, "TLSv12": 0x0303, "TLSv13": 0x0304, "DTLSv10": 0xFEFF, "DTLSv12": 0xFEFD, "DTLSv13": 0xFEFC,
+    "SSLv3": 0x0300,
+    "TLSv10": 0x0301,
+    "TLSv11": 0x0302,
+    "TLSv12": 0x0303,
+    "TLSv13": 0x0304,
+    "DTLSv10": 0xFEFF,
+    "DTLSv12": 0xFEFD,
+    "DTLSv13": 0xFEFC,
 }
 # What Zeek has as a name, and JSON as a number (RFC 3749, 2, and RFC 3943, 3; RFC 8422, 5.1.2; RFC
 # 8446, 4.2.9).
 METHODS = {0: "NULL", 1: "DEFLATE", 64: "LZS"}
 NAMED = {
-    "comp_method": METHODS, "client_comp_methods": METHODS,
-    "point_formats": {0: "uncompressed", 1: "ansiX962_compressed_prime", 2: "ansiX962_compressed_char2"},
+    "comp_method": METHODS,
+    "client_comp_methods": METHODS,
+    "point_formats": {
+        0: "uncompressed",
+        1: "ansiX962_compressed_prime",
+        2: "ansiX962_compressed_char2",
+    },
     "psk_key_exchange_modes": {0: "psk_ke", 1: "psk_dhe_ke"},
 }
 OF_VERSION = ("client_version", "server_version")
 ADDRESSES = ("san_ip", "san.ip")
 VERSIONS = {
-    "SSLv3": "SSLv3", "TLSv10": "TLSv1", "TLSv11": "TLS 1.1", "TLSv12": "TLS 1.2", "TLSv13": "TLS 1.3",
-    "DTLSv10": "DTLS 1.0", "DTLSv12": "DTLS 1.2", "DTLSv13": "DTLS 1.3",
+    "SSLv3": "SSLv3",
+    "TLSv10": "TLSv1",
+    "TLSv11": "TLS 1.1",
+    "TLSv12": "TLS 1.2",
+    "TLSv13": "TLS 1.3",
+    "DTLSv10": "DTLS 1.0",
+    "DTLSv12": "DTLS 1.2",
+    "DTLSv13": "DTLS 1.3",
 }
 
 
 # Names that could be taken for something else, cut a line or a column, or are orders for a
 # terminal.
-NAMES = [b"\x1b[31m\x1b]0;title\x07", "\u202e\u0430pple.example".encode(), b"\x9b2J", b"-", b"(empty)", b"#close", b"#fields\ta", b"a,b", b"\t\n\r\0\x7f\xff", b"\\x2d", b"\\", b"\"'", b"--", b"(empty),", b" ", b","]
+NAMES = [
+    b"\x1b[31m\x1b]0;title\x07",
+    "\u202e\u0430pple.example".encode(),
+    b"\x9b2J",
+    b"-",
+    b"(empty)",
+    b"#close",
+    b"#fields\ta",
+    b"a,b",
+    b"\t\n\r\0\x7f\xff",
+    b"\\x2d",
+    b"\\",
+    b"\"'",
+    b"--",
+    b"(empty),",
+    b" ",
+    b",",
+]
 
 
 def want(is_so: object, *words: object) -> None:
@@ -110,7 +145,13 @@ def zeek(ask: Ask, files: list[Path]) -> int:
     for words, path in PATHS.items():
         lines = [json.loads(line) for line in rows(ask, *words, *files).splitlines()]
         log = zeek_log.Log(rows(ask, *words, "--format", "zeek", *files))
-        want(log.path == path and len(log.rows) == len(lines) and lines, "the log", log.path, len(log.rows), len(lines))
+        want(
+            log.path == path and len(log.rows) == len(lines) and lines,
+            "the log",
+            log.path,
+            len(log.rows),
+            len(lines),
+        )
         for row, line in zip(log.rows, lines):
             want(row == row_of(line), "zeek:", row, line)
             kinds = dict(zip(log.fields, log.types))
@@ -121,11 +162,23 @@ def zeek(ask: Ask, files: list[Path]) -> int:
         want(",".join(log.fields) == header, "fields of", path, log.fields)
         lacking = [field for field in OF_ZEEK.get(path, ()) if field not in log.fields]
         want(not lacking, "Zeek's fields that", path, "lacks:", lacking)
-    chosen = zeek_log.Log(rows(ask, "--format", "zeek", "--fields", "id.resp_p,server_name,uid", *files))
+    chosen = zeek_log.Log(
+        rows(ask, "--format", "zeek", "--fields", "id.resp_p,server_name,uid", *files)
+    )
     want(chosen.fields == ["id.resp_p", "server_name", "uid"], "chosen fields", chosen.fields)
     lines = [json.loads(line) for line in rows(ask, *files).splitlines()]
-    cut = subprocess.run(["awk", CUT], input=rows(ask, "--format", "zeek", *files), stdout=subprocess.PIPE, text=True, check=True).stdout
-    want(cut.splitlines() == [f"{line['uid']}\t{line['id.resp_p']}" for line in lines], "awk:", cut[:300])
+    cut = subprocess.run(
+        ["awk", CUT],
+        input=rows(ask, "--format", "zeek", *files),
+        stdout=subprocess.PIPE,
+        text=True,
+        check=True,
+    ).stdout
+    want(
+        cut.splitlines() == [f"{line['uid']}\t{line['id.resp_p']}" for line in lines],
+        "awk:",
+        cut[:300],
+    )
     return count
 
 
@@ -136,7 +189,10 @@ def counted(size: int, content: bytes) -> bytes:
 def hello(name: bytes, protocols: list[bytes]) -> bytes:
     """A record with a ClientHello that asks for this name and these protocols (RFC 8446, 4.1.2; RFC
     6066, 3; RFC 7301, 3.1)."""
-    extensions = [(0, counted(2, b"\0" + counted(2, name))), (16, counted(2, b"".join(counted(1, one) for one in protocols)))]
+    extensions = [
+        (0, counted(2, b"\0" + counted(2, name))),
+        (16, counted(2, b"".join(counted(1, one) for one in protocols))),
+    ]
     block = b"".join(kind.to_bytes(2, "big") + counted(2, content) for kind, content in extensions)
     body = b"\3\3" + bytes(32) + b"\0" + counted(2, b"\xc0\x2f") + b"\1\0" + counted(2, block)
     return b"\x16\3\1" + counted(2, b"\1" + counted(3, body))
@@ -163,15 +219,26 @@ def hostile_captures(capture: Path, room: Path) -> list[Path]:
 def hostile(ask: Ask, capture: Path, room: Path) -> int:
     """Each name, also in a list, and in front of its line, is read as the text that JSON has."""
     files = hostile_captures(capture, room)
-    for words in ([], ["--fields", "server_name,orig_alpn"], ["--fields", "server_name"], ["--messages"]):
+    for words in (
+        [],
+        ["--fields", "server_name,orig_alpn"],
+        ["--fields", "server_name"],
+        ["--messages"],
+    ):
         lines = [json.loads(line) for line in rows(ask, *words, *files).splitlines()]
         log = zeek_log.Log(rows(ask, *words, "--format", "zeek", *files))
         want(len(lines) == len(NAMES), len(lines), "lines of hostile names")
         want(log.rows == list(map(row_of, lines)), "hostile names:", log.rows)
     events = [json.loads(line) for line in rows(ask, "--format", "suricata", *files).splitlines()]
     lines = [json.loads(line) for line in rows(ask, *files).splitlines()]
-    want([event["tls"]["sni"] for event in events] == [line["server_name"] for line in lines], "hostile names of Suricata's")
-    want(text_format.check(ask, files) == ecs_format.check(ask, files) == len(NAMES), "hostile names as text and by ECS")
+    want(
+        [event["tls"]["sni"] for event in events] == [line["server_name"] for line in lines],
+        "hostile names of Suricata's",
+    )
+    want(
+        text_format.check(ask, files) == ecs_format.check(ask, files) == len(NAMES),
+        "hostile names as text and by ECS",
+    )
     return len(NAMES)
 
 
@@ -183,7 +250,9 @@ def sent_certificates(messages: Iterable[Line]) -> dict[str, bytes]:
     """The bytes of each certificate of a message, by its SHA-256."""
     found = {}
     for message in messages:
-        if message.get("name") == "certificate" and isinstance(message["message"].get("body"), dict):
+        if message.get("name") == "certificate" and isinstance(
+            message["message"].get("body"), dict
+        ):
             for digits in message["message"]["body"]["certificate_list"]:
                 one = bytes.fromhex(digits)
                 found[hashlib.sha256(one).hexdigest()] = one
@@ -195,7 +264,11 @@ def date(text: str | None) -> str | None:
 
 
 def day(seconds: int | None) -> str | None:
-    return f"{datetime.fromtimestamp(seconds, timezone.utc):%Y-%m-%dT%H:%M:%S}" if seconds is not None else None
+    return (
+        f"{datetime.fromtimestamp(seconds, timezone.utc):%Y-%m-%dT%H:%M:%S}"
+        if seconds is not None
+        else None
+    )
 
 
 def forward(name: str | None) -> str | None:
@@ -220,33 +293,67 @@ def serial_of(digits: str | None) -> str | None:
 def event_of(line: Line, sent: dict[str, bytes], certificates: dict[str, Line]) -> Line:
     """The event that is wanted of a connection. A client's certificate has its line, by the
     SHA-256."""
-    print_of = lambda chain: chain and colons(hashlib.sha1(sent[chain[0]]).hexdigest())  # noqa: E731
-    texts = lambda chain: [base64.b64encode(sent[one]).decode() for one in chain or ()] or None  # noqa: E731
+    print_of = lambda chain: chain and colons(
+        hashlib.sha1(sent[chain[0]]).hexdigest()
+    )  # noqa: E731
+    texts = (
+        lambda chain: [base64.b64encode(sent[one]).decode() for one in chain or ()] or None
+    )  # noqa: E731
     first = lambda texts: texts and texts[0]  # noqa: E731
     time = datetime.fromtimestamp(round(line["ts"] * 1_000_000) // 1_000_000, timezone.utc)
     chain, of_client = line.get("cert_chain_fps"), line.get("client_cert_chain_fps")
-    pair = lambda name: {"hash": line[name], "string": line[f"{name}_string"]} if name in line else None  # noqa: E731
-    some = lambda given: {name: value for name, value in given.items() if value is not None}  # noqa: E731
+    pair = (
+        lambda name: {"hash": line[name], "string": line[f"{name}_string"]}
+        if name in line
+        else None
+    )  # noqa: E731
+    some = lambda given: {
+        name: value for name, value in given.items() if value is not None
+    }  # noqa: E731
     own = certificates[of_client[0]] if of_client else {}
-    client = own and some({
-        "subject": forward(line.get("client_subject")), "issuerdn": forward(line.get("client_issuer")), "fingerprint": print_of(of_client),
-        "serial": serial_of(own.get("certificate.serial")), "notbefore": day(own.get("certificate.not_valid_before")),
-        "notafter": day(own.get("certificate.not_valid_after")), "certificate": first(texts(of_client)), "chain": texts(of_client),
-    })
+    client = own and some(
+        {
+            "subject": forward(line.get("client_subject")),
+            "issuerdn": forward(line.get("client_issuer")),
+            "fingerprint": print_of(of_client),
+            "serial": serial_of(own.get("certificate.serial")),
+            "notbefore": day(own.get("certificate.not_valid_before")),
+            "notafter": day(own.get("certificate.not_valid_after")),
+            "certificate": first(texts(of_client)),
+            "chain": texts(of_client),
+        }
+    )
     tls = {
-        "subject": forward(line.get("subject")), "issuerdn": forward(line.get("issuer")),
-        "subjectaltname": [*line.get("san_dns", []), *line.get("san_ip", [])] or None, "session_resumed": line["resumed"] or None,
+        "subject": forward(line.get("subject")),
+        "issuerdn": forward(line.get("issuer")),
+        "subjectaltname": [*line.get("san_dns", []), *line.get("san_ip", [])] or None,
+        "session_resumed": line["resumed"] or None,
         "serial": serial_of(line.get("serial")),
-        "fingerprint": print_of(chain), "sni": line.get("server_name"),
+        "fingerprint": print_of(chain),
+        "sni": line.get("server_name"),
         "version": VERSIONS.get(line.get("version"), line.get("version")),
-        "notbefore": date(line.get("not_before")), "notafter": date(line.get("not_after")),
-        "certificate": first(texts(chain)), "chain": texts(chain), "ja3": pair("ja3"), "ja3s": pair("ja3s"),
-        "ja4": line.get("ja4"), "client": client or None, "client_alpns": line.get("orig_alpn"), "server_alpns": [line["next_protocol"]] if "next_protocol" in line else None,
+        "notbefore": date(line.get("not_before")),
+        "notafter": date(line.get("not_after")),
+        "certificate": first(texts(chain)),
+        "chain": texts(chain),
+        "ja3": pair("ja3"),
+        "ja3s": pair("ja3s"),
+        "ja4": line.get("ja4"),
+        "client": client or None,
+        "client_alpns": line.get("orig_alpn"),
+        "server_alpns": [line["next_protocol"]] if "next_protocol" in line else None,
     }
     return {
-        "timestamp": f"{time:%Y-%m-%dT%H:%M:%S}.{round(line['ts'] * 1_000_000) % 1_000_000:06}+0000", "flow_id": identifiers.flow_id(line), "event_type": "tls",
-        "src_ip": line["id.orig_h"], "src_port": line["id.orig_p"], "dest_ip": line["id.resp_h"], "dest_port": line["id.resp_p"],
-        "proto": line["proto"].upper(), "community_id": line["community_id"], "tls": some(tls),
+        "timestamp": f"{time:%Y-%m-%dT%H:%M:%S}.{round(line['ts'] * 1_000_000) % 1_000_000:06}+0000",
+        "flow_id": identifiers.flow_id(line),
+        "event_type": "tls",
+        "src_ip": line["id.orig_h"],
+        "src_port": line["id.orig_p"],
+        "dest_ip": line["id.resp_h"],
+        "dest_port": line["id.resp_p"],
+        "proto": line["proto"].upper(),
+        "community_id": line["community_id"],
+        "tls": some(tls),
     }
 
 
@@ -254,7 +361,12 @@ def chains_of(file: Path, event: Line) -> Iterator[str]:
     """The chains of an event, as `captures/chains` has them."""
     for side, said in (("client", event["tls"].get("client", {})), ("server", event["tls"])):
         if "chain" in said:
-            want(said["certificate"] == said["chain"][0], "suricata:", file, "the first of the chain isn't the certificate")
+            want(
+                said["certificate"] == said["chain"][0],
+                "suricata:",
+                file,
+                "the first of the chain isn't the certificate",
+            )
             yield " ".join([file.stem, str(event["src_port"]), side, *said["chain"]])
 
 
@@ -262,23 +374,49 @@ def chains(ask: Ask, files: list[Path]) -> None:
     """Compares the certificates of the events with those of tshark, in `captures/chains`."""
     wanted = Counter((TOP / "captures" / "chains").read_text().splitlines())
     found = Counter(
-        chain for file in files for row in rows(ask, "--format", "suricata", file).splitlines() for chain in chains_of(file, json.loads(row))
+        chain
+        for file in files
+        for row in rows(ask, "--format", "suricata", file).splitlines()
+        for chain in chains_of(file, json.loads(row))
     )
-    want(found == wanted, "chains that tshark hasn't:", found - wanted, "chains that it has:", wanted - found)
+    want(
+        found == wanted,
+        "chains that tshark hasn't:",
+        found - wanted,
+        "chains that it has:",
+        wanted - found,
+    )
 
 
 def suricata(ask: Ask, files: list[Path]) -> int:
     """Compares each event with the JSON line. Python computes SHA-1 and base64, of the certificates
     whose SHA-256 the line has."""
     lines = [json.loads(line) for line in rows(ask, *files).splitlines()]
-    sent = sent_certificates(json.loads(line) for line in rows(ask, "--messages", *files).splitlines())
+    sent = sent_certificates(
+        json.loads(line) for line in rows(ask, "--messages", *files).splitlines()
+    )
     events = [json.loads(line) for line in rows(ask, "--format", "suricata", *files).splitlines()]
     want(len(events) == len(lines), len(events), "events of", len(lines), "connections")
-    certificates = {one["fingerprint"]: one for one in map(json.loads, rows(ask, "--certificates", *files).splitlines())}
+    certificates = {
+        one["fingerprint"]: one
+        for one in map(json.loads, rows(ask, "--certificates", *files).splitlines())
+    }
     for event, line in zip(events, lines):
         wanted = event_of(line, sent, certificates)
-        want(event == wanted and list(event) == list(wanted) and list(event["tls"]) == list(wanted["tls"]), "suricata:", event, "wanted is", wanted)
-    for words, told in [(["--fields", "ts"], "--fields doesn't go with"), (["--messages"], "neither --messages"), (["--certificates"], "nor --certificates")]:
+        want(
+            event == wanted
+            and list(event) == list(wanted)
+            and list(event["tls"]) == list(wanted["tls"]),
+            "suricata:",
+            event,
+            "wanted is",
+            wanted,
+        )
+    for words, told in [
+        (["--fields", "ts"], "--fields doesn't go with"),
+        (["--messages"], "neither --messages"),
+        (["--certificates"], "nor --certificates"),
+    ]:
         status, text, error = ask(["--format", "suricata", *words, *files])
         want((status, text) == (2, "") and told in error, "suricata", *words, status, error)
     chains(ask, files)

@@ -168,7 +168,9 @@ def cases(some: bytes, file: Path) -> Iterator[Case]:
         short = f"{no_capture}its header is truncated"
         yield Case(f"{len(front)} bytes of a capture", [], 1, short, front)
     version = some[:4] + b"\3" + some[5:]
-    yield Case("another version of pcap", [], 1, "unsupported pcap version: only 2 is read", version)
+    yield Case(
+        "another version of pcap", [], 1, "unsupported pcap version: only 2 is read", version
+    )
     broken = "standard input: the capture is truncated, after "
     yield Case("half a capture", [], 1, broken, some[: len(some) // 2])
     for arguments, fields, message in FIELDS:

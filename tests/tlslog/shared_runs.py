@@ -24,7 +24,10 @@ def fnv_1a(data: bytes) -> int:
 def part_of(line: Line, count: int) -> int:
     """The part, from 1 on, of the connection that a line is of."""
     ends = [(line["id.orig_h"], line["id.orig_p"]), (line["id.resp_h"], line["id.resp_p"])]
-    number = sum(fnv_1a(ipaddress.ip_address(address).packed + port.to_bytes(2, "big")) for address, port in ends)
+    number = sum(
+        fnv_1a(ipaddress.ip_address(address).packed + port.to_bytes(2, "big"))
+        for address, port in ends
+    )
     return ((number + (line["proto"] == "udp")) * GOLDEN % 2**64 >> 32) % count + 1
 
 

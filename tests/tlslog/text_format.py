@@ -12,8 +12,16 @@ from tests.support.shapes import Ask, Line
 
 # The widths of the columns, and which end of a value is left where it is cut.
 COLUMNS = {
-    "time (UTC)": (14, "front"), "client": (15, "back"), "server": (21, "back"), "host": (18, "back"), "version": (7, "front"),
-    "suite": (18, "back"), "alpn": (6, "front"), "ja4": (36, "front"), "secs": (6, "front"), "outcome": (10, "front"),
+    "time (UTC)": (14, "front"),
+    "client": (15, "back"),
+    "server": (21, "back"),
+    "host": (18, "back"),
+    "version": (7, "front"),
+    "suite": (18, "back"),
+    "alpn": (6, "front"),
+    "ja4": (36, "front"),
+    "secs": (6, "front"),
+    "outcome": (10, "front"),
 }
 WIDEST = 160
 
@@ -34,16 +42,29 @@ def server(line: Line) -> str:
 
 def seconds(line: Line) -> str:
     whole, part = divmod(micro(line["duration"]) // 1000, 1000)
-    return f"{whole}.{part:03}" if whole < 100 else f"{whole}.{part // 10:02}" if whole < 1000 else str(whole)
+    return (
+        f"{whole}.{part:03}"
+        if whole < 100
+        else f"{whole}.{part // 10:02}"
+        if whole < 1000
+        else str(whole)
+    )
 
 
 def values(line: Line) -> dict[str, str]:
     """The text of each column for a connection, unabridged."""
     begin = datetime.fromtimestamp(micro(line["ts"]) // 1_000_000, timezone.utc)
     return {
-        "time (UTC)": f"{begin:%m-%d %H:%M:%S}", "client": line["id.orig_h"], "server": server(line), "host": line.get("server_name", "-"),
-        "version": line.get("version", "-"), "suite": line.get("cipher", "-").removeprefix("TLS_"), "alpn": line.get("next_protocol", "-"),
-        "ja4": line.get("ja4", "-"), "secs": seconds(line), "outcome": line["outcome"],
+        "time (UTC)": f"{begin:%m-%d %H:%M:%S}",
+        "client": line["id.orig_h"],
+        "server": server(line),
+        "host": line.get("server_name", "-"),
+        "version": line.get("version", "-"),
+        "suite": line.get("cipher", "-").removeprefix("TLS_"),
+        "alpn": line.get("next_protocol", "-"),
+        "ja4": line.get("ja4", "-"),
+        "secs": seconds(line),
+        "outcome": line["outcome"],
     }
 
 
@@ -54,7 +75,9 @@ def cut(value: str, width: int, left: str) -> str:
 
 
 def row(texts: dict[str, str]) -> str:
-    return " ".join(cut(texts[name], width, left).ljust(width) for name, (width, left) in COLUMNS.items()).rstrip()
+    return " ".join(
+        cut(texts[name], width, left).ljust(width) for name, (width, left) in COLUMNS.items()
+    ).rstrip()
 
 
 def check(ask: Ask, files: list[Path]) -> int:
@@ -66,15 +89,25 @@ def check(ask: Ask, files: list[Path]) -> int:
     want(status == 0 and text.endswith("\n"), "text: status", status, told)
     header, *rows = text.split("\n")[:-1]
     want(header == row({name: name for name in COLUMNS}), "text: the header is", header)
-    want(len(rows) == len(lines) and lines, "text:", len(rows), "rows of", len(lines), "connections")
+    want(
+        len(rows) == len(lines) and lines, "text:", len(rows), "rows of", len(lines), "connections"
+    )
     for shown, line in zip(rows, lines):
         want(shown == row(values(line)), "text:", shown, "wanted is", row(values(line)))
-        want(shown.isascii() and shown.isprintable() and len(shown) <= WIDEST, "text: a terminal can't show", repr(shown))
+        want(
+            shown.isascii() and shown.isprintable() and len(shown) <= WIDEST,
+            "text: a terminal can't show",
+            repr(shown),
+        )
     return len(rows)
 
 
 def refused(ask: Ask, name: str, files: list[Path]) -> None:
     """A format with fixed fields can't be combined with these options."""
-    for words, told in [(["--fields", "ts"], f"--fields doesn't go with --format {name}"), (["--messages"], "neither --messages"), (["--certificates"], "nor --certificates")]:
+    for words, told in [
+        (["--fields", "ts"], f"--fields doesn't go with --format {name}"),
+        (["--messages"], "neither --messages"),
+        (["--certificates"], "nor --certificates"),
+    ]:
         status, text, error = ask(["--format", name, *words, *files])
         want((status, text) == (2, "") and told in error, name, *words, status, error)

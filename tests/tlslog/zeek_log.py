@@ -41,7 +41,16 @@ def mark(text: str) -> bool:
     return {"T": True, "F": False}[text]
 
 
-KINDS = {"time": seconds, "interval": seconds, "addr": str, "port": number, "enum": str, "string": unescaped, "bool": mark, "count": number}
+KINDS = {
+    "time": seconds,
+    "interval": seconds,
+    "addr": str,
+    "port": number,
+    "enum": str,
+    "string": unescaped,
+    "bool": mark,
+    "count": number,
+}
 
 
 class Log:
@@ -59,10 +68,32 @@ class Log:
             raise Wrong(f"another separator: {meta[0]}")
         told = [line[1:].split("\t") for line in meta[1:]]
         names = [line[0] for line in told]
-        if names != ["set_separator", "empty_field", "unset_field", "path", "open", "fields", "types", "close"]:
+        if names != [
+            "set_separator",
+            "empty_field",
+            "unset_field",
+            "path",
+            "open",
+            "fields",
+            "types",
+            "close",
+        ]:
             raise Wrong(f"other lines with #: {names}")
-        (self.between,), (self.empty,), (self.unset,), (self.path,), (self.opened,), self.fields, self.types, (self.closed,) = (line[1:] for line in told)
-        if not TIME.fullmatch(self.opened) or not TIME.fullmatch(self.closed) or self.opened > self.closed:
+        (
+            (self.between,),
+            (self.empty,),
+            (self.unset,),
+            (self.path,),
+            (self.opened,),
+            self.fields,
+            self.types,
+            (self.closed,),
+        ) = (line[1:] for line in told)
+        if (
+            not TIME.fullmatch(self.opened)
+            or not TIME.fullmatch(self.closed)
+            or self.opened > self.closed
+        ):
             raise Wrong(f"open {self.opened}, close {self.closed}")
         if len(self.fields) != len(self.types):
             raise Wrong("fields and types aren't as many")
@@ -81,5 +112,9 @@ class Log:
     def value(self, kind: str, value: str) -> Any:
         listed = re.fullmatch(r"vector\[(\w+)\]", kind)
         if listed:
-            return [] if value == self.empty else [KINDS[listed[1]](one) for one in value.split(self.between)]
+            return (
+                []
+                if value == self.empty
+                else [KINDS[listed[1]](one) for one in value.split(self.between)]
+            )
         return "" if value == self.empty else KINDS[kind](value)

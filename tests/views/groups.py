@@ -51,7 +51,14 @@ BODIES = {
 EXTENSION, CONTENT = "parse_tls_extension_", "_content"
 NO_EXTENSIONS = "parse_tls_extension_sni_hostname parse_tls_extension_encrypted_server_name"
 # The types of the contents that are read in place.
-CONTENTS = {"sni": 0, "elliptic_curves": 10, "ec_point_formats": 11, "signature_algorithms": 13, "alpn": 16, "psk_key_exchange_modes": 45}
+CONTENTS = {
+    "sni": 0,
+    "elliptic_curves": 10,
+    "ec_point_formats": 11,
+    "signature_algorithms": 13,
+    "alpn": 16,
+    "psk_key_exchange_modes": 45,
+}
 # The same by their types, and those that have no call of their own: the bytes of the length in
 # front of each of their lists.
 WIDTHS = {0: 2, 10: 2, 11: 1, 13: 2, 16: 2, 43: 1, 45: 1, 48: 2, 51: 2}
@@ -72,7 +79,9 @@ class Groups:
 
     def __init__(self) -> None:
         self.found = {name: {} for name in NAMES}
-        self.adds = {ONE_TIMESTAMP: lambda one: self.add("timestamps", one.framed(b"", 2).counted(2))}
+        self.adds = {
+            ONE_TIMESTAMP: lambda one: self.add("timestamps", one.framed(b"", 2).counted(2))
+        }
         for calls, add in [
             (RECORDS, self.add_record),
             (MESSAGES, self.add_in_record),
@@ -175,7 +184,11 @@ class Groups:
         self.add("dtls_records", one.framed(dtls_front(HANDSHAKE), 2).counted(2, 11))
 
     def add_dtls_message(self, one: rows.Input) -> None:
-        one, whole, part = one.counted(3, 9), rows.number(one.data, 1, 3), rows.number(one.data, 9, 3)
+        one, whole, part = (
+            one.counted(3, 9),
+            rows.number(one.data, 1, 3),
+            rows.number(one.data, 9, 3),
+        )
         # Where it is no fragment, it stays none where both lengths are cut.
         if whole == part and 0 < part <= len(one.data) - 12:
             one = one._replace(within=(*one.within, rows.Within((3, 11), 12, 12 + part)))

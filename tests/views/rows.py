@@ -50,7 +50,9 @@ class Input(NamedTuple):
     def framed(self, head: bytes, width: int) -> Input:
         """The bytes behind a head and their length, of so many bytes."""
         front = head + len(self.data).to_bytes(width, "big")
-        return self._replace(data=front + self.data, within=tuple(w.moved(len(front)) for w in self.within))
+        return self._replace(
+            data=front + self.data, within=tuple(w.moved(len(front)) for w in self.within)
+        )
 
     def counted(self, width: int, start: int = 0) -> Input:
         """Adds cuts within the length of so many bytes at `start`, if it is a length."""
@@ -196,7 +198,11 @@ def written(one: Input) -> str:
     is none."""
     told = ",".join(f"{marked(part, '.')}*{times}" for part, times in parts(one.data))
     fronts = marked(places(one.data), ",") if is_long(one) else ""
-    within = "" if is_long(one) else ",".join(f"{marked(w.places, '.')}/{w.start}/{w.end}" for w in one.within)
+    within = (
+        ""
+        if is_long(one)
+        else ",".join(f"{marked(w.places, '.')}/{w.start}/{w.end}" for w in one.within)
+    )
     return " ".join([one.row, str(one.kind), told or "-", fronts or "-", within or "-"])
 
 

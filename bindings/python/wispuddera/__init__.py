@@ -254,7 +254,12 @@ class _Room(threading.local):
     """The structs that calls write to, one set a thread."""
 
     def __init__(self) -> None:
-        self.record, self.part, self.found, self.number = _c.Record(), _c.Part(), _c.Found(), _c.Number()
+        self.record, self.part, self.found, self.number = (
+            _c.Record(),
+            _c.Part(),
+            _c.Found(),
+            _c.Number(),
+        )
         self.client_hello, self.server_hello = _c.ClientHello(), _c.ServerHello()
         self.dtls_record, self.dtls_message = _c.DtlsRecord(), _c.DtlsMessage()
         self.dtls_client_hello = _c.DtlsClientHello()
@@ -546,7 +551,14 @@ def _server_hello(read: Callable, body: Data) -> ServerHello:
 def _dtls_record(given: _Given, offset: int) -> DtlsRecord:
     out = _room.dtls_record
     _check(_c.read_dtls_record(given.address, given.count, offset, out), out.missing)
-    return DtlsRecord(out.content_type, out.version, out.epoch, out.sequence_number, given.part(out.fragment), out.next)
+    return DtlsRecord(
+        out.content_type,
+        out.version,
+        out.epoch,
+        out.sequence_number,
+        given.part(out.fragment),
+        out.next,
+    )
 
 
 def dtls_record(datagram: Data, offset: int = 0) -> DtlsRecord:
@@ -563,7 +575,9 @@ def _dtls_message(given: _Given, offset: int) -> DtlsMessage:
     out = _room.dtls_message
     _check(_c.read_dtls_message(given.address, given.count, offset, out), out.missing)
     body = given.part(out.body)
-    return DtlsMessage(out.kind, out.length, out.message_seq, out.fragment_offset, out.is_part, body, out.next)
+    return DtlsMessage(
+        out.kind, out.length, out.message_seq, out.fragment_offset, out.is_part, body, out.next
+    )
 
 
 def dtls_message(fragment: Data, offset: int = 0) -> DtlsMessage:
@@ -674,8 +688,7 @@ class X509:
     next: int
 
     def names(self) -> Optional[Iterator[X509Name]]:
-        """The names in its first subjectAltName (RFC 5280, section 4.2.1.6); `None` if it has none.
-        """
+        """The names in its first subjectAltName (RFC 5280, section 4.2.1.6); `None` if it has none."""
         for extension in x509_extensions(self.extensions):
             if extension.oid == SUBJECT_ALT_NAME:
                 return x509_names(extension.value)

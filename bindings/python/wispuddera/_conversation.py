@@ -93,12 +93,17 @@ class Conversation:
         held, given, to_server = self._buffers[side], _Given(piece), side == "client"
 
         def feed() -> int:
-            return _c.conversation_feed(held.bytes, len(held.bytes), self._state, to_server, given.address, given.count)
+            return _c.conversation_feed(
+                held.bytes, len(held.bytes), self._state, to_server, given.address, given.count
+            )
 
         if feed() == _c.NO_ROOM:
             held.grow(given.count)
             feed()
-        while _c.conversation_next(held.bytes, len(held.bytes), self._state, to_server, self._said) == _c.READ:
+        while (
+            _c.conversation_next(held.bytes, len(held.bytes), self._state, to_server, self._said)
+            == _c.READ
+        ):
             self._tell(to_server, held.at(self._said.content))
 
     def _tell(self, to_server: bool, content: bytes) -> None:

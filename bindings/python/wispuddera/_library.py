@@ -3,7 +3,9 @@
 import ctypes
 import os
 
-_PATH = os.environ.get("WISPUDDERA_LIBRARY") or os.path.join(os.path.dirname(__file__), "libwispuddera.so")
+_PATH = os.environ.get("WISPUDDERA_LIBRARY") or os.path.join(
+    os.path.dirname(__file__), "libwispuddera.so"
+)
 # Why the library is missing. The import doesn't fail, since `wispuddera.log` and
 # `wispuddera.report` don't need it.
 _missing = None
@@ -163,7 +165,13 @@ class X509(ctypes.Structure):
 
 
 class X509Extension(ctypes.Structure):
-    _fields_ = [("missing", _SIZE), ("oid", Place), ("value", Place), ("next", _SIZE), ("critical", _BOOL)]
+    _fields_ = [
+        ("missing", _SIZE),
+        ("oid", Place),
+        ("value", Place),
+        ("next", _SIZE),
+        ("critical", _BOOL),
+    ]
 
 
 class Said(ctypes.Structure):
@@ -273,8 +281,12 @@ flow_step = _function("flow_step", _OUT(Flow), _OUT(Event), answer=None)
 flow_outcome = _function("flow_outcome", _OUT(Flow))
 
 conversation_start = _function("conversation_start", _OUT(Conversation), _SIZE, answer=None)
-conversation_feed = _function("conversation_feed", _BYTES, _SIZE, _OUT(Conversation), _BOOL, _BYTES, _SIZE)
-conversation_next = _function("conversation_next", _BYTES, _SIZE, _OUT(Conversation), _BOOL, _OUT(Said))
+conversation_feed = _function(
+    "conversation_feed", _BYTES, _SIZE, _OUT(Conversation), _BOOL, _BYTES, _SIZE
+)
+conversation_next = _function(
+    "conversation_next", _BYTES, _SIZE, _OUT(Conversation), _BOOL, _OUT(Said)
+)
 conversation_outcome = _function("conversation_outcome", _OUT(Conversation))
 conversation_stop = _function("conversation_stop", _OUT(Conversation), _OUT(Stop))
 conversation_established = _function("conversation_established", _OUT(Conversation), answer=_BOOL)
@@ -284,5 +296,18 @@ struct_size = _function("struct_size", _SIZE, answer=_SIZE)
 field_offset = _function("field_offset", _SIZE, _SIZE, answer=_SIZE)
 
 # The structs in the order of `wispuddera_struct_size` (wispuddera.h).
-STRUCTS = (Place, Record, Part, ClientHello, ServerHello, Found, Number, DtlsRecord, DtlsMessage, DtlsClientHello, Event, Flow)
+STRUCTS = (
+    Place,
+    Record,
+    Part,
+    ClientHello,
+    ServerHello,
+    Found,
+    Number,
+    DtlsRecord,
+    DtlsMessage,
+    DtlsClientHello,
+    Event,
+    Flow,
+)
 STRUCTS += (X509, X509Extension, Said, Stop, Side, Course, Conversation)

@@ -204,15 +204,22 @@ def _program(given: Optional[StrPath]) -> str:
 
 
 @overload
-def log(path: Union[StrPath, BinaryIO], *others: StrPath, messages: Literal[True], **options: Any) -> Iterator[Line]: ...
+def log(
+    path: Union[StrPath, BinaryIO], *others: StrPath, messages: Literal[True], **options: Any
+) -> Iterator[Line]:
+    ...
 
 
 @overload
-def log(path: Union[StrPath, BinaryIO], *others: StrPath, certificates: Literal[True], **options: Any) -> Iterator[Line]: ...
+def log(
+    path: Union[StrPath, BinaryIO], *others: StrPath, certificates: Literal[True], **options: Any
+) -> Iterator[Line]:
+    ...
 
 
 @overload
-def log(path: Union[StrPath, BinaryIO], *others: StrPath, **options: Any) -> Iterator[Connection]: ...
+def log(path: Union[StrPath, BinaryIO], *others: StrPath, **options: Any) -> Iterator[Connection]:
+    ...
 
 
 def log(
@@ -245,28 +252,54 @@ def log(
     """
     if messages and certificates:
         raise ValueError("messages and certificates can't be combined")
-    options = {"--ciphers": ciphers and os.fspath(ciphers), "--checksums": checksums, "--memory": None if memory is None else str(memory)}
+    options = {
+        "--ciphers": ciphers and os.fspath(ciphers),
+        "--checksums": checksums,
+        "--memory": None if memory is None else str(memory),
+    }
     if fields is not None:
         options["--fields"] = fields if isinstance(fields, str) else ",".join(fields)
     command = [_program(program), "--format", "json"]
-    command += [word for name, value in options.items() if value is not None for word in (name, value)]
-    command += [name for name, is_asked in (("--messages", messages), ("--certificates", certificates), ("--join", join)) if is_asked]
+    command += [
+        word for name, value in options.items() if value is not None for word in (name, value)
+    ]
+    command += [
+        name
+        for name, is_asked in (
+            ("--messages", messages),
+            ("--certificates", certificates),
+            ("--join", join),
+        )
+        if is_asked
+    ]
     is_stream = hasattr(path, "read")
     if is_stream and others:
         raise ValueError("an open capture can't be combined with others")
     names = ["-"] if is_stream else [os.fspath(path), *map(os.fspath, others)]  # type: ignore[arg-type]
-    shown = _values_of if messages or certificates else Connection.of_line if fields is None else _some_of_line
+    shown = (
+        _values_of
+        if messages or certificates
+        else Connection.of_line
+        if fields is None
+        else _some_of_line
+    )
     return _items([*command, "--", *names], path if is_stream else None, "-" in names, shown)  # type: ignore[arg-type]
 
 
-_ALWAYS = {f.name: None for f in dataclasses.fields(Connection) if f.default is dataclasses.MISSING and f.name != "more"}
+_ALWAYS = {
+    f.name: None
+    for f in dataclasses.fields(Connection)
+    if f.default is dataclasses.MISSING and f.name != "more"
+}
 
 
 def _some_of_line(line: bytes) -> Connection:
     """The connection of a line with some of the fields."""
     values = _values_of(line)
     known = {name.replace(".", "_") for name in values}
-    return Connection._of_values({**{name: None for name in _ALWAYS if name not in known}, **values})
+    return Connection._of_values(
+        {**{name: None for name in _ALWAYS if name not in known}, **values}
+    )
 
 
 # The status of tlslog for a truncated capture.
@@ -303,13 +336,17 @@ class _Feed(threading.Thread):
             self._target.close()
 
 
-def _items(command: list[str], source: Optional[BinaryIO], is_stream: bool, shown: Callable[[bytes], Any]) -> Iterator[Any]:
+def _items(
+    command: list[str], source: Optional[BinaryIO], is_stream: bool, shown: Callable[[bytes], Any]
+) -> Iterator[Any]:
     # Standard error goes to a file, since an unread pipe would block the program. The program has a
     # session of its own, so that Ctrl-C doesn't reach it.
     given: dict[str, Any] = {"stdin": subprocess.PIPE, "bufsize": 0} if source is not None else {}
     feed = None
     with tempfile.TemporaryFile() as errors:
-        process = subprocess.Popen(command, stdout=subprocess.PIPE, stderr=errors, start_new_session=True, **given)
+        process = subprocess.Popen(
+            command, stdout=subprocess.PIPE, stderr=errors, start_new_session=True, **given
+        )
         assert process.stdout is not None
         try:
             if source is not None:
@@ -328,7 +365,9 @@ def _items(command: list[str], source: Optional[BinaryIO], is_stream: bool, show
         # A stream that Ctrl-C ends may end within a packet, which the status reports.
         if status != 0 and not (output.was_interrupted and status == _CUT):
             errors.seek(0)
-            raise LogError(command[0], status, errors.read().decode("utf-8", "backslashreplace").strip())
+            raise LogError(
+                command[0], status, errors.read().decode("utf-8", "backslashreplace").strip()
+            )
         if feed is not None and feed.fault is not None:
             raise feed.fault
 

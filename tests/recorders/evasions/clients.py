@@ -34,14 +34,22 @@ def go_on(room: Room, end: End, talk: Analyzer, flight: bytes) -> None:
     close_served(room, end, talk.answer())
 
 
-@scene("the server's messages with another suite, of a wrong checksum; then the real ones", "RFC 9293, 3.1")
+@scene(
+    "the server's messages with another suite, of a wrong checksum; then the real ones",
+    "RFC 9293, 3.1",
+)
 def servers_checksum_wrong(room: Room) -> None:
     end, talk, flight, other = begin_served(room)
-    forge(room, end, "checksum", "the server's messages, of a wrong checksum", other, spoilt=("sum",))
+    forge(
+        room, end, "checksum", "the server's messages, of a wrong checksum", other, spoilt=("sum",)
+    )
     go_on(room, end, talk, flight)
 
 
-@scene("the server's messages with another suite and without ACK; then the real ones", "RFC 9293, 3.10.7.4, fifth")
+@scene(
+    "the server's messages with another suite and without ACK; then the real ones",
+    "RFC 9293, 3.10.7.4, fifth",
+)
 def servers_data_without_ack_flag(room: Room) -> None:
     end, talk, flight, other = begin_served(room)
     forge(room, end, "no_ack", "the server's messages without ACK", other, flags=PSH)
@@ -55,8 +63,22 @@ def servers_data_without_ack_flag(room: Room) -> None:
 )
 def servers_ack_wrong(room: Room) -> None:
     end, talk, flight, other = begin_served(room)
-    forge(room, end, "ack", "the server's messages, which acknowledge too much", other, ack=end.expected + 1)
-    forge(room, end, "ack", "the server's messages, which acknowledge a number in front of the first", other, ack=end.its_first - 100_000)
+    forge(
+        room,
+        end,
+        "ack",
+        "the server's messages, which acknowledge too much",
+        other,
+        ack=end.expected + 1,
+    )
+    forge(
+        room,
+        end,
+        "ack",
+        "the server's messages, which acknowledge a number in front of the first",
+        other,
+        ack=end.its_first - 100_000,
+    )
     go_on(room, end, talk, flight)
 
 
@@ -67,14 +89,31 @@ def servers_ack_wrong(room: Room) -> None:
 def servers_data_outside_the_window(room: Room) -> None:
     end, talk, flight, other = begin_served(room)
     forge(room, end, "window", "a byte beyond the window", b"\x16", number=end.next + 300_000)
-    forge(room, end, "old", "the server's messages in front of its SYN", other, number=end.first - 100_000)
+    forge(
+        room,
+        end,
+        "old",
+        "the server's messages in front of its SYN",
+        other,
+        number=end.first - 100_000,
+    )
     go_on(room, end, talk, flight)
 
 
-@scene("the server's messages with another suite and an old timestamp; then the real ones", "RFC 7323, 5.3")
+@scene(
+    "the server's messages with another suite and an old timestamp; then the real ones",
+    "RFC 7323, 5.3",
+)
 def servers_old_timestamp(room: Room) -> None:
     end, talk, flight, other = begin_served(room)
-    forge(room, end, "paws", "the server's messages of an old timestamp", other, stamp=end.clock - 1000)
+    forge(
+        room,
+        end,
+        "paws",
+        "the server's messages of an old timestamp",
+        other,
+        stamp=end.clock - 1000,
+    )
     go_on(room, end, talk, flight)
 
 
@@ -88,19 +127,34 @@ def servers_syn_ack_with_data_in_the_middle(room: Room) -> None:
     go_on(room, end, talk, flight)
 
 
-@scene("RSTs of the server within the window and outside, which aren't of the next number; then its messages", "RFC 5961, 3.2")
+@scene(
+    "RSTs of the server within the window and outside, which aren't of the next number; then its messages",
+    "RFC 5961, 3.2",
+)
 def servers_rst_not_next(room: Room) -> None:
     end, talk, flight, _ = begin_served(room)
-    forge(room, end, "rst", "an RST 100 behind the next number", flags=RST | ACK, number=end.next + 100)
+    forge(
+        room,
+        end,
+        "rst",
+        "an RST 100 behind the next number",
+        flags=RST | ACK,
+        number=end.next + 100,
+    )
     forge(room, end, "rst", "an RST outside the window", flags=RST | ACK, number=end.next - 100_000)
     go_on(room, end, talk, flight)
 
 
-@scene("a FIN of the server without ACK, and one beyond the window; then its messages", "RFC 9293, 3.10.7.4")
+@scene(
+    "a FIN of the server without ACK, and one beyond the window; then its messages",
+    "RFC 9293, 3.10.7.4",
+)
 def servers_fin_not_taken(room: Room) -> None:
     end, talk, flight, _ = begin_served(room)
     forge(room, end, "no_ack", "a FIN without ACK", flags=FIN)
-    forge(room, end, "window", "a FIN beyond the window", flags=FIN | ACK, number=end.next + 300_000)
+    forge(
+        room, end, "window", "a FIN beyond the window", flags=FIN | ACK, number=end.next + 300_000
+    )
     go_on(room, end, talk, flight)
 
 
@@ -111,15 +165,50 @@ def servers_fin_not_taken(room: Room) -> None:
 )
 def window_closed_by_segments_not_taken(room: Room) -> None:
     end, talk, flight, _ = begin_served(room)
-    forge(room, end, "checksum", "a closed window, of a wrong checksum", flags=ACK, window=0, spoilt=("sum",))
-    forge(room, end, "paws", "a closed window, of an old timestamp", flags=ACK, window=0, stamp=end.clock - 1000)
+    forge(
+        room,
+        end,
+        "checksum",
+        "a closed window, of a wrong checksum",
+        flags=ACK,
+        window=0,
+        spoilt=("sum",),
+    )
+    forge(
+        room,
+        end,
+        "paws",
+        "a closed window, of an old timestamp",
+        flags=ACK,
+        window=0,
+        stamp=end.clock - 1000,
+    )
     forge(room, end, "no_ack", "a closed window, without ACK", flags=PSH, window=0)
-    forge(room, end, "window", "a closed window, beyond the window", flags=ACK, window=0, number=end.next + 300_000)
-    forge(room, end, "old", "a closed window, in front of the window", flags=ACK, window=0, number=end.next - 100_000)
+    forge(
+        room,
+        end,
+        "window",
+        "a closed window, beyond the window",
+        flags=ACK,
+        window=0,
+        number=end.next + 300_000,
+    )
+    forge(
+        room,
+        end,
+        "old",
+        "a closed window, in front of the window",
+        flags=ACK,
+        window=0,
+        number=end.next - 100_000,
+    )
     go_on(room, end, talk, flight)
 
 
-@scene("an RST of the server of the next number; its messages behind it are answered with an RST", "RFC 5961, 3.2")
+@scene(
+    "an RST of the server of the next number; its messages behind it are answered with an RST",
+    "RFC 5961, 3.2",
+)
 def servers_rst_next_expected(room: Room) -> None:
     end, _, flight, _ = begin_served(room)
     length = (end.expected - end.its_first - 1) % 2**32
@@ -128,7 +217,17 @@ def servers_rst_next_expected(room: Room) -> None:
     room.note("the host has no such connection any more (/proc/net/tcp)")
     forge(room, end, CLOSED, "the server's messages, behind it", flight)
     none = dict.fromkeys(("version", "cipher"), ABSENT)
-    line(room, end, is_orig=False, established=False, outcome="waiting", ssl_history="C", orig_bytes=length, resp_bytes=0, **none)
+    line(
+        room,
+        end,
+        is_orig=False,
+        established=False,
+        outcome="waiting",
+        ssl_history="C",
+        orig_bytes=length,
+        resp_bytes=0,
+        **none,
+    )
 
 
 @scene(
@@ -155,7 +254,15 @@ def data_in_syn_ack(room: Room) -> None:
 def rst_to_a_syn_not_taken(room: Room) -> None:
     end = host_connects(room)
     end.receive(LONG)
-    forge(room, end, "rst", "an RST of a wrong acknowledgement", flags=RST | ACK, number=0, ack=end.its_first + 5000)
+    forge(
+        room,
+        end,
+        "rst",
+        "an RST of a wrong acknowledgement",
+        flags=RST | ACK,
+        number=0,
+        ack=end.its_first + 5000,
+    )
     forge(room, end, "rst", "an RST without ACK", flags=RST, number=0)
     end.send(SYN | ACK)
     end.move(b"", SYN)
@@ -172,7 +279,15 @@ def rst_to_a_syn_not_taken(room: Room) -> None:
 def syn_ack_of_wrong_acknowledgement(room: Room) -> None:
     end = host_connects(room)
     end.receive(LONG)
-    forge(room, end, "ack", "a SYN/ACK of a wrong acknowledgement", flags=SYN | ACK, number=77, ack=end.its_first + 5000)
+    forge(
+        room,
+        end,
+        "ack",
+        "a SYN/ACK of a wrong acknowledgement",
+        flags=SYN | ACK,
+        number=77,
+        ack=end.its_first + 5000,
+    )
     end.send(SYN | ACK, number=end.first)
     end.move(b"", SYN)
     while (answer := end.receive(LONG)).flags & SYN:

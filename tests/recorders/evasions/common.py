@@ -22,7 +22,13 @@ ORIG, RESP = "orig", "resp"
 CLOSED = "closed"
 # What the kernel's reasons are also called here: what it calls a segment of LISTEN, a place outside
 # the window, and no new data.
-ALSO = {"no_ack": ("ack", "syn", CLOSED), "window": ("old", "syn", "rst"), "syn": ("rst",), "old": ("syn", "rst", "fin"), "ack": ("rst",)}
+ALSO = {
+    "no_ack": ("ack", "syn", CLOSED),
+    "window": ("old", "syn", "rst"),
+    "syn": ("rst",),
+    "old": ("syn", "rst", "fin"),
+    "ack": ("rst",),
+}
 # The messages of a full handshake of TLS 1.2 without tickets, as `ssl_history` has them; and where
 # the server warns of another name.
 FULL, WARNED = "CsxknGIi", {"ssl_history": "ClsxknGIi", "last_alert": "unrecognized_name"}
@@ -60,7 +66,12 @@ def expect(condition: object, text: str) -> None:
 
 
 def begin(
-    room: rooms.Room, version: int = 4, talk: dict[str, Any] | None = None, server: str = "", opens: dict[str, Any] | None = None, **more: Any
+    room: rooms.Room,
+    version: int = 4,
+    talk: dict[str, Any] | None = None,
+    server: str = "",
+    opens: dict[str, Any] | None = None,
+    **more: Any,
 ) -> tuple[End, Analyzer, bytes]:
     """A connection to OpenSSL's server, with the hello that comes next."""
     room.server(server)
@@ -71,21 +82,38 @@ def begin(
 
 
 def forge(
-    room: rooms.Room, end: End, why: str, what: str, payload: bytes = b"", wait: float = SOON, flags: int = PSH | ACK, **more: Any
+    room: rooms.Room,
+    end: End,
+    why: str,
+    what: str,
+    payload: bytes = b"",
+    wait: float = SOON,
+    flags: int = PSH | ACK,
+    **more: Any,
 ) -> list[Packet]:
     """Sends a packet that the host drops, for the reason `why`, and notes its response. If the
     kernel has a name for the reason, `why` is one with that name."""
     found = room.try_packet(end, what, wait, flags=flags, payload=payload, **more)
     sending = room.sendings[-1]
     words = {rooms.WORDS.get(reason) for reason in sending["reasons"]} - {None}
-    expect(not words or why in words or why in ALSO.get(*words, ()), f"the kernel's reason for {what} is {sending['reasons']}")
+    expect(
+        not words or why in words or why in ALSO.get(*words, ()),
+        f"the kernel's reason for {what} is {sending['reasons']}",
+    )
     sending["why"] = why
     return found
 
 
 def take(
-    room: rooms.Room, end: End, what: str, payload: bytes, wait: float = SOON, flags: int = PSH | ACK, number: int | None = None,
-    upto: int | None = None, **more: Any
+    room: rooms.Room,
+    end: End,
+    what: str,
+    payload: bytes,
+    wait: float = SOON,
+    flags: int = PSH | ACK,
+    number: int | None = None,
+    upto: int | None = None,
+    **more: Any,
 ) -> list[Packet]:
     """A packet that the host takes: it acknowledges up to its end, or up to the number that is
     given. Moves to there."""
@@ -98,7 +126,9 @@ def take(
     return found
 
 
-def finish(room: rooms.Room, end: End, talk: Analyzer, rest: bytes = b"", name: str = REAL, **fields: Any) -> None:
+def finish(
+    room: rooms.Room, end: End, talk: Analyzer, rest: bytes = b"", name: str = REAL, **fields: Any
+) -> None:
     """The rest of the handshake and of the connection; and its line."""
     if rest:
         end.say(rest)
@@ -109,18 +139,31 @@ def finish(room: rooms.Room, end: End, talk: Analyzer, rest: bytes = b"", name: 
     line(room, end, talk, server_name=name, **({} if name == REAL else WARNED) | fields)
 
 
-def took(room: rooms.Room, talk: Analyzer, name: str = REAL, certificate: str | None = None) -> None:
+def took(
+    room: rooms.Room, talk: Analyzer, name: str = REAL, certificate: str | None = None
+) -> None:
     """Checks that the host took the hello with this name: its server prints the name, and answers
     with that certificate."""
     room.await_text("server", HOSTNAME_LINE.format(name))
     printed = HOSTNAME.findall(room.printed("server"))
     expect(printed and printed[-1] == name, f"the server prints {printed}")
     certificate = certificate or ("real.test" if name == REAL else "other.test")
-    expect(talk.certificate_name() == certificate, f"its certificate is for {talk.certificate_name()}")
-    room.note(f's_server printed: {HOSTNAME_LINE.format(name)}; its certificate is that of {certificate}, and the handshake ended')
+    expect(
+        talk.certificate_name() == certificate, f"its certificate is for {talk.certificate_name()}"
+    )
+    room.note(
+        f"s_server printed: {HOSTNAME_LINE.format(name)}; its certificate is that of {certificate}, and the handshake ended"
+    )
 
 
-def serve(room: rooms.Room, end: End, asked: str = REAL, client: str = "client", is_orig: bool = False, **fields: Any) -> None:
+def serve(
+    room: rooms.Room,
+    end: End,
+    asked: str = REAL,
+    client: str = "client",
+    is_orig: bool = False,
+    **fields: Any,
+) -> None:
     """The server's part of a handshake with the host's client and of the connection; and its
     line."""
     talk = Analyzer(end, is_server=True, work=room.work)
@@ -128,31 +171,75 @@ def serve(room: rooms.Room, end: End, asked: str = REAL, client: str = "client",
     close_served(room, end, talk.answer(), asked, client, is_orig, **fields)
 
 
-def close_served(room: rooms.Room, end: End, talk: Analyzer, asked: str = REAL, client: str = "client", is_orig: bool = False, **fields: Any) -> None:
+def close_served(
+    room: rooms.Room,
+    end: End,
+    talk: Analyzer,
+    asked: str = REAL,
+    client: str = "client",
+    is_orig: bool = False,
+    **fields: Any,
+) -> None:
     expect(talk.asked == asked, f"the client asked for {talk.asked}")
-    expect(room.await_text(client, "Cipher is ECDHE"), f"the client has no session: {room.printed(client)}")
+    expect(
+        room.await_text(client, "Cipher is ECDHE"),
+        f"the client has no session: {room.printed(client)}",
+    )
     room.note(f"s_client ended the handshake, and asked for {talk.asked}")
     end.say(talk.goodbye())
     end.close()
-    line(room, end, is_orig=is_orig, server_name=asked, cert_chain_fps=[fingerprint(room.work / "real.pem")], **fields)
+    line(
+        room,
+        end,
+        is_orig=is_orig,
+        server_name=asked,
+        cert_chain_fps=[fingerprint(room.work / "real.pem")],
+        **fields,
+    )
 
 
 def fingerprint(file: Path) -> str:
     return hashlib.sha256(ssl.PEM_cert_to_DER_cert(file.read_text())).hexdigest()
 
 
-def line(room: rooms.Room, end: End, talk: Analyzer | None = None, is_orig: bool = True, drops: bool = True, **fields: Any) -> None:
+def line(
+    room: rooms.Room,
+    end: End,
+    talk: Analyzer | None = None,
+    is_orig: bool = True,
+    drops: bool = True,
+    **fields: Any,
+) -> None:
     """Adds an expected line. A field that is given as None is left out, since it isn't known
     for certain."""
     ours, other = (str(end.address), end.port), (str(end.to_address), end.to_port)
     orig, resp = (ours, other) if is_orig else (other, ours)
-    wanted = {"id.orig_h": orig[0], "id.orig_p": orig[1], "id.resp_h": resp[0], "id.resp_p": resp[1], "server_name": REAL}
-    wanted |= {"version": "TLSv12", "cipher": "TLS_ECDHE_ECDSA_WITH_AES_128_GCM_SHA256", "established": True, "outcome": "full", "ssl_history": FULL, "gap": ABSENT}
+    wanted = {
+        "id.orig_h": orig[0],
+        "id.orig_p": orig[1],
+        "id.resp_h": resp[0],
+        "id.resp_p": resp[1],
+        "server_name": REAL,
+    }
+    wanted |= {
+        "version": "TLSv12",
+        "cipher": "TLS_ECDHE_ECDSA_WITH_AES_128_GCM_SHA256",
+        "established": True,
+        "outcome": "full",
+        "ssl_history": FULL,
+        "gap": ABSENT,
+    }
     wanted |= stream_lengths(end, is_orig)
     if talk and talk.tls.server_side is False and talk.tls.getpeercert(binary_form=True):
-        wanted["cert_chain_fps"] = [hashlib.sha256(talk.tls.getpeercert(binary_form=True)).hexdigest()]
+        wanted["cert_chain_fps"] = [
+            hashlib.sha256(talk.tls.getpeercert(binary_form=True)).hexdigest()
+        ]
     wanted |= fields
-    wanted = {name: None if value is ABSENT else value for name, value in wanted.items() if value is not None}
+    wanted = {
+        name: None if value is ABSENT else value
+        for name, value in wanted.items()
+        if value is not None
+    }
     if drops:
         wanted["dropped"] = dropped(room, end, is_orig)
     room.lines.append(wanted)
@@ -168,5 +255,9 @@ def stream_lengths(end: End, is_orig: bool) -> dict[str, int]:
 
 def dropped(room: rooms.Room, end: End, is_orig: bool) -> dict[str, dict[str, int]]:
     """How many of our packets the host dropped, and why."""
-    found = Counter(one["why"] for one in room.sendings if one["end"] is end and one["is_recorded"] and one.get("why", CLOSED) != CLOSED)
+    found = Counter(
+        one["why"]
+        for one in room.sendings
+        if one["end"] is end and one["is_recorded"] and one.get("why", CLOSED) != CLOSED
+    )
     return {(ORIG if is_orig else RESP): dict(sorted(found.items()))} if found else {}

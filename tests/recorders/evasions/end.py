@@ -25,8 +25,17 @@ def before(one: int, other: int) -> bool:
 
 class End:
     def __init__(
-        self, room: Room, address: wire.Address, port: int, to_address: wire.Address, to_port: int, number: int = 1000,
-        has_stamps: bool = True, scale: int | None = 7, window: int = 64000, size: int = 1400,
+        self,
+        room: Room,
+        address: wire.Address,
+        port: int,
+        to_address: wire.Address,
+        to_port: int,
+        number: int = 1000,
+        has_stamps: bool = True,
+        scale: int | None = 7,
+        window: int = 64000,
+        size: int = 1400,
     ) -> None:
         self.room, self.wire = room, room.wire
         self.address, self.port, self.to_address, self.to_port = address, port, to_address, to_port
@@ -65,11 +74,22 @@ class End:
         if stamp is False or not (self.both_stamp or stamp):
             return b""
         value = self.stamp() if stamp in (None, True) else stamp
-        return b"\1\1" + struct.pack(">BBII", wire.STAMP, 10, value, self.its_stamp if echo is None else echo)
+        return b"\1\1" + struct.pack(
+            ">BBII", wire.STAMP, 10, value, self.its_stamp if echo is None else echo
+        )
 
     def send(
-        self, flags: int = ACK, payload: bytes = b"", number: int | None = None, ack: int | None = None, window: int | None = None,
-        urgent: int = 0, options: bytes | None = None, spoilt: tuple[str, ...] = (), words: int | None = None, **more: Any
+        self,
+        flags: int = ACK,
+        payload: bytes = b"",
+        number: int | None = None,
+        ack: int | None = None,
+        window: int | None = None,
+        urgent: int = 0,
+        options: bytes | None = None,
+        spoilt: tuple[str, ...] = (),
+        words: int | None = None,
+        **more: Any,
     ) -> None:
         """Sends a segment, and leaves the state as it is. Fields that aren't given are right;
         `words` is the length in the header, and `more` has the timestamp and its echo, and whether
@@ -85,7 +105,14 @@ class End:
         words = (20 + len(options)) // 4 if words is None else words
         numbers = self.port, self.to_port, number % 2**32, ack % 2**32
         head = struct.pack(">2H2I2B3H", *numbers, words << 4, flags, min(window, 65535), 0, urgent)
-        one = wire.frame(self.address, self.to_address, wire.TCP, head + options + payload, spoilt, macs=self.macs)
+        one = wire.frame(
+            self.address,
+            self.to_address,
+            wire.TCP,
+            head + options + payload,
+            spoilt,
+            macs=self.macs,
+        )
         self.room.sent(self, one, flags, payload, number, **more)
 
     def say(self, payload: bytes, flags: int = PSH | ACK, **more: Any) -> None:
@@ -101,7 +128,11 @@ class End:
         other = End(self.room, self.to_address, self.to_port, self.address, self.port)
         other.macs = wire.OUR_MAC + wire.HOST_MAC
         other.expected, other.its_scale, other.both_stamp = self.next, self.scale, self.both_stamp
-        other.next, other.clock, other.its_stamp = self.expected, self.its_stamp, self.clock + self.ticks
+        other.next, other.clock, other.its_stamp = (
+            self.expected,
+            self.its_stamp,
+            self.clock + self.ticks,
+        )
         return other
 
     # What is received.
@@ -113,7 +144,11 @@ class End:
             packet = self.wire.receive(wait)
             if packet is None:
                 return None
-            if packet.ports == (self.to_port, self.port) and packet.destination == self.address and packet.protocol == wire.TCP:
+            if (
+                packet.ports == (self.to_port, self.port)
+                and packet.destination == self.address
+                and packet.protocol == wire.TCP
+            ):
                 break
         self.seen.append(packet)
         self.take(packet)
@@ -133,7 +168,9 @@ class End:
             self.its_stamp = int.from_bytes(stamp[:4], "big")
         if packet.flags & ACK:
             self.acked = packet.ack
-            self.its_window = packet.window << (self.its_scale or 0 if not packet.flags & SYN else 0)
+            self.its_window = packet.window << (
+                self.its_scale or 0 if not packet.flags & SYN else 0
+            )
         if packet.flags & SYN or self.expected is None or packet.number != self.expected:
             return
         self.heard += packet.payload

@@ -21,7 +21,9 @@ def open_with(room: rooms.Room, end: End, payload: bytes, cookie: bytes | None =
     end.move(b"", SYN)
     answer = end.receive(LONG)
     expect(answer and answer.flags & SYN, "no SYN/ACK")
-    room.note(f"the kernel answered a SYN of number {end.first} with {len(payload)} bytes{' and a cookie' if cookie else ''} with {answer.words()}")
+    room.note(
+        f"the kernel answered a SYN of number {end.first} with {len(payload)} bytes{' and a cookie' if cookie else ''} with {answer.words()}"
+    )
     return answer
 
 
@@ -94,7 +96,10 @@ def syn_in_the_middle(room: rooms.Room) -> None:
     finish(room, end, talk, hello)
 
 
-@scene("a SYN in an open connection, with a hello for fake.test at the next place; then the real one", "RFC 5961, 4.2")
+@scene(
+    "a SYN in an open connection, with a hello for fake.test at the next place; then the real one",
+    "RFC 5961, 4.2",
+)
 def syn_with_data_in_the_middle(room: rooms.Room) -> None:
     end, talk, hello = begin(room)
     forge(room, end, "syn", "a SYN with data", other_name(hello), flags=SYN, number=end.next - 1)
@@ -107,8 +112,24 @@ def syn_with_data_in_the_middle(room: rooms.Room) -> None:
 )
 def syn_ack_with_data_in_the_middle(room: rooms.Room) -> None:
     end, talk, hello = begin(room)
-    forge(room, end, "syn", "a SYN/ACK with data", other_name(hello), flags=SYN | ACK, number=end.next - 1)
-    forge(room, end, "syn", "a SYN/ACK with data, elsewhere", other_name(hello), flags=SYN | ACK, number=end.next + 500_000_000)
+    forge(
+        room,
+        end,
+        "syn",
+        "a SYN/ACK with data",
+        other_name(hello),
+        flags=SYN | ACK,
+        number=end.next - 1,
+    )
+    forge(
+        room,
+        end,
+        "syn",
+        "a SYN/ACK with data, elsewhere",
+        other_name(hello),
+        flags=SYN | ACK,
+        number=end.next + 500_000_000,
+    )
     finish(room, end, talk, hello)
 
 
@@ -152,7 +173,9 @@ def second_syn_within_the_window(room: rooms.Room) -> None:
 def host_connects(room: rooms.Room, **more: Any) -> End:
     """The host's client sends its SYN, which is awaited."""
     port = rooms.OUR_SERVER_PORT + room.number
-    end = room.end(port=port, to_port=rooms.CLIENT_PORT + room.number, number=SERVERS_NUMBER, **more)
+    end = room.end(
+        port=port, to_port=rooms.CLIENT_PORT + room.number, number=SERVERS_NUMBER, **more
+    )
     room.client(port, from_port=end.to_port)
     return end
 
@@ -187,7 +210,10 @@ def simultaneous_open_servers_first(room: rooms.Room) -> None:
     serve(room, end, is_orig=True)
 
 
-@scene("the host's SYN, answered with a SYN without ACK; the host's SYN/ACK, and our ACK", "RFC 9293, 3.10.7.3")
+@scene(
+    "the host's SYN, answered with a SYN without ACK; the host's SYN/ACK, and our ACK",
+    "RFC 9293, 3.10.7.3",
+)
 def split_handshake(room: rooms.Room) -> None:
     end = host_connects(room)
     end.receive(LONG)
@@ -199,7 +225,10 @@ def split_handshake(room: rooms.Room) -> None:
     serve(room, end)
 
 
-@scene("the host's SYN, answered with an ACK, and then with a SYN; the host's SYN/ACK, and our ACK", "RFC 9293, 3.10.7.3")
+@scene(
+    "the host's SYN, answered with an ACK, and then with a SYN; the host's SYN/ACK, and our ACK",
+    "RFC 9293, 3.10.7.3",
+)
 def split_handshake_ack_apart(room: rooms.Room) -> None:
     end = host_connects(room)
     end.receive(LONG)
@@ -212,10 +241,15 @@ def split_handshake_ack_apart(room: rooms.Room) -> None:
     serve(room, end)
 
 
-@scene("the server of TLS opens the connection of TCP: the responder says the hello", "RFC 8446, 2: the client initiates the handshake")
+@scene(
+    "the server of TLS opens the connection of TCP: the responder says the hello",
+    "RFC 8446, 2: the client initiates the handshake",
+)
 def client_of_tls_accepts(room: rooms.Room) -> None:
     port = 45000
-    room.start(f"{Path(__file__).with_name('accepting_client')} {rooms.HOST[4]} {port} real.test", "client")
+    room.start(
+        f"{Path(__file__).with_name('accepting_client')} {rooms.HOST[4]} {port} real.test", "client"
+    )
     room.await_port(port)
     end = room.end(to_port=port)
     end.open()
@@ -275,17 +309,30 @@ def syn_and_its_answer_forged(room: rooms.Room) -> None:
     forged.send(SYN, number=number, is_delivered=False)
     room.sendings[-1]["why"] = "syn"
     end.send(ACK)
-    forge(room, end, "syn", "a SYN/ACK that answers the SYN", flags=SYN | ACK, number=answer, ack=number + 1)
+    forge(
+        room,
+        end,
+        "syn",
+        "a SYN/ACK that answers the SYN",
+        flags=SYN | ACK,
+        number=answer,
+        ack=number + 1,
+    )
     end.say(flight)
     talk.give(end.hear())
     close_served(room, end, talk.answer())
     room.lines[0]["dropped"] = {"orig": {"syn": 1}, "resp": {"syn": 1}}
 
 
-@scene("the host's SYN is answered with an ACK of old numbers; its RST, its SYN again, and the SYN/ACK", "RFC 9293, 3.10.7.3, first")
+@scene(
+    "the host's SYN is answered with an ACK of old numbers; its RST, its SYN again, and the SYN/ACK",
+    "RFC 9293, 3.10.7.3, first",
+)
 def stale_ack_to_a_syn(room: rooms.Room) -> None:
     end = host_connects(room)
     end.receive(LONG)
-    room.try_packet(end, "an ACK of old numbers", flags=ACK, number=3_000_000_000, ack=2_000_000_000)
+    room.try_packet(
+        end, "an ACK of old numbers", flags=ACK, number=3_000_000_000, ack=2_000_000_000
+    )
     end.accept()
     serve(room, end)

@@ -35,12 +35,22 @@ def fill(room: Room, end: End, what: str, hello: bytes, end_at: int, upto: int) 
     take(room, end, what, hello[:end_at], number=number, upto=number + upto)
 
 
-@scene("the real hello but its end, which is acknowledged; the same of fake.test; the end", "RFC 9293, 3.10.7.4, first")
+@scene(
+    "the real hello but its end, which is acknowledged; the same of fake.test; the end",
+    "RFC 9293, 3.10.7.4, first",
+)
 def overlap_after_the_acknowledgement(room: Room) -> None:
     end, talk, hello, other, _, behind = begin_both(room)
     number = end.next
     take(room, end, "the real front", hello[: behind + 10])
-    forge(room, end, "old", "the other front, when the real one is acknowledged", other[: behind + 10], number=number)
+    forge(
+        room,
+        end,
+        "old",
+        "the other front, when the real one is acknowledged",
+        other[: behind + 10],
+        number=number,
+    )
     finish(room, end, talk, hello[behind + 10 :], differing_bytes={"orig": 4})
 
 
@@ -56,7 +66,10 @@ def overlap_with_new_bytes(room: Room) -> None:
     finish(room, end, talk, differing_bytes={"orig": 4})
 
 
-@scene("the part with the name, and the same part of fake.test, both ahead; then the front. The first stands", NONE)
+@scene(
+    "the part with the name, and the same part of fake.test, both ahead; then the front. The first stands",
+    NONE,
+)
 def overlap_same_place(room: Room) -> None:
     end, talk, hello, other, place, behind = begin_both(room)
     wait(room, end, "the real name", hello, place, behind)
@@ -65,7 +78,10 @@ def overlap_same_place(room: Room) -> None:
     finish(room, end, talk, hello[behind:], differing_bytes={"orig": 4})
 
 
-@scene("a longer part around the name, and a shorter one of fake.test within it, both ahead; then the front. The first stands", NONE)
+@scene(
+    "a longer part around the name, and a shorter one of fake.test within it, both ahead; then the front. The first stands",
+    NONE,
+)
 def overlap_within(room: Room) -> None:
     end, talk, hello, other, place, behind = begin_both(room)
     wait(room, end, "the real name with 5 bytes around it", hello, place - 5, behind + 5)
@@ -74,7 +90,10 @@ def overlap_within(room: Room) -> None:
     finish(room, end, talk, hello[behind + 5 :], differing_bytes={"orig": 4})
 
 
-@scene("the name of fake.test, and a longer part around the real name, both ahead; then the front. The later one stands", NONE)
+@scene(
+    "the name of fake.test, and a longer part around the real name, both ahead; then the front. The later one stands",
+    NONE,
+)
 def overlap_around(room: Room) -> None:
     end, talk, hello, other, place, behind = begin_both(room)
     wait(room, end, "the other name", other, place, behind)
@@ -83,7 +102,10 @@ def overlap_around(room: Room) -> None:
     finish(room, end, talk, hello[behind + 5 :], differing_bytes={"orig": 4})
 
 
-@scene("the name of fake.test, and a part that begins there and is longer, both ahead; then the front. The later one stands", NONE)
+@scene(
+    "the name of fake.test, and a part that begins there and is longer, both ahead; then the front. The later one stands",
+    NONE,
+)
 def overlap_longer(room: Room) -> None:
     end, talk, hello, other, place, behind = begin_both(room)
     wait(room, end, "the other name", other, place, behind)
@@ -130,7 +152,10 @@ def overlap_to_behind(room: Room) -> None:
     finish(room, end, talk, hello[behind:], differing_bytes={"orig": 4})
 
 
-@scene("the name of fake.test ahead; then the real hello from its beginning, in order. The later one stands", NONE)
+@scene(
+    "the name of fake.test ahead; then the real hello from its beginning, in order. The later one stands",
+    NONE,
+)
 def overlap_in_order_around(room: Room) -> None:
     end, talk, hello, other, place, behind = begin_both(room)
     wait(room, end, "the other name", other, place, behind)
@@ -149,7 +174,10 @@ def overlap_in_order(room: Room) -> None:
     finish(room, end, talk, differing_bytes={"orig": 4})
 
 
-@scene("two parts of fake.test, ahead, and one of the real hello that covers both; then the front. The later one stands", NONE)
+@scene(
+    "two parts of fake.test, ahead, and one of the real hello that covers both; then the front. The later one stands",
+    NONE,
+)
 def overlap_around_two(room: Room) -> None:
     end, talk, hello, other, place, behind = begin_both(room)
     wait(room, end, "the front of the other name", other, place, place + 2)
@@ -171,7 +199,10 @@ def servers_overlap_in_order_around(room: Room) -> None:
     close_served(room, end, talk.answer(), differing_bytes={"resp": 1})
 
 
-@scene("the server's messages, which are acknowledged; the same with another suite", "RFC 9293, 3.10.7.4, first")
+@scene(
+    "the server's messages, which are acknowledged; the same with another suite",
+    "RFC 9293, 3.10.7.4, first",
+)
 def servers_overlap_after_the_acknowledgement(room: Room) -> None:
     end, talk, flight, other = begin_served(room)
     number = end.next

@@ -15,7 +15,17 @@ from pathlib import Path
 from typing import Any
 
 from tests.support import script
-from tests.recorders.evasions import acceptance, clients, endings, openings, overlaps, reopenings, room as rooms, sums, windows  # noqa: F401
+from tests.recorders.evasions import (  # noqa: F401
+    acceptance,
+    clients,
+    endings,
+    openings,
+    overlaps,
+    reopenings,
+    room as rooms,
+    sums,
+    windows,
+)
 from tests.recorders.evasions.common import SCENES, Scene
 
 
@@ -29,17 +39,34 @@ def make_keys(work: Path) -> None:
         subject = "real" if name == "large" else name
         words = f"openssl req -x509 -nodes -days 3650 -subj /CN={subject}.test -newkey ec -pkeyopt ec_paramgen_curve:P-256"
         words += f" -addext subjectAltName={NAMES}" if name == "large" else ""
-        subprocess.run(f"{words} -keyout {name}.key -out {name}.pem".split(), cwd=work, check=True, stderr=subprocess.DEVNULL)
+        subprocess.run(
+            f"{words} -keyout {name}.key -out {name}.pem".split(),
+            cwd=work,
+            check=True,
+            stderr=subprocess.DEVNULL,
+        )
 
 
-def play(one: Scene, number: int, work: Path, reasons: rooms.Reasons) -> tuple[bytes, dict[str, Any]]:
+def play(
+    one: Scene, number: int, work: Path, reasons: rooms.Reasons
+) -> tuple[bytes, dict[str, Any]]:
     """A scene's capture, and what is wanted of it."""
     room = rooms.Room(work, reasons, number, one.offloads)
     try:
         room.set(**one.settings)
         one.play(room)
-        drops = [{"packet": sent["place"], "why": sent["why"]} for sent in room.sendings if sent.get("why") and sent["is_recorded"]]
-        told = {"capture": f"{one.name}.pcap", "is": one.says, "rule": one.rule, "lines": room.lines, "dropped": drops}
+        drops = [
+            {"packet": sent["place"], "why": sent["why"]}
+            for sent in room.sendings
+            if sent.get("why") and sent["is_recorded"]
+        ]
+        told = {
+            "capture": f"{one.name}.pcap",
+            "is": one.says,
+            "rule": one.rule,
+            "lines": room.lines,
+            "dropped": drops,
+        }
         told |= {"host": room.told(), "seen": room.notes}
         return room.wire.pcap(), told
     except (RuntimeError, OSError) as reason:
@@ -61,11 +88,17 @@ def names() -> list[str]:
 def record(out: Path, chosen: list[str]) -> bool:
     script.enter_own_network("--mount")
     subprocess.run("mount -t sysfs nodev /sys".split(), check=True)
-    subprocess.run(f"mount -t tracefs nodev {rooms.TRACING}".split(), check=False, stderr=subprocess.DEVNULL)
+    subprocess.run(
+        f"mount -t tracefs nodev {rooms.TRACING}".split(), check=False, stderr=subprocess.DEVNULL
+    )
     rooms.prepare()
     reasons, wanted, failed = rooms.Reasons(), [], False
     file = out / "wanted.json"
-    had = {one["capture"]: one for one in json.loads(file.read_text())["captures"]} if file.exists() else {}
+    had = (
+        {one["capture"]: one for one in json.loads(file.read_text())["captures"]}
+        if file.exists()
+        else {}
+    )
     try:
         with tempfile.TemporaryDirectory() as room:
             make_keys(Path(room))
@@ -83,6 +116,10 @@ def record(out: Path, chosen: list[str]) -> bool:
                 wanted.append(with_why(told, had.get(told["capture"], {})))
     finally:
         reasons.close()
-    told = {"kernel": os.uname().release, "openssl": rooms.run("openssl version").strip(), "captures": wanted}
+    told = {
+        "kernel": os.uname().release,
+        "openssl": rooms.run("openssl version").strip(),
+        "captures": wanted,
+    }
     file.write_text(json.dumps(told, indent=1) + "\n")
     return not failed

@@ -14,7 +14,9 @@ NEXT = "next.test"
 TIME_WAIT = "06"
 
 
-def open_again(room: Room, end: End, ahead: int, is_recorded: bool = True, **more: Any) -> tuple[End, Analyzer, bytes]:
+def open_again(
+    room: Room, end: End, ahead: int, is_recorded: bool = True, **more: Any
+) -> tuple[End, Analyzer, bytes]:
     """Another connection between the same ports, for another name."""
     again = room.end(port=end.port, number=(end.next + ahead) % 2**32, **more)
     again.clock = end.clock + 100_000
@@ -121,7 +123,10 @@ def half_open_recovery_captured(room: Room) -> None:
     old, talk, hello = begin(room)
     old.say(hello)
     talk.finish()
-    lengths = {"orig_bytes": old.next - old.first - 1, "resp_bytes": (old.expected - old.its_first - 1) % 2**32}
+    lengths = {
+        "orig_bytes": old.next - old.first - 1,
+        "resp_bytes": (old.expected - old.its_first - 1) % 2**32,
+    }
     end = room.end(port=old.port, number=500_000_000)
     end.clock = old.clock + 100_000
     found = room.try_packet(end, "a SYN for the ports of a connection that the host has", flags=SYN)

@@ -34,7 +34,14 @@ WORDS = {
 
 
 def run(words: str, **more: Any) -> str:
-    return subprocess.run(words.split(), check=True, stdout=subprocess.PIPE, stderr=subprocess.STDOUT, text=True, **more).stdout
+    return subprocess.run(
+        words.split(),
+        check=True,
+        stdout=subprocess.PIPE,
+        stderr=subprocess.STDOUT,
+        text=True,
+        **more,
+    ).stdout
 
 
 def prepare() -> None:
@@ -46,7 +53,9 @@ def prepare() -> None:
     run(f"ip link set dev {wire.DEVICE} address 02:00:00:00:00:01 addrgenmode none up")
     for kind, length in ((4, 24), (6, 64)):
         run(f"ip -{kind} address add {HOST[kind]}/{length} dev {wire.DEVICE}")
-        run(f"ip -{kind} neighbour add {OURS[kind]} lladdr 02:00:00:00:00:02 dev {wire.DEVICE} nud permanent")
+        run(
+            f"ip -{kind} neighbour add {OURS[kind]} lladdr 02:00:00:00:00:02 dev {wire.DEVICE} nud permanent"
+        )
 
 
 def setting(name: str, value: object = None) -> str | None:
@@ -68,7 +77,10 @@ def counters() -> dict[str, int]:
         lines = Path("/proc/net", file).read_text().splitlines()
         for names, values in zip(lines[::2], lines[1::2]):
             group = names.split(":")[0]
-            found |= {f"{group} {name}": int(value) for name, value in zip(names.split()[1:], values.split()[1:])}
+            found |= {
+                f"{group} {name}": int(value)
+                for name, value in zip(names.split()[1:], values.split()[1:])
+            }
     return found
 
 
@@ -114,7 +126,9 @@ class Room:
         self.work, self.reasons, self.number = work, reasons, number
         self.wire = wire.Wire({FIRST_PORT, OUR_PORT + number, OUR_SERVER_PORT + number}, offloads)
         self.running, self.changed = [], {}
-        self.sendings = []  # Each packet that we sent: its place in the capture, words, and the kernel's reasons.
+        self.sendings = (
+            []
+        )  # Each packet that we sent: its place in the capture, words, and the kernel's reasons.
         self.notes = []
         self.lines = []
         self.began = counters()
@@ -130,22 +144,40 @@ class Room:
 
     def start(self, words: str, name: str) -> subprocess.Popen[bytes]:
         out = (self.work / f"{name}.out").open("w+")
-        process = subprocess.Popen(words.split(), cwd=self.work, stdin=subprocess.PIPE, stdout=out, stderr=subprocess.STDOUT)
+        process = subprocess.Popen(
+            words.split(),
+            cwd=self.work,
+            stdin=subprocess.PIPE,
+            stdout=out,
+            stderr=subprocess.STDOUT,
+        )
         self.running.append((process, out))
         return process
 
     def server(
-        self, more: str = "", port: int = SERVER_PORT, by_name: str = "-servername real.test -cert2 real.pem -key2 real.key",
+        self,
+        more: str = "",
+        port: int = SERVER_PORT,
+        by_name: str = "-servername real.test -cert2 real.pem -key2 real.key",
     ) -> subprocess.Popen[bytes]:
         """OpenSSL's server, which has another certificate for real.test."""
-        process = self.start(f"openssl s_server -accept {port} -cert other.pem -key other.key {by_name} {more}", "server")
+        process = self.start(
+            f"openssl s_server -accept {port} -cert other.pem -key other.key {by_name} {more}",
+            "server",
+        )
         self.await_port(port)
         return process
 
     def await_port(self, port: int) -> None:
         for _ in range(200):
-            listening = [line.split() for file in ("tcp", "tcp6") for line in Path("/proc/net", file).read_text().splitlines()[1:]]
-            if any(words[3] == "0A" and int(words[1].split(":")[1], 16) == port for words in listening):
+            listening = [
+                line.split()
+                for file in ("tcp", "tcp6")
+                for line in Path("/proc/net", file).read_text().splitlines()[1:]
+            ]
+            if any(
+                words[3] == "0A" and int(words[1].split(":")[1], 16) == port for words in listening
+            ):
                 return
             time.sleep(0.02)
         raise RuntimeError("no server")
@@ -159,9 +191,14 @@ class Room:
                     return words[3]
         return None
 
-    def client(self, port: int, more: str = "-tls1_2", from_port: int = CLIENT_PORT) -> subprocess.Popen[bytes]:
+    def client(
+        self, port: int, more: str = "-tls1_2", from_port: int = CLIENT_PORT
+    ) -> subprocess.Popen[bytes]:
         """OpenSSL's client, to our end."""
-        return self.start(f"openssl s_client -connect {OURS[4]}:{port} -bind {HOST[4]}:{from_port} -servername real.test {more}", "client")
+        return self.start(
+            f"openssl s_client -connect {OURS[4]}:{port} -bind {HOST[4]}:{from_port} -servername real.test {more}",
+            "client",
+        )
 
     def printed(self, name: str) -> str:
         return (self.work / f"{name}.out").read_text()
@@ -176,26 +213,44 @@ class Room:
 
     # Our ends.
 
-    def end(self, version: int = 4, port: int | None = None, to_port: int = SERVER_PORT, **more: Any) -> End:
+    def end(
+        self, version: int = 4, port: int | None = None, to_port: int = SERVER_PORT, **more: Any
+    ) -> End:
         port = port or OUR_PORT + self.number
         return End(self, OURS[version], port, HOST[version], to_port, **more)
 
-    def sent(self, end: object, frame: bytes, flags: int, payload: bytes, number: int, **way: bool) -> None:
+    def sent(
+        self, end: object, frame: bytes, flags: int, payload: bytes, number: int, **way: bool
+    ) -> None:
         place = self.wire.send(frame, **way)
         found = [reason for reason in self.reasons.read() if reason != "NOT_SPECIFIED"]
-        said = f"{wire.flag_names(flags)}, number {number % 2**32}" + (f", {len(payload)} bytes" if payload else "")
+        said = f"{wire.flag_names(flags)}, number {number % 2**32}" + (
+            f", {len(payload)} bytes" if payload else ""
+        )
         is_recorded = way.get("is_recorded", self.wire.records)
-        self.sendings.append({"end": end, "place": place, "packet": said, "reasons": found, "is_recorded": is_recorded})
+        self.sendings.append(
+            {
+                "end": end,
+                "place": place,
+                "packet": said,
+                "reasons": found,
+                "is_recorded": is_recorded,
+            }
+        )
 
     def try_packet(self, end: End, what: str, wait: float = 0.08, **more: Any) -> list[wire.Packet]:
         """Sends a segment of interest, and notes what the host said to it."""
         end.send(**more)
         said = self.sendings[-1]
         found = end.replies(wait)
-        said["answers"] = [f"{packet.name()} with data" if packet.payload else packet.name() for packet in found]
+        said["answers"] = [
+            f"{packet.name()} with data" if packet.payload else packet.name() for packet in found
+        ]
         answer = "; ".join(packet.words() for packet in found) or "nothing"
         dropped = f" dropped it ({', '.join(said['reasons'])}) and" if said["reasons"] else ""
-        self.note(f"{what} (packet {said['place']}: {said['packet']}): the kernel{dropped} answered with {answer}")
+        self.note(
+            f"{what} (packet {said['place']}: {said['packet']}): the kernel{dropped} answered with {answer}"
+        )
         return found
 
     def told(self) -> list[str]:
@@ -204,7 +259,13 @@ class Room:
         found = []
         for one in self.sendings:
             if "answers" in one:
-                did = ", ".join(one["reasons"]) or ("dropped" if one.get("why") else "taken" if one.get("taken") else "no reason told")
+                did = ", ".join(one["reasons"]) or (
+                    "dropped"
+                    if one.get("why")
+                    else "taken"
+                    if one.get("taken")
+                    else "no reason told"
+                )
                 found.append(f"{did}: {' and '.join(one['answers']) or 'no answer'}")
         return list(dict.fromkeys(found))
 
@@ -213,7 +274,9 @@ class Room:
 
     def counted(self) -> dict[str, int]:
         now = counters()
-        return {name: now[name] - had for name, had in self.began.items() if now.get(name, had) != had}
+        return {
+            name: now[name] - had for name, had in self.began.items() if now.get(name, had) != had
+        }
 
     def close(self) -> None:
         for process, out in self.running:

@@ -35,7 +35,10 @@ def checksum_of_tcp_wrong_ipv6(room: rooms.Room) -> None:
     finish(room, end, talk, hello)
 
 
-@scene("a hello for fake.test whose checksum is 0, which says nothing over TCP; then the real one", "RFC 9293, 3.1")
+@scene(
+    "a hello for fake.test whose checksum is 0, which says nothing over TCP; then the real one",
+    "RFC 9293, 3.1",
+)
 def checksum_of_tcp_zero(room: rooms.Room) -> None:
     end, talk, hello = begin(room)
     forge(room, end, "checksum", "a hello whose checksum is 0", other_name(hello), spoilt=("none",))
@@ -48,7 +51,14 @@ def checksum_of_tcp_zero(room: rooms.Room) -> None:
 )
 def checksum_of_tcp_partial(room: rooms.Room) -> None:
     end, talk, hello = begin(room)
-    forge(room, end, "checksum", "a hello of a partial checksum", other_name(hello), spoilt=("partial",))
+    forge(
+        room,
+        end,
+        "checksum",
+        "a hello of a partial checksum",
+        other_name(hello),
+        spoilt=("partial",),
+    )
     finish(room, end, talk, hello)
 
 
@@ -61,7 +71,15 @@ def checksums_wrong_first(room: rooms.Room) -> None:
     room.server()
     end = room.end()
     for number in (1, 2, 3):
-        forge(room, end, "checksum", "a SYN of a wrong checksum", flags=SYN, number=number * 1_000_000, spoilt=("sum",))
+        forge(
+            room,
+            end,
+            "checksum",
+            "a SYN of a wrong checksum",
+            flags=SYN,
+            number=number * 1_000_000,
+            spoilt=("sum",),
+        )
     end.open()
     talk = Analyzer(end)
     hello = talk.flight()
@@ -69,10 +87,20 @@ def checksums_wrong_first(room: rooms.Room) -> None:
     finish(room, end, talk, hello)
 
 
-@scene("a hello for fake.test in a packet of IPv4 whose header has a wrong checksum; then the real one", "RFC 791, 3.1; RFC 1122, 3.2.1.2")
+@scene(
+    "a hello for fake.test in a packet of IPv4 whose header has a wrong checksum; then the real one",
+    "RFC 791, 3.1; RFC 1122, 3.2.1.2",
+)
 def ipv4_header_checksum_wrong(room: rooms.Room) -> None:
     end, talk, hello = begin(room)
-    forge(room, end, "checksum", "a hello in a header of a wrong checksum", other_name(hello), spoilt=("ip",))
+    forge(
+        room,
+        end,
+        "checksum",
+        "a hello in a header of a wrong checksum",
+        other_name(hello),
+        spoilt=("ip",),
+    )
     finish(room, end, talk, hello)
 
 
@@ -103,7 +131,14 @@ def offloaded_checksums_but_of_answers(room: rooms.Room) -> None:
     end.receive(1)
     talk = Analyzer(end)
     hello = talk.flight()
-    forge(room, end, "ack", "a hello of a wrong acknowledgement", other_name(hello), ack=end.expected + 5000)
+    forge(
+        room,
+        end,
+        "ack",
+        "a hello of a wrong acknowledgement",
+        other_name(hello),
+        ack=end.expected + 5000,
+    )
     end.send(ACK)
     end.say(hello)
     talk.finish()
@@ -122,7 +157,9 @@ def offloaded_checksums_but_of_answers(room: rooms.Room) -> None:
 )
 def offloaded_checksums_of_client(room: rooms.Room) -> None:
     end, talk, flight, other = begin_served(room)
-    forge(room, end, "checksum", "the server's messages, of a wrong checksum", other, spoilt=("sum",))
+    forge(
+        room, end, "checksum", "the server's messages, of a wrong checksum", other, spoilt=("sum",)
+    )
     go_on(room, end, talk, flight)
     note_partial(room, end)
 
@@ -150,7 +187,9 @@ def tso_lengths_zero(room: rooms.Room) -> None:
     for time, one in room.wire.recorded:
         if len(one) > 1514:
             head = one[14:16] + b"\0\0" + one[18:24] + b"\0\0" + one[26:34]
-            one = one[:14] + head[:10] + struct.pack(">H", wire.checksum(head)) + head[12:] + one[34:]
+            one = (
+                one[:14] + head[:10] + struct.pack(">H", wire.checksum(head)) + head[12:] + one[34:]
+            )
         made.append((time, one))
     expect(made != room.wire.recorded, "none is long")
     room.wire.recorded = made
@@ -182,7 +221,9 @@ def gro_lengths(room: rooms.Room) -> None:
     packet = wire.parse(0, longest)
     front = wire.front_of_sum(packet.source, packet.destination, wire.TCP, len(longest) - 34)
     is_partial = wire.sum_of(front) == int.from_bytes(longest[50:52], "big")
-    room.note(f"the longest packet has {len(longest)} bytes, of {packet.source}; its checksum is {'partial' if is_partial else 'another'}")
+    room.note(
+        f"the longest packet has {len(longest)} bytes, of {packet.source}; its checksum is {'partial' if is_partial else 'another'}"
+    )
 
 
 def finish_large(room: rooms.Room) -> None:
@@ -205,10 +246,17 @@ def note_partial(room: rooms.Room, end: End, names: Iterable[str] = ()) -> None:
         packet = wire.parse(0, one)
         if packet.source == end.to_address:
             front = wire.front_of_sum(packet.source, packet.destination, wire.TCP, len(one) - 34)
-            found[wire.sum_of(front) == int.from_bytes(one[50:52], "big")].append((packet.name(), wire.sum_of(front, one[34:])))
-    expect(found[True] and sorted(name for name, _ in found[False]) == sorted(names), f"not partial: {found[False]}")
+            found[wire.sum_of(front) == int.from_bytes(one[50:52], "big")].append(
+                (packet.name(), wire.sum_of(front, one[34:]))
+            )
+    expect(
+        found[True] and sorted(name for name, _ in found[False]) == sorted(names),
+        f"not partial: {found[False]}",
+    )
     expect(all(total == 0xFFFF for _, total in found[False]), "a checksum is wrong")
-    room.note(f"{len(found[True])} of the host's checksums are the sum of the pseudo header, not complemented")
+    room.note(
+        f"{len(found[True])} of the host's checksums are the sum of the pseudo header, not complemented"
+    )
     if names:
         room.note(f"{len(names)} are right: {', '.join(name for name, _ in found[False])}")
 
@@ -251,7 +299,9 @@ class Relay:
         said = self.room.sendings[-1]
         said["why"] = "checksum"
         found = self.from_host(0.1)
-        self.room.note(f"{what}: the kernel dropped it ({', '.join(said['reasons'])}) and answered with {'a datagram' if found else 'nothing'}")
+        self.room.note(
+            f"{what}: the kernel dropped it ({', '.join(said['reasons'])}) and answered with {'a datagram' if found else 'nothing'}"
+        )
         expect(not found, "the host answered")
 
     def run(self, spoilt: tuple[str, ...] = ()) -> None:
@@ -281,22 +331,33 @@ class Relay:
 
 
 def serve_dtls(room: rooms.Room) -> None:
-    room.start(f"openssl s_server -dtls -accept {DTLS_PORT} -cert real.pem -key real.key -servername {REAL} -cert2 real.pem -key2 real.key", "server")
+    room.start(
+        f"openssl s_server -dtls -accept {DTLS_PORT} -cert real.pem -key real.key -servername {REAL} -cert2 real.pem -key2 real.key",
+        "server",
+    )
     expect(room.await_text("server", "ACCEPT"), "no server")
 
 
-@scene("DTLS: a datagram of a wrong checksum with a hello for fake.test; then the real one", "RFC 768; RFC 1122, 4.1.3.4")
+@scene(
+    "DTLS: a datagram of a wrong checksum with a hello for fake.test; then the real one",
+    "RFC 768; RFC 1122, 4.1.3.4",
+)
 def checksum_of_udp_wrong(room: rooms.Room) -> None:
     serve_dtls(room)
     relay = Relay(room)
     hello = relay.from_client()
-    relay.forge("a datagram of a wrong checksum", hello.replace(REAL.encode(), FAKE.encode()), ("sum",))
+    relay.forge(
+        "a datagram of a wrong checksum", hello.replace(REAL.encode(), FAKE.encode()), ("sum",)
+    )
     relay.send(hello)
     relay.run()
     relay.end()
 
 
-@scene("DTLS over IPv4, whose client sends no checksums: they are 0, and its datagrams are taken", "RFC 768; RFC 1122, 4.1.3.4")
+@scene(
+    "DTLS over IPv4, whose client sends no checksums: they are 0, and its datagrams are taken",
+    "RFC 768; RFC 1122, 4.1.3.4",
+)
 def checksum_of_udp_none(room: rooms.Room) -> None:
     serve_dtls(room)
     relay = Relay(room)
@@ -305,12 +366,17 @@ def checksum_of_udp_none(room: rooms.Room) -> None:
     relay.end()
 
 
-@scene("DTLS over IPv6: a datagram without a checksum, with a hello for fake.test; then the real one", "RFC 8200, 8.1")
+@scene(
+    "DTLS over IPv6: a datagram without a checksum, with a hello for fake.test; then the real one",
+    "RFC 8200, 8.1",
+)
 def checksum_of_udp_none_ipv6(room: rooms.Room) -> None:
     serve_dtls(room)
     relay = Relay(room, 6)
     hello = relay.from_client()
-    relay.forge("a datagram without a checksum", hello.replace(REAL.encode(), FAKE.encode()), ("none",))
+    relay.forge(
+        "a datagram without a checksum", hello.replace(REAL.encode(), FAKE.encode()), ("none",)
+    )
     relay.send(hello)
     relay.run()
     relay.end()

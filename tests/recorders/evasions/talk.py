@@ -19,8 +19,14 @@ class Analyzer:
     """The client or the server of a connection, over an end."""
 
     def __init__(
-        self, end: End, is_server: bool = False, name: str = REAL, version: ssl.TLSVersion = ssl.TLSVersion.TLSv1_2,
-        protocols: Iterable[str] = (), work: Path | None = None, certificate: str = "real",
+        self,
+        end: End,
+        is_server: bool = False,
+        name: str = REAL,
+        version: ssl.TLSVersion = ssl.TLSVersion.TLSv1_2,
+        protocols: Iterable[str] = (),
+        work: Path | None = None,
+        certificate: str = "real",
     ) -> None:
         context = ssl.SSLContext(ssl.PROTOCOL_TLS_SERVER if is_server else ssl.PROTOCOL_TLS_CLIENT)
         context.minimum_version = context.maximum_version = version
@@ -36,7 +42,12 @@ class Analyzer:
         self.incoming, self.outgoing = ssl.MemoryBIO(), ssl.MemoryBIO()
         if is_server:
             context.sni_callback = self.note_name
-        self.tls = context.wrap_bio(self.incoming, self.outgoing, server_side=is_server, server_hostname=None if is_server else name)
+        self.tls = context.wrap_bio(
+            self.incoming,
+            self.outgoing,
+            server_side=is_server,
+            server_hostname=None if is_server else name,
+        )
 
     def note_name(self, _: object, name: str | None, __: object) -> None:
         self.asked = name
@@ -68,7 +79,9 @@ class Analyzer:
                 return self
             heard = self.end.hear()
             if not heard:
-                raise RuntimeError(f"the host is silent, or closed, after {self.end.seen and self.end.seen[-1].words()}")
+                raise RuntimeError(
+                    f"the host is silent, or closed, after {self.end.seen and self.end.seen[-1].words()}"
+                )
             self.give(heard)
 
     def answer(self) -> Analyzer:

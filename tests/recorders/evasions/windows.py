@@ -46,7 +46,9 @@ def begin_small(room: Room) -> tuple[subprocess.Popen[bytes], End, Analyzer, byt
     return server, end, talk, hello, sent
 
 
-def go_on(room: Room, server: subprocess.Popen[bytes], end: End, talk: Analyzer, hello: bytes, sent: int) -> None:
+def go_on(
+    room: Room, server: subprocess.Popen[bytes], end: End, talk: Analyzer, hello: bytes, sent: int
+) -> None:
     """The server reads again, and the rest comes."""
     server.send_signal(signal.SIGCONT)
     while sent < len(hello):
@@ -69,7 +71,14 @@ def data_beyond_the_window_nearer(room: Room) -> None:
     other = other_protocol(hello)
     for more, what in ((1, "a byte behind the edge"), (0, "at the edge")):
         place = sent + end.its_window + more
-        forge(room, end, "window", f"the rest, from {what}", other[place : place + 1000], number=end.next + place - sent)
+        forge(
+            room,
+            end,
+            "window",
+            f"the rest, from {what}",
+            other[place : place + 1000],
+            number=end.next + place - sent,
+        )
     go_on(room, server, end, talk, hello, sent)
 
 
@@ -82,7 +91,14 @@ def data_partly_in_window(room: Room) -> None:
     server, end, talk, hello, sent = begin_small(room)
     other = other_protocol(hello)
     for place in (sent + end.its_window - 1, sent):
-        forge(room, end, "window", f"the rest, from {place - sent} behind the next number", other[place:][:1300], number=end.next + place - sent)
+        forge(
+            room,
+            end,
+            "window",
+            f"the rest, from {place - sent} behind the next number",
+            other[place:][:1300],
+            number=end.next + place - sent,
+        )
     go_on(room, server, end, talk, hello, sent)
 
 
@@ -121,10 +137,20 @@ def zero_window_probe(room: Room) -> None:
     go_on(room, server, end, talk, hello, sent)
 
 
-@scene("no side has a window scale: a byte 70,000 behind the next number; then the real hello", "RFC 7323, 2.2; RFC 9293, 3.10.7.4, first")
+@scene(
+    "no side has a window scale: a byte 70,000 behind the next number; then the real hello",
+    "RFC 7323, 2.2; RFC 9293, 3.10.7.4, first",
+)
 def data_beyond_the_window_without_scale(room: Room) -> None:
     end, talk, hello = begin(room, scale=None)
-    forge(room, end, "window", f"a byte beyond a window of {end.its_window}", b"\x16", number=end.next + 70_000)
+    forge(
+        room,
+        end,
+        "window",
+        f"a byte beyond a window of {end.its_window}",
+        b"\x16",
+        number=end.next + 70_000,
+    )
     finish(room, end, talk, hello)
 
 
@@ -135,7 +161,9 @@ def data_beyond_the_window_without_scale(room: Room) -> None:
 def data_beyond_the_window_opening_missing(room: Room) -> None:
     end, talk, hello = begin_before(room)
     forge(room, end, "window", "a byte beyond the window", b"\x16", number=end.next + 300_000)
-    room.note("the capture doesn't tell the window's scale: with the largest one the byte would be within it")
+    room.note(
+        "the capture doesn't tell the window's scale: with the largest one the byte would be within it"
+    )
     finish(room, end, talk, hello, orig_bytes=None, resp_bytes=None, gap=None, drops=False)
 
 
@@ -147,11 +175,28 @@ def data_beyond_the_window_one_side(room: Room) -> None:
     end, talk, hello = begin(room)
     for more in (300_000, 2_000_000_000):
         forge(room, end, "window", "a byte beyond the window", b"\x16", number=end.next + more)
-    only = {"version": ABSENT, "cipher": ABSENT, "cert_chain_fps": ABSENT, "ssl_history": "CGI", "resp_bytes": 0}
-    room.note("the numbers of packets are those before the host's were left out; the capture doesn't tell the window")
-    finish(room, end, talk, hello, **only | dict.fromkeys(("established", "outcome", "gap", "orig_bytes")), drops=False)
+    only = {
+        "version": ABSENT,
+        "cipher": ABSENT,
+        "cert_chain_fps": ABSENT,
+        "ssl_history": "CGI",
+        "resp_bytes": 0,
+    }
+    room.note(
+        "the numbers of packets are those before the host's were left out; the capture doesn't tell the window"
+    )
+    finish(
+        room,
+        end,
+        talk,
+        hello,
+        **only | dict.fromkeys(("established", "outcome", "gap", "orig_bytes")),
+        drops=False,
+    )
     room.wire.drain()
-    room.wire.recorded = [one for one in room.wire.recorded if wire.parse(0, one[1]).source == end.address]
+    room.wire.recorded = [
+        one for one in room.wire.recorded if wire.parse(0, one[1]).source == end.address
+    ]
     for place, sending in enumerate(room.sendings, 1):
         sending["place"] = place
 
@@ -164,14 +209,20 @@ def begin_before(room: Room) -> tuple[End, Analyzer, bytes]:
     return begun
 
 
-@scene("the capture begins with a keep-alive of one byte, in front of the real hello", "RFC 9293, 3.8.4")
+@scene(
+    "the capture begins with a keep-alive of one byte, in front of the real hello",
+    "RFC 9293, 3.8.4",
+)
 def keep_alive_first(room: Room) -> None:
     end, talk, hello = begin_before(room)
     forge(room, end, "old", "a keep-alive of one byte", b"\0", flags=ACK, number=end.next - 1)
     finish(room, end, talk, hello, orig_bytes=None, resp_bytes=None)
 
 
-@scene("the capture begins with a keep-alive without a byte, in front of the real hello", "RFC 9293, 3.8.4")
+@scene(
+    "the capture begins with a keep-alive without a byte, in front of the real hello",
+    "RFC 9293, 3.8.4",
+)
 def keep_alive_first_empty(room: Room) -> None:
     end, talk, hello = begin_before(room)
     forge(room, end, "old", "a keep-alive without a byte", flags=ACK, number=end.next - 1)
@@ -189,20 +240,37 @@ def keep_alive(room: Room) -> None:
     end.say(hello)
     talk.give(end.hear())
     answer = talk.flight()
-    forge(room, end, "old", "a keep-alive of one wrong byte", b"\x16", flags=ACK, number=end.next - 1)
-    forge(room, end, "old", "a byte 2 in front of the next", b"\x16", flags=ACK, number=end.next - 2)
+    forge(
+        room, end, "old", "a keep-alive of one wrong byte", b"\x16", flags=ACK, number=end.next - 1
+    )
+    forge(
+        room, end, "old", "a byte 2 in front of the next", b"\x16", flags=ACK, number=end.next - 2
+    )
     end.say(answer)
     finish(room, end, talk)
 
 
-@scene("the real hello with one urgent byte in it, at the pointer minus 1, which isn't of the stream", "RFC 6093, 3; RFC 9293, 3.8.5")
+@scene(
+    "the real hello with one urgent byte in it, at the pointer minus 1, which isn't of the stream",
+    "RFC 6093, 3; RFC 9293, 3.8.5",
+)
 def urgent_data(room: Room) -> None:
     end, talk, hello = begin(room)
-    take(room, end, "the hello with an urgent byte at 80", hello[:80] + MARK + hello[80:], flags=URG | PSH | ACK, urgent=81)
+    take(
+        room,
+        end,
+        "the hello with an urgent byte at 80",
+        hello[:80] + MARK + hello[80:],
+        flags=URG | PSH | ACK,
+        urgent=81,
+    )
     finish(room, end, talk, orig_bytes=None)
 
 
-@scene("an urgent byte in front of the real hello, with a pointer of 0, which Linux takes for the first byte", "none: Linux's own")
+@scene(
+    "an urgent byte in front of the real hello, with a pointer of 0, which Linux takes for the first byte",
+    "none: Linux's own",
+)
 def urgent_pointer_zero(room: Room) -> None:
     end, talk, hello = begin(room)
     take(room, end, "an urgent byte and the hello", MARK + hello, flags=URG | PSH | ACK, urgent=0)
@@ -215,7 +283,14 @@ def urgent_pointer_zero(room: Room) -> None:
 )
 def urgent_pointer_ahead(room: Room) -> None:
     end, talk, hello = begin(room)
-    take(room, end, "80 bytes of the hello, with a pointer to the byte at 100", hello[:80], flags=URG | PSH | ACK, urgent=101)
+    take(
+        room,
+        end,
+        "80 bytes of the hello, with a pointer to the byte at 100",
+        hello[:80],
+        flags=URG | PSH | ACK,
+        urgent=101,
+    )
     take(room, end, "the rest with that byte", hello[80:100] + MARK + hello[100:])
     finish(room, end, talk, orig_bytes=None)
 
@@ -226,8 +301,22 @@ def urgent_pointer_ahead(room: Room) -> None:
 )
 def urgent_data_twice(room: Room) -> None:
     end, talk, hello = begin(room)
-    take(room, end, "80 bytes of the hello and an urgent byte", hello[:80] + MARK, flags=URG | PSH | ACK, urgent=81)
-    take(room, end, "the rest with an urgent byte at 20", hello[80:100] + MARK + hello[100:], flags=URG | PSH | ACK, urgent=21)
+    take(
+        room,
+        end,
+        "80 bytes of the hello and an urgent byte",
+        hello[:80] + MARK,
+        flags=URG | PSH | ACK,
+        urgent=81,
+    )
+    take(
+        room,
+        end,
+        "the rest with an urgent byte at 20",
+        hello[80:100] + MARK + hello[100:],
+        flags=URG | PSH | ACK,
+        urgent=21,
+    )
     finish(room, end, talk, orig_bytes=None)
 
 
@@ -242,7 +331,21 @@ def urgent_data_twice_unread(room: Room) -> None:
     talk = Analyzer(end)
     hello = talk.flight()
     server.send_signal(signal.SIGSTOP)
-    take(room, end, "81 bytes of the hello, the last of them urgent", hello[:81], flags=URG | PSH | ACK, urgent=81)
-    take(room, end, "the rest with an urgent byte at 20", hello[81:101] + MARK + hello[101:], flags=URG | PSH | ACK, urgent=21)
+    take(
+        room,
+        end,
+        "81 bytes of the hello, the last of them urgent",
+        hello[:81],
+        flags=URG | PSH | ACK,
+        urgent=81,
+    )
+    take(
+        room,
+        end,
+        "the rest with an urgent byte at 20",
+        hello[81:101] + MARK + hello[101:],
+        flags=URG | PSH | ACK,
+        urgent=21,
+    )
     server.send_signal(signal.SIGCONT)
     finish(room, end, talk, orig_bytes=None)

@@ -71,7 +71,9 @@ class Packet:
     @property
     def end(self) -> int:
         """The number behind it."""
-        return (self.number + len(self.payload) + bool(self.flags & SYN) + bool(self.flags & FIN)) % 2**32
+        return (
+            self.number + len(self.payload) + bool(self.flags & SYN) + bool(self.flags & FIN)
+        ) % 2**32
 
     def option(self, kind: int) -> bytes | None:
         at = 0
@@ -97,7 +99,9 @@ class Packet:
 
 def flag_names(flags: int) -> str:
     names = {"F": "FIN", "S": "SYN", "R": "RST", "P": "PSH", "A": "ACK", "U": "URG"}
-    found = [names[letter] for bit, letter in enumerate(LETTERS) if flags >> bit & 1 and letter != "P"]
+    found = [
+        names[letter] for bit, letter in enumerate(LETTERS) if flags >> bit & 1 and letter != "P"
+    ]
     return "/".join(sorted(found, key=["SYN", "RST", "FIN", "URG", "ACK"].index)) or "no flag"
 
 
@@ -118,15 +122,33 @@ def parse(stamp: int, frame: bytes) -> Packet | None:
         return Packet(stamp, source, destination, protocol, ports, payload=frame[at + 8 : end])
     if protocol != TCP:
         return None
-    one, other, number, ack, offset, flags, window, _, urgent = struct.unpack(">2H2I2B3H", frame[at : at + 20])
+    one, other, number, ack, offset, flags, window, _, urgent = struct.unpack(
+        ">2H2I2B3H", frame[at : at + 20]
+    )
     data = at + 4 * (offset >> 4)
     return Packet(
-        stamp, source, destination, protocol, (one, other), number, ack, flags, window, urgent, frame[at + 20 : data], frame[data:end]
+        stamp,
+        source,
+        destination,
+        protocol,
+        (one, other),
+        number,
+        ack,
+        flags,
+        window,
+        urgent,
+        frame[at + 20 : data],
+        frame[data:end],
     )
 
 
 def frame(
-    source: Address, destination: Address, protocol: int, upper: bytes, spoilt: tuple[str, ...] = (), place: int = 16,
+    source: Address,
+    destination: Address,
+    protocol: int,
+    upper: bytes,
+    spoilt: tuple[str, ...] = (),
+    place: int = 16,
     macs: bytes = HOST_MAC + OUR_MAC,
 ) -> bytes:
     """Returns a frame around a segment, to the host if no other Ethernet addresses are given. Its
@@ -136,12 +158,24 @@ def frame(
     if "none" not in spoilt:
         value = checksum(front_of_sum(source, destination, protocol, len(upper)), upper)
         value ^= 0x5555 if "sum" in spoilt else 0
-        value = sum_of(front_of_sum(source, destination, protocol, len(upper))) if "partial" in spoilt else value
+        value = (
+            sum_of(front_of_sum(source, destination, protocol, len(upper)))
+            if "partial" in spoilt
+            else value
+        )
         upper = upper[:place] + struct.pack(">H", value or 0xFFFF) + upper[place + 2 :]
     if source.version == 6:
-        ip = struct.pack(">IHBB", 6 << 28, len(upper), protocol, 64) + source.packed + destination.packed
+        ip = (
+            struct.pack(">IHBB", 6 << 28, len(upper), protocol, 64)
+            + source.packed
+            + destination.packed
+        )
         return macs + b"\x86\xdd" + ip + upper
-    ip = struct.pack(">BBHHHBBH", 0x45, 0, 20 + len(upper), 0, 0x4000, 64, protocol, 0) + source.packed + destination.packed
+    ip = (
+        struct.pack(">BBHHHBBH", 0x45, 0, 20 + len(upper), 0, 0x4000, 64, protocol, 0)
+        + source.packed
+        + destination.packed
+    )
     value = checksum(ip) ^ (0x5555 if "ip" in spoilt else 0)
     return macs + b"\x08\x00" + ip[:10] + struct.pack(">H", value) + ip[12:] + upper
 
@@ -162,7 +196,9 @@ class Wire:
         self.front, self.watch = 0, None
         if offloads:
             self.front = FRONT
-            self.watch = socket.socket(socket.AF_PACKET, socket.SOCK_RAW, socket.htons(ALL_PROTOCOLS))
+            self.watch = socket.socket(
+                socket.AF_PACKET, socket.SOCK_RAW, socket.htons(ALL_PROTOCOLS)
+            )
             self.watch.bind((device, 0))
             self.watch.setblocking(False)
         fcntl.ioctl(self.file, TUNSETOFFLOAD, OFFLOADS if offloads else 0)

@@ -7,7 +7,18 @@ from __future__ import annotations
 
 from dataclasses import replace
 
-from tests.recorders.evasions_tls.dtls import ALERT, CHANGE, CLIENT_KEYS, DATA, DONE, HANDSHAKE, HELLO, Message, Record, renamed
+from tests.recorders.evasions_tls.dtls import (
+    ALERT,
+    CHANGE,
+    CLIENT_KEYS,
+    DATA,
+    DONE,
+    HANDSHAKE,
+    HELLO,
+    Message,
+    Record,
+    renamed,
+)
 
 AHEAD = 20  # Within the window of 64 records (4.1.2.6), so that no true record falls out of it.
 JUNK = bytes.fromhex("de ad be ef 5a 3c c3 a5 01 02 03 04 05 06 07 08 09 0a 0b 0c")
@@ -80,7 +91,13 @@ def future_message(datagram: bytes, record: Record, message: Message) -> list[by
     """in front a ClientKeyExchange or ServerHelloDone whose message_seq is 7 ahead (4.2.2)"""
     kind = CLIENT_KEYS if message.kind == HELLO else DONE
     body = b"" if kind == DONE else bytes([4, 1, 2, 3, 4])
-    return [later(record, replace(message, kind=kind, number=message.number + 7, length=len(body), body=body)).bytes(), datagram]
+    return [
+        later(
+            record,
+            replace(message, kind=kind, number=message.number + 7, length=len(body), body=body),
+        ).bytes(),
+        datagram,
+    ]
 
 
 def future_hello(datagram: bytes, record: Record, message: Message) -> list[bytes]:
@@ -106,7 +123,10 @@ def next_message(datagram: bytes, record: Record, message: Message) -> list[byte
 def unbegun_epoch(datagram: bytes, record: Record, message: Message) -> list[bytes]:
     """records of handshake and data of the epochs 1, 2 and 5 with random bytes, in front and behind
     (4.1)"""
-    made = [Record(kind, epoch, 0, JUNK * 3).bytes() for kind, epoch in ((HANDSHAKE, 1), (DATA, 1), (HANDSHAKE, 2), (DATA, 5))]
+    made = [
+        Record(kind, epoch, 0, JUNK * 3).bytes()
+        for kind, epoch in ((HANDSHAKE, 1), (DATA, 1), (HANDSHAKE, 2), (DATA, 5))
+    ]
     return [*made, datagram, *made]
 
 
@@ -129,7 +149,9 @@ def change_behind(datagram: bytes, record: Record, message: Message) -> list[byt
 def in_halves(record: Record, message: Message) -> tuple[Record, Record]:
     """Two records of the two halves of a message."""
     middle = len(message.body) // 2
-    second = replace(record, number=record.number + AHEAD + 2).of(message.part(middle, len(message.body)))
+    second = replace(record, number=record.number + AHEAD + 2).of(
+        message.part(middle, len(message.body))
+    )
     return later(record, message.part(0, middle)), second
 
 
@@ -156,7 +178,11 @@ def halves(datagram: bytes, record: Record, message: Message) -> list[bytes]:
 def halves_other_type(datagram: bytes, record: Record, message: Message) -> list[bytes]:
     """the message in two fragments; between them the second one with another type (4.2.3)"""
     one, two = in_halves(record, message)
-    return [one.bytes(), changed(one, kind=CLIENT_KEYS, **second_half(two)), two.bytes() + rest(datagram, record)]
+    return [
+        one.bytes(),
+        changed(one, kind=CLIENT_KEYS, **second_half(two)),
+        two.bytes() + rest(datagram, record),
+    ]
 
 
 def halves_other_type_first(datagram: bytes, record: Record, message: Message) -> list[bytes]:
@@ -169,37 +195,78 @@ def halves_other_length(datagram: bytes, record: Record, message: Message) -> li
     """the message in two fragments; between them the second one with a message's length that is 10
     more (4.2.3)"""
     one, two = in_halves(record, message)
-    return [one.bytes(), changed(one, length=message.length + 10, **second_half(two)), two.bytes() + rest(datagram, record)]
+    return [
+        one.bytes(),
+        changed(one, length=message.length + 10, **second_half(two)),
+        two.bytes() + rest(datagram, record),
+    ]
 
 
 def halves_other_length_first(datagram: bytes, record: Record, message: Message) -> list[bytes]:
     """the message in two fragments; in front of them the first one with a message's length that is
     10 more (4.2.3)"""
     one, two = in_halves(record, message)
-    return [changed(one, length=message.length + 10), one.bytes(), two.bytes() + rest(datagram, record)]
+    return [
+        changed(one, length=message.length + 10),
+        one.bytes(),
+        two.bytes() + rest(datagram, record),
+    ]
 
 
 def halves_other_bytes(datagram: bytes, record: Record, message: Message) -> list[bytes]:
     """the message in two fragments; between them the second one with zeros (4.2.3)"""
     one, two = in_halves(record, message)
-    return [one.bytes(), changed(one, offset=two.message().offset, body=bytes(len(two.message().body))), two.bytes() + rest(datagram, record)]
+    return [
+        one.bytes(),
+        changed(one, offset=two.message().offset, body=bytes(len(two.message().body))),
+        two.bytes() + rest(datagram, record),
+    ]
 
 
 def fragment_beyond(datagram: bytes, record: Record, message: Message) -> list[bytes]:
     """in front a fragment of 40 bytes that begins 4 bytes before the message's end (4.2.2)"""
-    return [later(record, replace(message, offset=message.length - 4, body=message.body[:40])).bytes(), datagram]
+    return [
+        later(record, replace(message, offset=message.length - 4, body=message.body[:40])).bytes(),
+        datagram,
+    ]
 
 
 def other_version(datagram: bytes, record: Record, message: Message) -> list[bytes]:
     """in front a hello in a record of TLS 1.2's version, 0x0303 (4.1)"""
-    return [replace(record, version=0x0303, number=record.number + AHEAD).of(other(message)).bytes(), datagram]
+    return [
+        replace(record, version=0x0303, number=record.number + AHEAD).of(other(message)).bytes(),
+        datagram,
+    ]
 
 
 ALL = {
-    made.__name__: made for made in (
-        junk_behind, junk_alone, cut_behind, cut_alone, cut_in_header, in_two_datagrams, empty_alone, empty_in_front, empty_datagram,
-        future_message, future_hello, repeated_record, repeated_message, next_message, unbegun_epoch, unbegun_epoch_plain, change_in_front,
-        change_behind, halves, halves_other_type, halves_other_type_first, halves_other_length, halves_other_length_first,
-        halves_other_bytes, fragment_beyond, other_version,
+    made.__name__: made
+    for made in (
+        junk_behind,
+        junk_alone,
+        cut_behind,
+        cut_alone,
+        cut_in_header,
+        in_two_datagrams,
+        empty_alone,
+        empty_in_front,
+        empty_datagram,
+        future_message,
+        future_hello,
+        repeated_record,
+        repeated_message,
+        next_message,
+        unbegun_epoch,
+        unbegun_epoch_plain,
+        change_in_front,
+        change_behind,
+        halves,
+        halves_other_type,
+        halves_other_type_first,
+        halves_other_length,
+        halves_other_length_first,
+        halves_other_bytes,
+        fragment_beyond,
+        other_version,
     )
 }

@@ -45,11 +45,19 @@ class Version(Identity):
 def did(server: str, by_server: str, client: str, by_client: str) -> dict[str, str]:
     return {
         "client": "completed" if datagrams.IS_DONE[client] in by_client else said.fault(by_client),
-        "server": "completed" if "CIPHER is" in by_server or "hello from the client" in by_client + by_server else said.fault(by_server),
+        "server": "completed"
+        if "CIPHER is" in by_server or "hello from the client" in by_client + by_server
+        else said.fault(by_server),
     }
 
 
-def full(segments: list[packets.Segment], port: int, of: str, more: Line | None = None, left: Collection[str] = ()) -> Line:
+def full(
+    segments: list[packets.Segment],
+    port: int,
+    of: str,
+    more: Line | None = None,
+    left: Collection[str] = (),
+) -> Line:
     """The line of a handshake that both carried through, by tshark."""
     found = datagrams.line_of(segments, port)
     fields = {field: value for field, value in found.items() if field not in left} | (more or {})
@@ -64,7 +72,9 @@ def full(segments: list[packets.Segment], port: int, of: str, more: Line | None 
 def lost(work: Path, folder: Path, peer: str) -> tuple[Path, list[Line], Line]:
     """Of a capture that began late the first hello and its HelloVerifyRequest are missing."""
     file = folder / f"dtls_first_messages_lost_{peer}.pcap"
-    by_server, by_client = datagrams.run(work, file, OPENSSL, peer, dtls.Relay(Identity()), SERVER_PORT)
+    by_server, by_client = datagrams.run(
+        work, file, OPENSSL, peer, dtls.Relay(Identity()), SERVER_PORT
+    )
     seen = did(OPENSSL, by_server, peer, by_client)
     segments = packets.read(file.read_bytes())[2:]
     file.write_bytes(packets.pcap([(one.time, one.frame()) for one in segments]))
@@ -108,7 +118,9 @@ def second(work: Path, folder: Path, way: str) -> tuple[Path, list[Line], Line]:
         time.sleep(0.5)
         parts = []
         for turn, name in enumerate((FIRST, SECOND)):
-            more = "-cipher ECDHE-RSA-AES128-GCM-SHA256" if way == "broken_off" and turn == 0 else ""
+            more = (
+                "-cipher ECDHE-RSA-AES128-GCM-SHA256" if way == "broken_off" and turn == 0 else ""
+            )
             client = peers.Peer(work, client_of(name, more), f"client{turn}")
             client.waits_for([datagrams.IS_DONE[OPENSSL], ":error:"], 5)
             time.sleep(0.1)
@@ -126,10 +138,15 @@ def second(work: Path, folder: Path, way: str) -> tuple[Path, list[Line], Line]:
             time.sleep(0.2)
         server.kill()
     is_done = [datagrams.IS_DONE[OPENSSL] in text for _, text in parts]
-    seen = {"first": "completed" if is_done[0] else said.fault(parts[0][1]), "second": "completed" if is_done[1] else said.fault(parts[1][1])}
+    seen = {
+        "first": "completed" if is_done[0] else said.fault(parts[0][1]),
+        "second": "completed" if is_done[1] else said.fault(parts[1][1]),
+    }
     border = parts[0][0] * 1_000_000
     segments = packets.read(file.read_bytes())
-    halves = [one for one in segments if one.time <= border], [one for one in segments if one.time > border]
+    halves = [one for one in segments if one.time <= border], [
+        one for one in segments if one.time > border
+    ]
     lines = []
     for name, half, done in zip((FIRST, SECOND), halves, is_done):
         if done:
@@ -140,16 +157,28 @@ def second(work: Path, folder: Path, way: str) -> tuple[Path, list[Line], Line]:
             found = datagrams.line_of(half, SERVER_PORT)
             kept = "id.orig_h id.orig_p id.resp_h id.resp_p proto server_name established last_alert outcome".split()
             absent = [field for field in ["last_alert"] if field not in found]
-            line = said.line({field: found[field] for field in kept if field in found}, absent, {"tshark, of its datagrams alone": kept})
+            line = said.line(
+                {field: found[field] for field in kept if field in found},
+                absent,
+                {"tshark, of its datagrams alone": kept},
+            )
         lines.append(line)
     return file, lines, seen
 
 
 def captures() -> dict[str, Callable[[Path, Path], tuple[Path, list[Line], Line]]]:
-    found = {f"dtls_first_messages_lost_{peer}": lambda work, folder, peer=peer: lost(work, folder, peer) for peer in (OPENSSL, GNUTLS)}
+    found = {
+        f"dtls_first_messages_lost_{peer}": lambda work, folder, peer=peer: lost(work, folder, peer)
+        for peer in (OPENSSL, GNUTLS)
+    }
     for side in (CLIENT, SERVER):
         for number in VERSIONS:
-            found[f"dtls_version_{number:04x}_{side}"] = lambda work, folder, of=(side, number): version(work, folder, *of)
+            found[f"dtls_version_{number:04x}_{side}"] = lambda work, folder, of=(
+                side,
+                number,
+            ): version(work, folder, *of)
     for way in ("closed", "broken_off", "silent", "restarted", "closed_gnutls", "silent_gnutls"):
-        found[f"dtls_second_association_{way}"] = lambda work, folder, way=way: second(work, folder, way)
+        found[f"dtls_second_association_{way}"] = lambda work, folder, way=way: second(
+            work, folder, way
+        )
     return found

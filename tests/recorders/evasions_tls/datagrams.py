@@ -12,7 +12,14 @@ from tests.recorders import peers
 from tests.oracle import wanted
 from tests.support import packets
 from tests.recorders.evasions_tls import around, dtls, said
-from tests.recorders.evasions_tls.dtls import CLIENT, HELLO, RELAY_PORT, SERVER, SERVER_HELLO, SERVER_PORT
+from tests.recorders.evasions_tls.dtls import (
+    CLIENT,
+    HELLO,
+    RELAY_PORT,
+    SERVER,
+    SERVER_HELLO,
+    SERVER_PORT,
+)
 from tests.support.shapes import Line
 
 OPENSSL, GNUTLS = "openssl", "gnutls"
@@ -32,18 +39,35 @@ HAS_FAILED = ["errno=", ":error:", "Fatal error", "failed"]
 # Where both peers carry the handshake through in spite of it, the capture has GnuTLS's client, else
 # OpenSSL's; the server is OpenSSL's.
 ENDS_GNUTLS = {
-    "cut_alone", "cut_in_header", "empty_datagram", "halves_other_type_first", "halves_other_length", "halves_other_length_first",
-    "halves_other_bytes", "other_version",
+    "cut_alone",
+    "cut_in_header",
+    "empty_datagram",
+    "halves_other_type_first",
+    "halves_other_length",
+    "halves_other_length_first",
+    "halves_other_bytes",
+    "other_version",
 }
 STORED = [
     *((name, CLIENT, OPENSSL) for name in around.ALL),
     *((name, SERVER, OPENSSL if name in ENDS_GNUTLS else GNUTLS) for name in around.ALL),
-    *((name, SERVER, OPENSSL) for name in ("in_two_datagrams", "change_in_front", "change_behind", "next_message", "fragment_beyond")),
+    *(
+        (name, SERVER, OPENSSL)
+        for name in (
+            "in_two_datagrams",
+            "change_in_front",
+            "change_behind",
+            "next_message",
+            "fragment_beyond",
+        )
+    ),
     *((name, SERVER, GNUTLS) for name in ("cut_alone", "other_version")),
     ("fragment_beyond", CLIENT, GNUTLS),
 ]
 # The fields that count what was captured: what a peer drops counts there too, or doesn't.
-COUNTS = {f"{side}_{what}" for side in ("orig", "resp") for what in ("pkts", "bytes", "records")} | {"duration"}
+COUNTS = {
+    f"{side}_{what}" for side in ("orig", "resp") for what in ("pkts", "bytes", "records")
+} | {"duration"}
 
 
 class Rule:
@@ -55,7 +79,11 @@ class Rule:
     def __call__(self, sender: str, datagram: bytes) -> list[bytes]:
         if sender == self.side and not self.is_placed:
             for record, message in dtls.messages(datagram)[:1]:
-                if (message.kind, message.number) == (HELLO, 1) if sender == CLIENT else message.kind == SERVER_HELLO:
+                if (
+                    (message.kind, message.number) == (HELLO, 1)
+                    if sender == CLIENT
+                    else message.kind == SERVER_HELLO
+                ):
                     self.is_placed = True
                     return self.place(datagram, record, message)
         return [datagram]
@@ -71,13 +99,21 @@ class Placed:
         """Whether the next part is where the datagram was taken: the one that has it, or where it
         was cut into fragments the last one, or the one that was answered."""
         part = self.left.pop(0)
-        if self.is_taken or not (self.datagram in part or (not any(self.datagram in other for other in self.left) and (is_answered or not self.left))):
+        if self.is_taken or not (
+            self.datagram in part
+            or (
+                not any(self.datagram in other for other in self.left)
+                and (is_answered or not self.left)
+            )
+        ):
             return False
         self.is_taken = True
         return True
 
 
-def untouched(segments: list[packets.Segment], handed: list[tuple[str, bytes, list[bytes]]], side: str) -> list[packets.Segment]:
+def untouched(
+    segments: list[packets.Segment], handed: list[tuple[str, bytes, list[bytes]]], side: str
+) -> list[packets.Segment]:
     """Returns the segments with the original datagrams in place of those that the relay sent for
     them."""
     found, waiting = [], {CLIENT: [], SERVER: []}
@@ -119,16 +155,29 @@ def line_of(segments: list[packets.Segment], port: int) -> Line:
     return found
 
 
-def wanted_of(segments: list[packets.Segment], handed: list[tuple[str, bytes, list[bytes]]], side: str, seen: Line) -> list[Line]:
+def wanted_of(
+    segments: list[packets.Segment],
+    handed: list[tuple[str, bytes, list[bytes]]],
+    side: str,
+    seen: Line,
+) -> list[Line]:
     """Returns the expected lines: if both sides completed the handshake, the line of the datagrams
     that they took; else the fields that are certain all the same."""
     port = SERVER_PORT if side == CLIENT else RELAY_PORT
     taken = without_repeats(untouched(segments, handed, side))
     found = line_of(taken, port)
-    ends = {field: found[field] for field in ("id.orig_h", "id.orig_p", "id.resp_h", "id.resp_p", "proto")}
+    ends = {
+        field: found[field]
+        for field in ("id.orig_h", "id.orig_p", "id.resp_h", "id.resp_p", "proto")
+    }
     if seen["client"] == seen["server"] == "completed":
         fields = {field: value for field, value in found.items() if field not in COUNTS}
-        certain = {"server_name": NAME, "version": "DTLSv12", "established": True, "outcome": "full"}
+        certain = {
+            "server_name": NAME,
+            "version": "DTLSv12",
+            "established": True,
+            "outcome": "full",
+        }
         if any(found[field] != value for field, value in certain.items()):
             raise ValueError(f"tshark has other fields: {found}")
         others = [field for field in fields if field not in (*certain, *ends)]
@@ -144,7 +193,15 @@ def wanted_of(segments: list[packets.Segment], handed: list[tuple[str, bytes, li
     return [said.line(fields, [], sources)]
 
 
-def run(work: Path, file: Path, server: str, client: str, relay: dtls.Relay, port: int, words: bytes = b"hello from the client\n") -> tuple[str, str]:
+def run(
+    work: Path,
+    file: Path,
+    server: str,
+    client: str,
+    relay: dtls.Relay,
+    port: int,
+    words: bytes = b"hello from the client\n",
+) -> tuple[str, str]:
     """One connection. Gives what the server and the client printed, and whether the client's
     handshake was completed."""
     with peers.Dump(file, f"udp port {port}"):
@@ -162,7 +219,9 @@ def run(work: Path, file: Path, server: str, client: str, relay: dtls.Relay, por
     return other.said(), own.said()
 
 
-def record(work: Path, folder: Path, name: str, side: str, peer: str) -> tuple[Path, list[Line], Line]:
+def record(
+    work: Path, folder: Path, name: str, side: str, peer: str
+) -> tuple[Path, list[Line], Line]:
     """Records one, and gives its file, the wanted lines, and what the peers did."""
     file = folder / f"dtls_{side}_{name}_{peer}.pcap"
     server, client = (peer, OPENSSL) if side == CLIENT else (OPENSSL, peer)
@@ -171,7 +230,9 @@ def record(work: Path, folder: Path, name: str, side: str, peer: str) -> tuple[P
     by_server, by_client = run(work, file, server, client, relay, port)
     seen = {
         "client": "completed" if IS_DONE[client] in by_client else said.fault(by_client),
-        "server": "completed" if "CIPHER is" in by_server or "hello from the client" in by_client + by_server else said.fault(by_server),
+        "server": "completed"
+        if "CIPHER is" in by_server or "hello from the client" in by_client + by_server
+        else said.fault(by_server),
         "name": said.host(by_server),
         "data": "hello from the client" in (by_server if server == OPENSSL else by_client),
     }
@@ -183,4 +244,9 @@ def record(work: Path, folder: Path, name: str, side: str, peer: str) -> tuple[P
 
 
 def captures() -> dict[str, Callable[[Path, Path], tuple[Path, list[Line], Line]]]:
-    return {f"dtls_{side}_{name}_{peer}": lambda work, folder, of=(name, side, peer): record(work, folder, *of) for name, side, peer in STORED}
+    return {
+        f"dtls_{side}_{name}_{peer}": lambda work, folder, of=(name, side, peer): record(
+            work, folder, *of
+        )
+        for name, side, peer in STORED
+    }

@@ -38,7 +38,9 @@ class Record:
         at = self.fragment
         if self.kind != HANDSHAKE or self.epoch or len(at) < 12:
             return None
-        length, number, offset = (int.from_bytes(part, "big") for part in (at[1:4], at[4:6], at[6:9]))
+        length, number, offset = (
+            int.from_bytes(part, "big") for part in (at[1:4], at[4:6], at[6:9])
+        )
         return Message(at[0], length, number, offset, at[12:])
 
     def of(self, message: Message) -> Record:
@@ -57,7 +59,13 @@ class Message:
     body: bytes
 
     def bytes(self) -> bytes:
-        parts = ((self.kind, 1), (self.length, 3), (self.number, 2), (self.offset, 3), (len(self.body), 3))
+        parts = (
+            (self.kind, 1),
+            (self.length, 3),
+            (self.number, 2),
+            (self.offset, 3),
+            (len(self.body), 3),
+        )
         return b"".join(value.to_bytes(count, "big") for value, count in parts) + self.body
 
     def part(self, begin: int, end: int) -> Message:
@@ -69,7 +77,9 @@ def records(datagram: bytes) -> list[Record]:
     while at + 13 <= len(datagram):
         head = datagram[at : at + 13]
         end = at + 13 + int.from_bytes(head[11:13], "big")
-        version, epoch, number = (int.from_bytes(part, "big") for part in (head[1:3], head[3:5], head[5:11]))
+        version, epoch, number = (
+            int.from_bytes(part, "big") for part in (head[1:3], head[3:5], head[5:11])
+        )
         found.append(Record(head[0], epoch, number, datagram[at + 13 : end], version))
         at = end
     return found

@@ -14,7 +14,11 @@ ALERT = 21
 def fault(text: str) -> str:
     """The last line with a fault."""
     of_keys = "verify error|Verif|[*]{3} PKI"  # About certificates without a trusted issuer.
-    lines = [line for line in text.splitlines() if re.search("rror|alert (read|write):fatal|fail", line) and not re.match(of_keys, line)]
+    lines = [
+        line
+        for line in text.splitlines()
+        if re.search("rror|alert (read|write):fatal|fail", line) and not re.match(of_keys, line)
+    ]
     return re.sub("^[0-9A-F]{8,}:", "", lines[-1]) if lines else "silent"
 
 
@@ -32,11 +36,18 @@ def alerts(segments: list[packets.Segment]) -> list[tuple[int, ...]]:
         at, bytes_ = 0, one.payload
         while at + 13 <= len(bytes_):
             length = int.from_bytes(bytes_[at + 11 : at + 13], "big")
-            if bytes_[at] == ALERT and bytes_[at + 1] == 0xFE and bytes_[at + 3 : at + 5] == b"\0\0" and length == 2:
+            if (
+                bytes_[at] == ALERT
+                and bytes_[at + 1] == 0xFE
+                and bytes_[at + 3 : at + 5] == b"\0\0"
+                and length == 2
+            ):
                 found.append((int.from_bytes(one.source[1], "big"), *bytes_[at + 13 : at + 15]))
             at += 13 + length
     return found
 
 
-def line(fields: Line, absent: Iterable[str] = (), sources: dict[str, list[str]] | None = None) -> Line:
+def line(
+    fields: Line, absent: Iterable[str] = (), sources: dict[str, list[str]] | None = None
+) -> Line:
     return {"line": fields, "absent": list(absent), "from": sources or {}}

@@ -13,7 +13,15 @@ from tests.recorders import peers
 from tests.oracle import wanted, wanted_hellos
 from tests.support import packets
 from tests.recorders.evasions_tls import said, tls
-from tests.recorders.evasions_tls.tls import CHANGE, CLIENT, HELLO, RELAY_PORT, SERVER, SERVER_HELLO, SERVER_PORT
+from tests.recorders.evasions_tls.tls import (
+    CHANGE,
+    CLIENT,
+    HELLO,
+    RELAY_PORT,
+    SERVER,
+    SERVER_HELLO,
+    SERVER_PORT,
+)
 from tests.support.shapes import Line
 
 OPENSSL, GNUTLS = "openssl", "gnutls"
@@ -32,7 +40,9 @@ def server_of(peer: str, version: str) -> str:
             f"--sni-hostname {NAME.decode()} --sni-hostname-fatal"
         )
     keys = f"-cert ec.pem -key ec.key -servername {NAME.decode()} -cert2 ec.pem -key2 ec.key"
-    return f"openssl s_server -accept {peers.HOST}:{SERVER_PORT} {OF_OPENSSL[version]} {keys} -state"
+    return (
+        f"openssl s_server -accept {peers.HOST}:{SERVER_PORT} {OF_OPENSSL[version]} {keys} -state"
+    )
 
 
 def client_of(peer: str, version: str) -> str:
@@ -83,7 +93,9 @@ class Rule:
 
     def hello_behind_answer_0301(self, record: bytes) -> list[bytes]:
         """Returns the forged hello with the record version of a first hello."""
-        return [record] if tls.is_message(record, HELLO) else [self.note(self.forged(b"\3\1")), record]
+        return (
+            [record] if tls.is_message(record, HELLO) else [self.note(self.forged(b"\3\1")), record]
+        )
 
     def hello_behind_change(self, record: bytes) -> list[bytes]:
         """In the clear behind the client's ChangeCipherSpec."""
@@ -99,7 +111,11 @@ class Rule:
 
     def server_hello_by_client(self, record: bytes) -> list[bytes]:
         """Right behind the client's hello."""
-        return [record, self.note(tls.STRAY_SERVER_HELLO)] if tls.is_message(record, HELLO) else [record]
+        return (
+            [record, self.note(tls.STRAY_SERVER_HELLO)]
+            if tls.is_message(record, HELLO)
+            else [record]
+        )
 
     def with_version(self, record: bytes, number: int) -> list[bytes]:
         """The hello of that side, with another version in its record's header."""
@@ -112,22 +128,35 @@ class Rule:
 
 # What is put in, by whom, the version, and the peer that takes it; the other one is OpenSSL's.
 STORED = [
-    ("hello_at_once", CLIENT, V12, OPENSSL), ("hello_at_once", CLIENT, V13, OPENSSL), ("hello_at_once", CLIENT, V13, GNUTLS),
-    ("hello_behind_hello", CLIENT, V12, GNUTLS), ("hello_behind_hello", CLIENT, V13, OPENSSL),
-    ("hello_behind_answer", CLIENT, V12, OPENSSL), ("hello_behind_answer", CLIENT, V13, OPENSSL),
+    ("hello_at_once", CLIENT, V12, OPENSSL),
+    ("hello_at_once", CLIENT, V13, OPENSSL),
+    ("hello_at_once", CLIENT, V13, GNUTLS),
+    ("hello_behind_hello", CLIENT, V12, GNUTLS),
+    ("hello_behind_hello", CLIENT, V13, OPENSSL),
+    ("hello_behind_answer", CLIENT, V12, OPENSSL),
+    ("hello_behind_answer", CLIENT, V13, OPENSSL),
     ("hello_behind_answer_0301", CLIENT, V12, OPENSSL),
-    ("hello_behind_change", CLIENT, V12, OPENSSL), ("hello_behind_change", CLIENT, V13, OPENSSL), ("hello_behind_change", CLIENT, V13, GNUTLS),
-    ("hello_by_server", SERVER, V12, OPENSSL), ("hello_by_server", SERVER, V13, GNUTLS),
+    ("hello_behind_change", CLIENT, V12, OPENSSL),
+    ("hello_behind_change", CLIENT, V13, OPENSSL),
+    ("hello_behind_change", CLIENT, V13, GNUTLS),
+    ("hello_by_server", SERVER, V12, OPENSSL),
+    ("hello_by_server", SERVER, V13, GNUTLS),
     ("server_hello_by_client_first", CLIENT, V12, OPENSSL),
-    ("server_hello_by_client", CLIENT, V12, OPENSSL), ("server_hello_by_client", CLIENT, V13, OPENSSL),
-    ("version_0300", CLIENT, V13, OPENSSL), ("version_0300", SERVER, V12, GNUTLS),
-    ("version_0309", CLIENT, V12, OPENSSL), ("version_0309", SERVER, V13, OPENSSL),
-    ("version_03ff", CLIENT, V13, GNUTLS), ("version_03ff", SERVER, V12, OPENSSL),
+    ("server_hello_by_client", CLIENT, V12, OPENSSL),
+    ("server_hello_by_client", CLIENT, V13, OPENSSL),
+    ("version_0300", CLIENT, V13, OPENSSL),
+    ("version_0300", SERVER, V12, GNUTLS),
+    ("version_0309", CLIENT, V12, OPENSSL),
+    ("version_0309", SERVER, V13, OPENSSL),
+    ("version_03ff", CLIENT, V13, GNUTLS),
+    ("version_03ff", SERVER, V12, OPENSSL),
 ]
 OF_HELLOS = ["version", "cipher", "curve", "server_name", "next_protocol", *wanted_hellos.ORDER]
 
 
-def run(work: Path, file: Path, rule: Rule, version: str, server: str, client: str) -> tuple[str, str]:
+def run(
+    work: Path, file: Path, rule: Rule, version: str, server: str, client: str
+) -> tuple[str, str]:
     port = SERVER_PORT if rule.side == CLIENT else RELAY_PORT
     relay = tls.Relay(rule)
     other = peers.Peer(work, "stdbuf -oL " + server_of(server, version), "server")
@@ -148,8 +177,22 @@ def run(work: Path, file: Path, rule: Rule, version: str, server: str, client: s
 
 def alerts(file: Path, port: int) -> list[str]:
     """The names of the alerts in the clear, by tshark."""
-    command = ["tshark", "-r", str(file), "-d", f"tcp.port=={port},tls", "-Y", "tls.alert_message.desc", "-T", "fields", "-e", "tls.alert_message.desc"]
-    found = subprocess.run(command, stdout=subprocess.PIPE, stderr=subprocess.DEVNULL, text=True, check=True).stdout.split()
+    command = [
+        "tshark",
+        "-r",
+        str(file),
+        "-d",
+        f"tcp.port=={port},tls",
+        "-Y",
+        "tls.alert_message.desc",
+        "-T",
+        "fields",
+        "-e",
+        "tls.alert_message.desc",
+    ]
+    found = subprocess.run(
+        command, stdout=subprocess.PIPE, stderr=subprocess.DEVNULL, text=True, check=True
+    ).stdout.split()
     return [wanted.ALERTS[int(one)] for one in found]
 
 
@@ -178,17 +221,25 @@ def to_the_answer(segments: list[packets.Segment], put: Iterable[bytes]) -> list
 def is_in_front(segments: list[packets.Segment], made: bytes) -> bool:
     """Whether what was put in came before the server's first data."""
     data = [one for one in segments if one.payload]
-    answer = next(at for at, one in enumerate(data) if int.from_bytes(one.source[1], "big") in (SERVER_PORT, RELAY_PORT))
+    answer = next(
+        at
+        for at, one in enumerate(data)
+        if int.from_bytes(one.source[1], "big") in (SERVER_PORT, RELAY_PORT)
+    )
     return any(made in one.payload for one in data[:answer])
 
 
 def with_usual_versions(segments: list[packets.Segment], number: int) -> list[packets.Segment]:
     """The record of the hello has the version again that the peer wrote."""
+
     def usual(one: packets.Segment) -> packets.Segment:
         head = one.payload[:3]
         if head != bytes([tls.HANDSHAKE]) + number.to_bytes(2, "big"):
             return one
-        return packets.replace(one, payload=head[:1] + (b"\3\1" if one.payload[5] == HELLO else b"\3\3") + one.payload[3:])
+        return packets.replace(
+            one,
+            payload=head[:1] + (b"\3\1" if one.payload[5] == HELLO else b"\3\3") + one.payload[3:],
+        )
 
     return [usual(one) for one in segments]
 
@@ -198,14 +249,34 @@ def wanted_of(file: Path, rule: Rule, version: str, seen: Line) -> list[Line]:
     segments = packets.read(file.read_bytes())
     if rule.name.startswith("version"):
         fields = line_of(with_usual_versions(segments, int(rule.name[-4:], 16)), port)
-        certain = {"server_name": NAME.decode(), "version": version, "established": True, "outcome": "tls13" if version == V13 else "full"}
-        if seen["client"] != "completed" or seen["server"] != "completed" or any(fields[field] != value for field, value in certain.items()):
+        certain = {
+            "server_name": NAME.decode(),
+            "version": version,
+            "established": True,
+            "outcome": "tls13" if version == V13 else "full",
+        }
+        if (
+            seen["client"] != "completed"
+            or seen["server"] != "completed"
+            or any(fields[field] != value for field, value in certain.items())
+        ):
             raise ValueError(f"tshark has other fields: {fields}, {seen}")
         others = [field for field in fields if field not in certain]
-        sources = {"seen": list(certain), "tshark, with the usual version": [*others, "last_alert", "gap"]}
+        sources = {
+            "seen": list(certain),
+            "tshark, with the usual version": [*others, "last_alert", "gap"],
+        }
         return [said.line(fields, ["last_alert", "gap"], sources)]
-    ends = {"id.orig_h": peers.HOST, "id.orig_p": int.from_bytes(segments[0].source[1], "big"), "id.resp_h": peers.HOST, "id.resp_p": port, "proto": "tcp"}
-    if rule.name in ("hello_at_once", "hello_behind_hello") and not is_in_front(segments, rule.put[0]):
+    ends = {
+        "id.orig_h": peers.HOST,
+        "id.orig_p": int.from_bytes(segments[0].source[1], "big"),
+        "id.resp_h": peers.HOST,
+        "id.resp_p": port,
+        "proto": "tcp",
+    }
+    if rule.name in ("hello_at_once", "hello_behind_hello") and not is_in_front(
+        segments, rule.put[0]
+    ):
         raise ValueError("the server was faster")
     clear = alerts(file, port)
     fields, sources = dict(ends), {"the first packet": list(ends)}
@@ -221,7 +292,11 @@ def wanted_of(file: Path, rule: Rule, version: str, seen: Line) -> list[Line]:
         sources["RFC 8446, 4.1.2 and 4.1.3: the server says no ClientHello"] = ["server_name"]
     elif rule.name == "server_hello_by_client_first":
         absent += ["version", "cipher", "server_version"]
-        sources["RFC 8446, 4.1.3: the client says no ServerHello"] = ["version", "cipher", "server_version"]
+        sources["RFC 8446, 4.1.3: the client says no ServerHello"] = [
+            "version",
+            "cipher",
+            "server_version",
+        ]
     else:
         found = line_of(to_the_answer(segments, rule.put), port)
         said_there = {field: found[field] for field in OF_HELLOS if field in found}
@@ -235,7 +310,9 @@ def wanted_of(file: Path, rule: Rule, version: str, seen: Line) -> list[Line]:
     return [said.line(fields, absent, sources)]
 
 
-def record(work: Path, folder: Path, name: str, side: str, version: str, peer: str) -> tuple[Path, list[Line], Line]:
+def record(
+    work: Path, folder: Path, name: str, side: str, version: str, peer: str
+) -> tuple[Path, list[Line], Line]:
     file = folder / f"tls_{name}_{side}_{version.lower()}_{peer}.pcap"
     server, client = (peer, OPENSSL) if side == CLIENT else (OPENSSL, peer)
     rule = Rule(name, side)
@@ -244,7 +321,9 @@ def record(work: Path, folder: Path, name: str, side: str, version: str, peer: s
         raise ValueError(f"{file.name}: not placed")
     seen = {
         "client": "completed" if IS_DONE[client] in by_client else said.fault(by_client),
-        "server": "completed" if "CIPHER is" in by_server or "hello from the client" in by_client + by_server else said.fault(by_server),
+        "server": "completed"
+        if "CIPHER is" in by_server or "hello from the client" in by_client + by_server
+        else said.fault(by_server),
         "name": said.host(by_server),
         "data": "hello from the client" in (by_server if server == OPENSSL else by_client),
     }
@@ -254,6 +333,11 @@ def record(work: Path, folder: Path, name: str, side: str, version: str, peer: s
 
 def captures() -> dict[str, Callable[[Path, Path], tuple[Path, list[Line], Line]]]:
     return {
-        f"tls_{name}_{side}_{version.lower()}_{peer}": lambda work, folder, of=(name, side, version, peer): record(work, folder, *of)
+        f"tls_{name}_{side}_{version.lower()}_{peer}": lambda work, folder, of=(
+            name,
+            side,
+            version,
+            peer,
+        ): record(work, folder, *of)
         for name, side, version, peer in STORED
     }

@@ -17,13 +17,17 @@ CLIENT, SERVER = "client", "server"
 RELAY_PORT, SERVER_PORT = 14434, 14433
 # A ServerHello of TLS 1.2 that nobody made (RFC 5246, section 7.4.1.3): no session, the suite
 # 0xc02b, no extensions.
-STRAY_SERVER_HELLO = bytes.fromhex("16 03 03 00 2a 02 00 00 26 03 03") + b"\x5a" * 32 + bytes.fromhex("00 c0 2b 00")
+STRAY_SERVER_HELLO = (
+    bytes.fromhex("16 03 03 00 2a 02 00 00 26 03 03") + b"\x5a" * 32 + bytes.fromhex("00 c0 2b 00")
+)
 
 
 def records(stream: bytes) -> tuple[list[bytes], bytes]:
     """The whole records, with their headers, and what is left."""
     found, at = [], 0
-    while at + 5 <= len(stream) and at + 5 + int.from_bytes(stream[at + 3 : at + 5], "big") <= len(stream):
+    while at + 5 <= len(stream) and at + 5 + int.from_bytes(stream[at + 3 : at + 5], "big") <= len(
+        stream
+    ):
         end = at + 5 + int.from_bytes(stream[at + 3 : at + 5], "big")
         found.append(stream[at:end])
         at = end
@@ -51,7 +55,10 @@ class Relay(threading.Thread):
         server = socket.create_connection((peers.HOST, SERVER_PORT))
         for end in (client, server):
             end.setsockopt(socket.IPPROTO_TCP, socket.TCP_NODELAY, 1)
-        left, ends = {CLIENT: b"", SERVER: b""}, {client: (server, CLIENT), server: (client, SERVER)}
+        left, ends = {CLIENT: b"", SERVER: b""}, {
+            client: (server, CLIENT),
+            server: (client, SERVER),
+        }
         while ends and not self.is_over:
             for end in select.select(list(ends), [], [], 0.1)[0]:
                 other, sender = ends[end]

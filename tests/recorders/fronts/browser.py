@@ -39,7 +39,13 @@ BROWSER = "chromium --headless --no-sandbox --disable-gpu --enable-logging=stder
 BROWSER += " --disable-features=WebRtcHideLocalIpsWithMdns"
 # The browser offers no address of the device `lo`: another one is made, and what goes to its own
 # address still passes `lo`.
-DEVICE = ["link add d0 type veth peer name d1", "addr add 192.0.2.1/24 dev d0", "link set d0 up", "link set d1 up", "route add default dev d0"]
+DEVICE = [
+    "link add d0 type veth peer name d1",
+    "addr add 192.0.2.1/24 dev d0",
+    "link set d0 up",
+    "link set d1 up",
+    "route add default dev d0",
+]
 HANDSHAKES = range(20, 27)
 
 
@@ -55,7 +61,11 @@ def count(datagram: bytes, connection_id: int) -> int:
         first = datagram[0]
         if first >> 5 == 1:
             head = 1 + (connection_id if first & 0x10 else 0) + (2 if first & 8 else 1)
-            length = int.from_bytes(datagram[head : head + 2], "big") + 2 if first & 4 else len(datagram) - head
+            length = (
+                int.from_bytes(datagram[head : head + 2], "big") + 2
+                if first & 4
+                else len(datagram) - head
+            )
             datagram = datagram[head + length :]
         elif first in HANDSHAKES and datagram[1:2] == b"\xfe":
             datagram = datagram[13 + int.from_bytes(datagram[11:13], "big") :]
@@ -78,7 +88,10 @@ def record(folder: Path) -> list[Line]:
         browser.process.wait(5)
         said = [line.split('"')[1] for line in browser.said().splitlines() if "SEEN" in line]
     print(NAME, file.stat().st_size, "bytes", said, flush=True)
-    if not said or said[0].split()[:5] != "SEEN hello FEFC TLS_AES_128_GCM_SHA256 connected".split():
+    if (
+        not said
+        or said[0].split()[:5] != "SEEN hello FEFC TLS_AES_128_GCM_SHA256 connected".split()
+    ):
         raise ValueError("another version")
     return lines(file)
 
@@ -90,7 +103,11 @@ def shortened(datagram: bytes) -> bytes:
     while datagram and datagram[0] >> 2 == 0b001011:
         end = 5 + int.from_bytes(datagram[3:5], "big")
         is_last = end >= len(datagram)
-        found += bytes([datagram[0] & (0b11110011 if is_last else 0b11110111)]) + datagram[2 : 3 if is_last else 5] + datagram[5:end]
+        found += (
+            bytes([datagram[0] & (0b11110011 if is_last else 0b11110111)])
+            + datagram[2 : 3 if is_last else 5]
+            + datagram[5:end]
+        )
         datagram = datagram[end:]
     return found + datagram
 
@@ -101,7 +118,13 @@ def record_short(folder: Path) -> list[Line]:
     made = []
     for one in packets.read((folder / f"{NAME}.pcap").read_bytes()):
         payload = shortened(one.payload)
-        made.append(packets.replace(one, tcp=one.tcp[:4] + (len(payload) + 8).to_bytes(2, "big") + bytes(2), payload=payload))
+        made.append(
+            packets.replace(
+                one,
+                tcp=one.tcp[:4] + (len(payload) + 8).to_bytes(2, "big") + bytes(2),
+                payload=payload,
+            )
+        )
     file.write_bytes(packets.pcap([(one.time, one.frame()) for one in made]))
     return lines(file)
 
@@ -110,8 +133,18 @@ def lines(file: Path, connection_id: int = 0) -> list[Line]:
     [found] = wanted.lines(file, udp=True)
     segments = packets.read(file.read_bytes())
     of_orig = segments[0].source
-    records = {side: sum(count(one.payload, connection_id) for one in segments if (one.source == of_orig) == side) for side in (True, False)}
-    certain = {"version": "DTLSv13", "cipher": "TLS_AES_128_GCM_SHA256", "established": True, "outcome": "tls13"}
+    records = {
+        side: sum(
+            count(one.payload, connection_id) for one in segments if (one.source == of_orig) == side
+        )
+        for side in (True, False)
+    }
+    certain = {
+        "version": "DTLSv13",
+        "cipher": "TLS_AES_128_GCM_SHA256",
+        "established": True,
+        "outcome": "tls13",
+    }
     by_hand = {"orig_records": records[True], "resp_records": records[False]}
     if found.get("retried"):
         # tshark names the HelloRetryRequest of DTLS as a ServerHello.
@@ -122,5 +155,9 @@ def lines(file: Path, connection_id: int = 0) -> list[Line]:
     # as no records.
     fields = {field: value for field, value in found.items() if field not in ("ja4",)} | by_hand
     others = [field for field in fields if field not in certain and field not in by_hand]
-    sources = {"seen": list(certain), "RFC 9147, 4, by hand": list(by_hand), "tshark": [*others, "last_alert"]}
+    sources = {
+        "seen": list(certain),
+        "RFC 9147, 4, by hand": list(by_hand),
+        "tshark": [*others, "last_alert"],
+    }
     return [told.line(fields, sources, ["last_alert"])]

@@ -30,7 +30,9 @@ def offered(payload: bytes, number: int) -> bytes:
     """The ClientHello's versions (RFC 8446, section 4.2.1): the draft for TLS 1.3."""
     at = payload.index(SUPPORTED_VERSIONS)
     end = at + 4 + int.from_bytes(payload[at + 2 : at + 4], "big")
-    return payload[:at] + payload[at:end].replace(b"\x03\x04", bytes([0x7F, number])) + payload[end:]
+    return (
+        payload[:at] + payload[at:end].replace(b"\x03\x04", bytes([0x7F, number])) + payload[end:]
+    )
 
 
 def extensions(block: bytes) -> Iterator[bytes]:
@@ -45,7 +47,14 @@ def answered(payload: bytes, number: int) -> bytes:
     end = 5 + int.from_bytes(payload[3:5], "big")
     hello, rest = payload[HEADERS:end], payload[end:]
     if number > LAST_OLD_FORM:
-        return payload[:HEADERS] + hello.replace(SUPPORTED_VERSIONS + b"\x00\x02\x03\x04", SUPPORTED_VERSIONS + b"\x00\x02" + bytes([0x7F, number])) + rest
+        return (
+            payload[:HEADERS]
+            + hello.replace(
+                SUPPORTED_VERSIONS + b"\x00\x02\x03\x04",
+                SUPPORTED_VERSIONS + b"\x00\x02" + bytes([0x7F, number]),
+            )
+            + rest
+        )
     version, random, behind = bytes([0x7F, number]), hello[2:34], hello[35 + hello[34] :]
     block = b"".join(one for one in extensions(behind[5:]) if one[:2] != SUPPORTED_VERSIONS)
     message = b"\x02" + counted(version + random + behind[:2] + counted(block, 2), 3)
@@ -54,8 +63,14 @@ def answered(payload: bytes, number: int) -> bytes:
 
 def moved(one: packets.Segment, sequence: int, acknowledgment: int) -> packets.Segment:
     """The segment with numbers that are so much lower."""
-    numbers = ((number - less) % 2**32 for number, less in ((one.sequence, sequence), (one.acknowledgment, acknowledgment)))
-    return packets.replace(one, tcp=one.tcp[:4] + b"".join(number.to_bytes(4, "big") for number in numbers) + one.tcp[12:])
+    numbers = (
+        (number - less) % 2**32
+        for number, less in ((one.sequence, sequence), (one.acknowledgment, acknowledgment))
+    )
+    return packets.replace(
+        one,
+        tcp=one.tcp[:4] + b"".join(number.to_bytes(4, "big") for number in numbers) + one.tcp[12:],
+    )
 
 
 def made(segments: list[packets.Segment], number: int) -> Iterator[packets.Segment]:
@@ -85,6 +100,8 @@ def record(folder: Path, name: str) -> list[Line]:
         "draft-ietf-tls-tls13-18, 4.1.3, and -22, 4.1.3, by hand": list(by_hand),
         "tshark": [*(field for field in fields if field not in by_hand), "last_alert", "gap"],
     }
-    differing = [(field, found.get(field)) for field, value in by_hand.items() if found.get(field) != value]
+    differing = [
+        (field, found.get(field)) for field, value in by_hand.items() if found.get(field) != value
+    ]
     print(name, file.stat().st_size, "bytes, tshark has", differing or "the same", flush=True)
     return [told.line(fields, sources, ["last_alert", "gap"])]

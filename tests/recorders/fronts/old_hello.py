@@ -18,7 +18,9 @@ from tests.recorders.fronts import told
 from tests.support.shapes import Line
 
 PORT = 14433
-SUITES = bytes.fromhex("00002f 000035 00003c 0000ff 010080 0700c0")  # Of TLS, its SCSV, and two of SSL 2.0.
+SUITES = bytes.fromhex(
+    "00002f 000035 00003c 0000ff 010080 0700c0"
+)  # Of TLS, its SCSV, and two of SSL 2.0.
 OF_SSL_2 = bytes.fromhex("010080 0700c0")
 SERVERS = {
     "ssl2_hello": "openssl s_server -accept 127.0.0.1:14433 -cert rsa.pem -key rsa.key -tls1_2 -msg -cipher DEFAULT:@SECLEVEL=0",
@@ -54,7 +56,12 @@ def aes(key: bytes, iv: bytes, text: bytes) -> bytes:
 
 def modulus(work: Path) -> int:
     words = "openssl x509 -in rsa.pem -noout -modulus".split()
-    return int(subprocess.run(words, cwd=work, stdout=subprocess.PIPE, text=True, check=True).stdout.split("=")[1], 16)
+    return int(
+        subprocess.run(words, cwd=work, stdout=subprocess.PIPE, text=True, check=True).stdout.split(
+            "="
+        )[1],
+        16,
+    )
 
 
 def record_of(kind: int, fragment: bytes) -> bytes:
@@ -118,17 +125,25 @@ class Client:
         self.mac_key, self.key = block[:20], block[40:56]
         said = first[2:] + answer + keys  # The hello without its length (the same place).
         finished = message(20, prf(master, b"client finished", hashlib.sha256(said).digest(), 12))
-        self.connection.sendall(record_of(22, keys) + record_of(20, b"\1") + self.sealed(22, finished))
+        self.connection.sendall(
+            record_of(22, keys) + record_of(20, b"\1") + self.sealed(22, finished)
+        )
         while self.take()[0] != 20:
             pass
         self.take()
-        self.connection.sendall(self.sealed(23, b"hello of an old form\n") + self.sealed(21, b"\1\0"))
+        self.connection.sendall(
+            self.sealed(23, b"hello of an old form\n") + self.sealed(21, b"\1\0")
+        )
 
 
 def record(work: Path, folder: Path, name: str) -> list[Line]:
-    file, server = folder / f"{name}.pcap", peers.Peer(work, "stdbuf -oL " + SERVERS[name], "server")
+    file, server = folder / f"{name}.pcap", peers.Peer(
+        work, "stdbuf -oL " + SERVERS[name], "server"
+    )
     time.sleep(0.5)
-    challenge = bytes(range(0x40, 0x60)) if name != "ssl2_hello_session" else bytes(range(0x40, 0x50))
+    challenge = (
+        bytes(range(0x40, 0x60)) if name != "ssl2_hello_session" else bytes(range(0x40, 0x50))
+    )
     session = bytes(range(16)) if name == "ssl2_hello_session" else b""
     of_ssl2 = name == "ssl2_hello_of_ssl2"
     first = hello(2 if of_ssl2 else 0x303, OF_SSL_2 if of_ssl2 else SUITES, session, challenge)
@@ -142,6 +157,10 @@ def record(work: Path, folder: Path, name: str) -> list[Line]:
                 fault = repr(fault_)
         time.sleep(0.3)
     server.kill()
-    kept = [line for line in server.said().splitlines() if re.search("rror|hello of|CIPHER|content_type=0", line)]
+    kept = [
+        line
+        for line in server.said().splitlines()
+        if re.search("rror|hello of|CIPHER|content_type=0", line)
+    ]
     print(name, file.stat().st_size, "bytes", fault, kept, flush=True)
     return told.of_old_hello(file, first, fault)

@@ -47,7 +47,9 @@ class Server(threading.Thread):
     """Serves one connection. `seen` is what it saw. Where `highest` is None there is no TLS behind
     the plain text."""
 
-    def __init__(self, port: int, talk: Callable[[Plain], None], work: Path, highest: ssl.TLSVersion | None) -> None:
+    def __init__(
+        self, port: int, talk: Callable[[Plain], None], work: Path, highest: ssl.TLSVersion | None
+    ) -> None:
         super().__init__(daemon=True)
         self.listener, self.talk, self.seen = peers.listener(port), talk, {}
         self.has_tls = highest is not None
@@ -69,7 +71,12 @@ class Server(threading.Thread):
         except (OSError, EOFError) as fault:
             self.seen["fault"] = str(fault)
         connection.close()
-        self.seen |= {"orig_front": len(plain.taken), "resp_front": len(plain.said), "client": plain.taken, "server": plain.said}
+        self.seen |= {
+            "orig_front": len(plain.taken),
+            "resp_front": len(plain.said),
+            "client": plain.taken,
+            "server": plain.said,
+        }
         self.listener.close()
 
     def speak_tls(self, connection: socket.socket) -> None:

@@ -22,10 +22,16 @@ V12, V13 = ssl.TLSVersion.TLSv1_2, ssl.TLSVersion.TLSv1_3
 NAME = "example.test"
 # Version 2: a signature, version and command, TCP over IPv4, 12 bytes: addresses and ports (the
 # PROXY protocol, section 2.2).
-PROXY_2 = bytes.fromhex("0d 0a 0d 0a 00 0d 0a 51 55 49 54 0a 21 11 00 0c c0 00 02 01 c6 33 64 01 d6 d8 01 bb")
+PROXY_2 = bytes.fromhex(
+    "0d 0a 0d 0a 00 0d 0a 51 55 49 54 0a 21 11 00 0c c0 00 02 01 c6 33 64 01 d6 d8 01 bb"
+)
 # Connection Request with the cookie that clients of RDP send, and the negotiation's request for
 # PROTOCOL_SSL ([MS-RDPBCGR], section 2.2.1.1).
-RDP = bytes.fromhex("03 00 00 2a 25 e0 00 00 00 00 00") + b"Cookie: mstshash=user\r\n" + bytes.fromhex("01 00 08 00 01 00 00 00")
+RDP = (
+    bytes.fromhex("03 00 00 2a 25 e0 00 00 00 00 00")
+    + b"Cookie: mstshash=user\r\n"
+    + bytes.fromhex("01 00 08 00 01 00 00 00")
+)
 
 
 def starttls(protocol: str, port: int, version: str = "-tls1_3", more: str = "") -> str:
@@ -57,7 +63,9 @@ class ByHand:
                     pass
 
 
-def captures() -> dict[str, tuple[int, Callable[[plain.Plain], None], ssl.TLSVersion | None, str | ByHand]]:
+def captures() -> (
+    dict[str, tuple[int, Callable[[plain.Plain], None], ssl.TLSVersion | None, str | ByHand]]
+):
     """Name: port, the server's plain text, its highest version, and the client."""
     resolve = f"--resolve {NAME}:8443:127.0.0.1"
     psql = f"psql 'host={NAME} hostaddr=127.0.0.1 port=5432 user=me dbname=it sslmode=require gssencmode=disable connect_timeout=4' -c ''"
@@ -70,20 +78,40 @@ def captures() -> dict[str, tuple[int, Callable[[plain.Plain], None], ssl.TLSVer
         "starttls_pop3": (110, talks.pop3, V13, starttls("pop3", 110)),
         "starttls_ftp": (21, talks.ftp, V12, starttls("ftp", 21, "-tls1_2")),
         "starttls_ldap": (389, talks.ldap, V13, starttls("ldap", 389)),
-        "starttls_xmpp": (5222, talks.xmpp, V12, starttls("xmpp", 5222, "-tls1_2", f"-xmpphost {NAME}")),
+        "starttls_xmpp": (
+            5222,
+            talks.xmpp,
+            V12,
+            starttls("xmpp", 5222, "-tls1_2", f"-xmpphost {NAME}"),
+        ),
         "starttls_nntp": (119, talks.nntp, V13, starttls("nntp", 119)),
         "starttls_sieve": (4190, talks.sieve, V12, starttls("sieve", 4190, "-tls1_2")),
         "mysql": (3306, talks.mysql, V13, starttls("mysql", 3306)),
         "postgres": (5432, talks.postgres, V12, starttls("postgres", 5432, "-tls1_2")),
         "postgres_psql": (5432, talks.postgres, V13, psql),
         "connect": (8080, talks.connect, V13, curl(8443, "--proxy http://127.0.0.1:8080")),
-        "connect_tls12": (8080, talks.connect, V12, curl(8443, "--proxy http://127.0.0.1:8080", "--tls-max 1.2")),
-        "proxy_header": (8443, talks.proxy_header, V13, curl(8443, f"--haproxy-protocol {resolve}")),
+        "connect_tls12": (
+            8080,
+            talks.connect,
+            V12,
+            curl(8443, "--proxy http://127.0.0.1:8080", "--tls-max 1.2"),
+        ),
+        "proxy_header": (
+            8443,
+            talks.proxy_header,
+            V13,
+            curl(8443, f"--haproxy-protocol {resolve}"),
+        ),
         "proxy_header_2": (8443, talks.proxy_header_2, V12, ByHand(8443, PROXY_2, 0)),
         "socks5": (1080, talks.socks5, V13, curl(8443, "--socks5-hostname 127.0.0.1:1080")),
         "socks4a": (1080, talks.socks4a, V12, curl(8443, "--socks4a 127.0.0.1:1080")),
         "rdp": (3389, talks.rdp, V12, ByHand(3389, RDP, 19)),
-        "hello_in_a_body": (80, talks.upload, None, "curl -s -m 5 -T hello.record http://127.0.0.1:80/kept"),
+        "hello_in_a_body": (
+            80,
+            talks.upload,
+            None,
+            "curl -s -m 5 -T hello.record http://127.0.0.1:80/kept",
+        ),
     }
 
 
@@ -103,7 +131,13 @@ def run_client(work: Path, client: str | ByHand) -> str:
 
 
 def record_behind(
-    work: Path, folder: Path, name: str, port: int, talk: Callable[[plain.Plain], None], highest: ssl.TLSVersion | None, client: str | ByHand
+    work: Path,
+    folder: Path,
+    name: str,
+    port: int,
+    talk: Callable[[plain.Plain], None],
+    highest: ssl.TLSVersion | None,
+    client: str | ByHand,
 ) -> list[Line]:
     file = folder / f"{name}.pcap"
     server = plain.Server(port, talk, work, highest)

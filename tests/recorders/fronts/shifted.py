@@ -18,13 +18,17 @@ STORED = TOP / "crates" / "tlslog" / "data"
 # Of which capture, and how many packets in front weren't captured: all up to the client's last
 # records of the handshake.
 CUT = {
-    "late_alerts_tls10": ("openssl_tls10", 10), "late_alerts_tls11": ("openssl_tls11", 10), "late_alerts_tls12": ("openssl_ecdhe", 10),
+    "late_alerts_tls10": ("openssl_tls10", 10),
+    "late_alerts_tls11": ("openssl_tls11", 10),
+    "late_alerts_tls12": ("openssl_ecdhe", 10),
     "late_alerts_gnutls": ("gnutls_ecdhe", 12),
 }
 WITH_DATA = {"late_alerts_behind_data": "postgres"}
 CAPWAP = {"capwap_openssl": "openssl_dtls12_cookie", "capwap_gnutls": "gnutls_dtls12"}
 CONTROL = 5246  # The port of CAPWAP's control channel (RFC 5415, section 3.1).
-HEADER = bytes.fromhex("01 00 00 00")  # Version 0, type 1: DTLS; the rest is reserved (RFC 5415, sections 4.1 and 4.2).
+HEADER = bytes.fromhex(
+    "01 00 00 00"
+)  # Version 0, type 1: DTLS; the rest is reserved (RFC 5415, sections 4.1 and 4.2).
 OLD = "dtls_0100"
 OLD_PRIORITY = "NORMAL:-VERS-ALL:+VERS-DTLS0.9:-CIPHER-ALL:+AES-128-CBC:-KX-ALL:+RSA:-MAC-ALL:+SHA1:-SIGN-ALL:+SIGN-RSA-SHA1:%COMPAT"
 OLD_KEYS = "--disable-client-cert --x509certfile rsa.pem --x509keyfile rsa.key"
@@ -38,7 +42,11 @@ def put(file: Path, segments: list[packets.Segment]) -> None:
 
 def stored_hello() -> bytes:
     """The record of a stored ClientHello."""
-    return next(one.payload for one in packets.read((STORED / "openssl_tls13.pcap").read_bytes()) if one.payload)
+    return next(
+        one.payload
+        for one in packets.read((STORED / "openssl_tls13.pcap").read_bytes())
+        if one.payload
+    )
 
 
 def of_late(file: Path, port: int) -> list[Line]:
@@ -49,9 +57,15 @@ def of_late(file: Path, port: int) -> list[Line]:
     kept = """
         ts id.orig_h id.orig_p id.resp_h id.resp_p proto duration orig_pkts resp_pkts orig_bytes resp_bytes orig_records resp_records
     """.split()
-    fields = {field: found[field] for field in kept} | {"established": False, "outcome": "no_handshake"}
+    fields = {field: found[field] for field in kept} | {
+        "established": False,
+        "outcome": "no_handshake",
+    }
     absent = ["last_alert", "version", "client_version"]
-    sources = {"tshark": [*kept, *absent], "docs/HANDSHAKES.md: nothing is before a ClientHello": ["established", "outcome"]}
+    sources = {
+        "tshark": [*kept, *absent],
+        "docs/HANDSHAKES.md: nothing is before a ClientHello": ["established", "outcome"],
+    }
     return [told.line(fields, sources, absent)]
 
 
@@ -75,9 +89,14 @@ def capwap(folder: Path, name: str) -> list[Line]:
     file = folder / f"{name}.pcap"
 
     def wrapped(one: packets.Segment) -> packets.Segment:
-        ports = [CONTROL if number == PORT else number for number in (int.from_bytes(one.tcp[at : at + 2], "big") for at in (0, 2))]
+        ports = [
+            CONTROL if number == PORT else number
+            for number in (int.from_bytes(one.tcp[at : at + 2], "big") for at in (0, 2))
+        ]
         payload = HEADER + one.payload
-        udp = b"".join(part.to_bytes(2, "big") for part in (*ports, 8 + len(payload), 0))  # A checksum of 0 isn't one (RFC 768).
+        udp = b"".join(
+            part.to_bytes(2, "big") for part in (*ports, 8 + len(payload), 0)
+        )  # A checksum of 0 isn't one (RFC 768).
         return packets.replace(one, tcp=udp, payload=payload)
 
     before = packets.read((TOP / "captures" / "dtls" / f"{CAPWAP[name]}.pcap").read_bytes())
@@ -90,8 +109,16 @@ def capwap(folder: Path, name: str) -> list[Line]:
         fields[f"{side}_bytes"] += len(HEADER) * fields[f"{side}_pkts"]
     [found] = wanted.lines(file, udp=True)
     if found != {**fields, "duration": found["duration"], "ts": found["ts"]}:
-        raise ValueError(f"tshark has other fields: {[(key, found.get(key), fields[key]) for key in fields if found.get(key) != fields[key]]}")
-    return [told.line(fields, {"tshark, and captures/dtls/lines": [*fields, "last_alert", "gap"]}, ["last_alert", "gap"])]
+        raise ValueError(
+            f"tshark has other fields: {[(key, found.get(key), fields[key]) for key in fields if found.get(key) != fields[key]]}"
+        )
+    return [
+        told.line(
+            fields,
+            {"tshark, and captures/dtls/lines": [*fields, "last_alert", "gap"]},
+            ["last_alert", "gap"],
+        )
+    ]
 
 
 def old(work: Path, folder: Path) -> list[Line]:
@@ -115,11 +142,19 @@ def old(work: Path, folder: Path) -> list[Line]:
         raise ValueError(f"another version: {seen}")
     wanted.VERSIONS[0x100] = "0x0100"
     [found] = wanted.lines(file, PORT, udp=True)
-    certain = {"version": "0x0100", "server_name": "example.test", "established": True, "outcome": "full"}
+    certain = {
+        "version": "0x0100",
+        "server_name": "example.test",
+        "established": True,
+        "outcome": "full",
+    }
     if any(found[field] != value for field, value in certain.items()):
         raise ValueError(f"tshark has other fields: {found}")
     fields = {field: value for field, value in found.items() if field != "ja4"}
-    sources = {"seen": list(certain), "tshark": [*(field for field in fields if field not in certain), "last_alert", "gap"]}
+    sources = {
+        "seen": list(certain),
+        "tshark": [*(field for field in fields if field not in certain), "last_alert", "gap"],
+    }
     return [told.line(fields, sources, ["last_alert", "gap"])]
 
 

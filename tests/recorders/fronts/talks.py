@@ -5,10 +5,21 @@ from __future__ import annotations
 
 from tests.recorders.fronts.plain import Plain
 
-EXTENDED = bytes.fromhex("30 0c 02 01 01 78 07 0a 01 00 04 00 04 00")  # RFC 4511, section 4.14.2: success, in a message with the id 1.
+EXTENDED = bytes.fromhex(
+    "30 0c 02 01 01 78 07 0a 01 00 04 00 04 00"
+)  # RFC 4511, section 4.14.2: success, in a message with the id 1.
 MYSQL_GREETING = (
-    b"\x0a" b"8.0.36\0" b"\x01\0\0\0" b"abcdefgh" b"\0"  # The protocol's version, the server's, the connection's id, the first part of the salt.
-    b"\xff\xff" b"\xff" b"\2\0" b"\xff\xdf" b"\x15" + bytes(10) + b"ijklmnopqrst\0" b"mysql_native_password\0"
+    b"\x0a"
+    b"8.0.36\0"
+    b"\x01\0\0\0"
+    b"abcdefgh"
+    b"\0"  # The protocol's version, the server's, the connection's id, the first part of the salt.
+    b"\xff\xff"
+    b"\xff"
+    b"\2\0"
+    b"\xff\xdf"
+    b"\x15" + bytes(10) + b"ijklmnopqrst\0"
+    b"mysql_native_password\0"
 )
 
 
@@ -22,13 +33,21 @@ def lines(plain: Plain, *answers: bytes) -> None:
 def smtp(plain: Plain) -> None:
     """RFC 3207."""
     plain.say(b"220 mail.example.test ESMTP\r\n")
-    lines(plain, b"250-mail.example.test\r\n250-PIPELINING\r\n250 STARTTLS\r\n", b"220 2.0.0 Ready to start TLS\r\n")
+    lines(
+        plain,
+        b"250-mail.example.test\r\n250-PIPELINING\r\n250 STARTTLS\r\n",
+        b"220 2.0.0 Ready to start TLS\r\n",
+    )
 
 
 def imap(plain: Plain) -> None:
     """RFC 9051, section 6.2.1."""
     plain.say(b"* OK IMAP4rev1 Service Ready\r\n")
-    lines(plain, b"* CAPABILITY IMAP4rev1 STARTTLS LOGINDISABLED\r\n. OK CAPABILITY completed\r\n", b". OK Begin TLS negotiation now\r\n")
+    lines(
+        plain,
+        b"* CAPABILITY IMAP4rev1 STARTTLS LOGINDISABLED\r\n. OK CAPABILITY completed\r\n",
+        b". OK Begin TLS negotiation now\r\n",
+    )
 
 
 def pop3(plain: Plain) -> None:
@@ -46,12 +65,18 @@ def ftp(plain: Plain) -> None:
 def nntp(plain: Plain) -> None:
     """RFC 4642."""
     plain.say(b"200 news.example.test ready\r\n")
-    lines(plain, b"101 Capability list:\r\nVERSION 2\r\nSTARTTLS\r\n.\r\n", b"382 Continue with TLS negotiation\r\n")
+    lines(
+        plain,
+        b"101 Capability list:\r\nVERSION 2\r\nSTARTTLS\r\n.\r\n",
+        b"382 Continue with TLS negotiation\r\n",
+    )
 
 
 def sieve(plain: Plain) -> None:
     """RFC 5804, section 2.2."""
-    plain.say(b'"IMPLEMENTATION" "Example"\r\n"SIEVE" "fileinto"\r\n"STARTTLS"\r\n"VERSION" "1.0"\r\nOK\r\n')
+    plain.say(
+        b'"IMPLEMENTATION" "Example"\r\n"SIEVE" "fileinto"\r\n"STARTTLS"\r\n"VERSION" "1.0"\r\nOK\r\n'
+    )
     lines(plain, b'OK "Begin TLS negotiation now"\r\n')
 
 

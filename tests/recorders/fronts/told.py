@@ -16,7 +16,10 @@ NAMES = {"TLSv1.2": "TLSv12", "TLSv1.3": "TLSv13"}
 def line(fields: Line, sources: dict[str, list[str]], absent: Iterable[str] = ()) -> Line:
     """A wanted line. `from` has, for each source, the fields that it gives; fields in `absent`
     aren't in the line."""
-    given = {source: [name for name in names if name in fields or name in absent] for source, names in sources.items()}
+    given = {
+        source: [name for name in names if name in fields or name in absent]
+        for source, names in sources.items()
+    }
     missing = {*fields, *absent} - {name for names in given.values() for name in names}
     if missing:
         raise ValueError(f"from nowhere: {missing}")
@@ -26,10 +29,18 @@ def line(fields: Line, sources: dict[str, list[str]], absent: Iterable[str] = ()
 def ends(file: Path, port: int) -> Line:
     """The addresses and ports of the one connection, by its first packet."""
     first = packets.read(file.read_bytes())[0]
-    source, destination = ((".".join(map(str, address)), int.from_bytes(number, "big")) for address, number in (first.source, first.destination))
+    source, destination = (
+        (".".join(map(str, address)), int.from_bytes(number, "big"))
+        for address, number in (first.source, first.destination)
+    )
     if destination[1] != port:
         raise ValueError("not the client's packet")
-    return {"id.orig_h": source[0], "id.orig_p": source[1], "id.resp_h": destination[0], "id.resp_p": destination[1]}
+    return {
+        "id.orig_h": source[0],
+        "id.orig_p": source[1],
+        "id.resp_h": destination[0],
+        "id.resp_p": destination[1],
+    }
 
 
 def of_front(file: Path, port: int, seen: Line) -> list[Line]:
@@ -37,22 +48,45 @@ def of_front(file: Path, port: int, seen: Line) -> list[Line]:
     found = wanted.lines(file)
     known = ends(file, port)
     by_peer = {
-        "server_name": seen["server_name"], "version": NAMES[seen["version"]], "established": True,
-        "orig_preamble_bytes": seen["orig_front"], "resp_preamble_bytes": seen["resp_front"],
+        "server_name": seen["server_name"],
+        "version": NAMES[seen["version"]],
+        "established": True,
+        "orig_preamble_bytes": seen["orig_front"],
+        "resp_preamble_bytes": seen["resp_front"],
     }
     # A side with nothing in front has no such field.
     none = [field for field in ("orig_preamble_bytes", "resp_preamble_bytes") if not by_peer[field]]
     by_peer = {field: value for field, value in by_peer.items() if field not in none}
     if not found:
-        fields = {**known, "proto": "tcp", **by_peer, "outcome": "tls13" if by_peer["version"] == "TLSv13" else "full"}
-        return [line(fields, {"the first packet": [*known, "proto"], "seen": [*by_peer, "outcome", "last_alert", *none]}, ["last_alert", *none])]
+        fields = {
+            **known,
+            "proto": "tcp",
+            **by_peer,
+            "outcome": "tls13" if by_peer["version"] == "TLSv13" else "full",
+        }
+        return [
+            line(
+                fields,
+                {
+                    "the first packet": [*known, "proto"],
+                    "seen": [*by_peer, "outcome", "last_alert", *none],
+                },
+                ["last_alert", *none],
+            )
+        ]
     [fields] = found
     for field, value in {**known, **by_peer}.items():
         if not field.endswith("preamble_bytes") and fields[field] != value:
             raise ValueError(f"{field}: tshark {fields[field]!r}, the peer {value!r}")
     fields |= by_peer
     others = [field for field in fields if field not in by_peer]
-    return [line(fields, {"seen": [*by_peer, *none], "tshark": [*others, "last_alert", "gap"]}, ["last_alert", "gap", *none])]
+    return [
+        line(
+            fields,
+            {"seen": [*by_peer, *none], "tshark": [*others, "last_alert", "gap"]},
+            ["last_alert", "gap", *none],
+        )
+    ]
 
 
 def of_none(file: Path) -> list[Line]:
@@ -86,7 +120,15 @@ def of_old_hello(file: Path, hello: bytes, fault: str) -> list[Line]:
     """.split()
     of_tshark += ["last_alert"] if fault else []
     fields = {field: found[field] for field in of_tshark if field in found} | by_hand
-    not_there = ["ssl_client_exts", "client_supported_versions", "server_name", "client_comp_methods"]
+    not_there = [
+        "ssl_client_exts",
+        "client_supported_versions",
+        "server_name",
+        "client_comp_methods",
+    ]
     not_told = ["ja3", "ja3_string"] + ([] if fault else ["last_alert"])
-    sources = {"RFC 5246, appendix E.2, by hand": [*by_hand, *not_there], "tshark": [*of_tshark, *not_told]}
+    sources = {
+        "RFC 5246, appendix E.2, by hand": [*by_hand, *not_there],
+        "tshark": [*of_tshark, *not_told],
+    }
     return [line(fields, sources, [*not_there, *not_told])]

@@ -23,7 +23,11 @@ def value_of(value: object) -> str:
 
 
 def field(name: str) -> str:
-    return f".{name}" if _PLAIN.fullmatch(name) and not _DOTTED.fullmatch(name) else f".[{value_of(name)}]"
+    return (
+        f".{name}"
+        if _PLAIN.fullmatch(name) and not _DOTTED.fullmatch(name)
+        else f".[{value_of(name)}]"
+    )
 
 
 def equals(name: str, value: Optional[object]) -> str:
@@ -63,7 +67,11 @@ def of_server(server: Optional[Server]) -> str:
 def of_certificate(certificate: Certificate) -> str:
     if certificate.fingerprint is not None:
         return f".cert_chain_fps[0] == {value_of(certificate.fingerprint)}"
-    return all_of(equals("not_after", certificate.end), equals("subject", certificate.subject), equals("issuer", certificate.issuer))
+    return all_of(
+        equals("not_after", certificate.end),
+        equals("subject", certificate.subject),
+        equals("issuer", certificate.issuer),
+    )
 
 
 def _word(name: str) -> str:

@@ -340,7 +340,9 @@ class Counts:
 
     def _add_certificate(self, it: Connection, certificate: Certificate) -> None:
         self.certified += 1
-        issued = self.certificates.entry(certificate.key, certificate.not_after, lambda: Issued(certificate))
+        issued = self.certificates.entry(
+            certificate.key, certificate.not_after, lambda: Issued(certificate)
+        )
         if issued is not None:
             issued.note(it)
         if certificate.is_self_signed:

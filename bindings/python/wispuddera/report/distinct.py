@@ -23,7 +23,9 @@ _ALPHA = 0.7213 / (1 + 1.079 / REGISTERS)
 @lru_cache(maxsize=65536)
 def _hash(value: str) -> int:
     """A 64-bit hash, the same in each run."""
-    return int.from_bytes(hashlib.blake2b(value.encode(errors="surrogatepass"), digest_size=8).digest(), "big")
+    return int.from_bytes(
+        hashlib.blake2b(value.encode(errors="surrogatepass"), digest_size=8).digest(), "big"
+    )
 
 
 @lru_cache(maxsize=65536)

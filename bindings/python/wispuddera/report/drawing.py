@@ -23,8 +23,40 @@ TOP, BOTTOM = 12, 26
 # A timeline has room for at least so many bars; fewer would be too wide.
 FEWEST = 24
 # Seconds between marks of the time axis, and the most marks.
-_MARKS: tuple[int, ...] = (1, 5, 10, 15, 30, 60, 120, 300, 600, 900, 1800, 3600, 7200, 10800, 21600, 43200, 86400, 172800, 345600, 604800, 1209600)
-_MARKS += (2419200, 4838400, 15724800, 31449600, 62899200, 314496000, 628992000, 3144960000, 62899200000)
+_MARKS: tuple[int, ...] = (
+    1,
+    5,
+    10,
+    15,
+    30,
+    60,
+    120,
+    300,
+    600,
+    900,
+    1800,
+    3600,
+    7200,
+    10800,
+    21600,
+    43200,
+    86400,
+    172800,
+    345600,
+    604800,
+    1209600,
+)
+_MARKS += (
+    2419200,
+    4838400,
+    15724800,
+    31449600,
+    62899200,
+    314496000,
+    628992000,
+    3144960000,
+    62899200000,
+)
 MOST_MARKS, MOST_ON_NARROW = 7, 3
 
 
@@ -52,12 +84,24 @@ def timeline(name: str, title: str, line: Timeline, series: tuple[Series, ...]) 
     highest = max(sum(counts) for counts in line.intervals.values())
     top, marks = scale(highest)
     start, span = first * line.step, count * line.step
-    parts = [f'<div class="timeline">{_axis(top, marks)}<svg class="plot" role="img" aria-labelledby="{name}-title">']
+    parts = [
+        f'<div class="timeline">{_axis(top, marks)}<svg class="plot" role="img" aria-labelledby="{name}-title">'
+    ]
     parts += [f'<title id="{name}-title">{text.escaped(title)}</title>', *_grid(top, marks)]
     for style, most in (("wide", MOST_MARKS), ("narrow", MOST_ON_NARROW)):
         parts += [f'<g class="{style}">', *_times(start, span, most), "</g>"]
     for place, counts in sorted(line.intervals.items()):
-        parts.append(_bar(100 * (place - first) / count, 100 / count, place * line.step, line.step, counts, top, series))
+        parts.append(
+            _bar(
+                100 * (place - first) / count,
+                100 / count,
+                place * line.step,
+                line.step,
+                counts,
+                top,
+                series,
+            )
+        )
     return "".join([*parts, "</svg></div>"])
 
 
@@ -83,7 +127,10 @@ def _height_of(mark: int, top: int) -> str:
 
 def _axis(top: int, marks: list[int]) -> str:
     """The labels of the vertical axis."""
-    told = "".join(f'<text x="100%" y="{_height_of(mark, top)}" dy="4">{text.number(mark)}</text>' for mark in marks)
+    told = "".join(
+        f'<text x="100%" y="{_height_of(mark, top)}" dy="4">{text.number(mark)}</text>'
+        for mark in marks
+    )
     return f'<svg class="axis" aria-hidden="true">{told}</svg>'
 
 
@@ -98,7 +145,9 @@ def _times(start: int, span: int, most: int) -> Iterator[str]:
     date."""
     distance = next((mark for mark in _MARKS if span // mark < most), _MARKS[-1])
     days: set[str] = set()
-    for at in range(-(-start // distance) * distance, min(start + span, text.END_OF_TIME), distance):
+    for at in range(
+        -(-start // distance) * distance, min(start + span, text.END_OF_TIME), distance
+    ):
         x = 100 * (at - start) / span
         day, time = text.time(at).split(" ")
         words = [] if day in days else [day]
@@ -112,14 +161,26 @@ def _times(start: int, span: int, most: int) -> Iterator[str]:
         yield f'<text text-anchor="{anchor}" x="{x:.2f}%" y="{HEIGHT - 6}">{" ".join(words)}</text>'
 
 
-def _bar(x: float, room: float, start: int, step: int, counts: list[int], top: int, series: tuple[Series, ...]) -> str:
+def _bar(
+    x: float,
+    room: float,
+    start: int,
+    step: int,
+    counts: list[int],
+    top: int,
+    series: tuple[Series, ...],
+) -> str:
     """The bar of an interval; its title has the counts."""
-    told = ", ".join(f"{text.number(count)} {one.name.lower()}" for one, count in zip(series, counts))
+    told = ", ".join(
+        f"{text.number(count)} {one.name.lower()}" for one, count in zip(series, counts)
+    )
     parts = [f"<g><title>{text.time(start)}, {text.duration(step)}: {text.escaped(told)}</title>"]
     y = float(HEIGHT - BOTTOM)
     width = 0.85 * room
     for one, count in zip(series, counts):
         if count:
             y -= _height(count, top)
-            parts.append(f'<rect class="{one.style}" x="{x:.2f}%" y="{y:.2f}" width="{width:.2f}%" height="{_height(count, top):.2f}"/>')
+            parts.append(
+                f'<rect class="{one.style}" x="{x:.2f}%" y="{y:.2f}" width="{width:.2f}%" height="{_height(count, top):.2f}"/>'
+            )
     return "".join([*parts, "</g>"])

@@ -16,8 +16,17 @@ from .reading import Reader
 from .tables import ROWS, Column, number, table, words
 from .tallies import MOST, Tally
 
-_BY_OUTCOME = (Series("Completed", "good"), Series("Broken off", "broken"), Series("Other", "other"))
-_BY_VERSION = (Series("1.3", "newest"), Series("1.2", "newer"), Series("Older", "older"), Series("None or another", "other"))
+_BY_OUTCOME = (
+    Series("Completed", "good"),
+    Series("Broken off", "broken"),
+    Series("Other", "other"),
+)
+_BY_VERSION = (
+    Series("1.3", "newest"),
+    Series("1.2", "newer"),
+    Series("Older", "older"),
+    Series("None or another", "other"),
+)
 
 
 def report(*logs: BinaryIO, names: Sequence[str] = (), capture: str = "") -> str:
@@ -45,7 +54,9 @@ class _Page:
     def __init__(self, reader: Reader, counts: Counts, names: Sequence[str], capture: str) -> None:
         self.reader, self.counts = reader, counts
         self.commands = Commands(names, counts.has_uid)
-        self.of = text.cut(capture or ", ".join(name.rsplit("/", 1)[-1] for name in names if name != "-"))
+        self.of = text.cut(
+            capture or ", ".join(name.rsplit("/", 1)[-1] for name in names if name != "-")
+        )
 
     def text(self) -> str:
         style, script = _source("page.css"), _source("page.js")
@@ -63,12 +74,20 @@ class _Page:
         if self.counts.first is None or self.counts.last is None:
             return f"TLS connections{of}"
         first, last = text.day(self.counts.first), text.day(self.counts.last)
-        return f"TLS connections{of}, {first}" if first == last else f"TLS connections{of}, {first} to {last}"
+        return (
+            f"TLS connections{of}, {first}"
+            if first == last
+            else f"TLS connections{of}, {first} to {last}"
+        )
 
 
 def _header(page: _Page) -> Iterator[str]:
     counts, reader = page.counts, page.reader
-    of = f' <span class="of">of <span id="capture">{text.escaped(page.of)}</span></span>' if page.of else ""
+    of = (
+        f' <span class="of">of <span id="capture">{text.escaped(page.of)}</span></span>'
+        if page.of
+        else ""
+    )
     yield f"<header><h1>TLS connections{of}</h1>"
     if counts.first is not None and counts.last is not None:
         first, last = text.time(counts.first), text.time(counts.last)
@@ -87,14 +106,40 @@ def _figure(name: str, title: str, value: str, more: str) -> str:
 
 def _figures(counts: Counts) -> str:
     whole = counts.connections
-    rows = [_figure("connections", "Connections", text.number(whole), _kinds(counts.hosts, "host").lower())]
-    of_all = (("completed", "Handshakes completed", counts.completed), ("broken-off", "Broken off", counts.broken_off), ("resumed", "Resumed", counts.resumed))
-    of_versioned = (("tls13", "TLS or DTLS 1.3", counts.newest), ("old", "Old versions", counts.old), ("weak", "Weak cipher suites", counts.weak))
-    rows += [_figure(name, title, text.number(count), text.share(count, whole)) for name, title, count in of_all]
+    rows = [
+        _figure(
+            "connections", "Connections", text.number(whole), _kinds(counts.hosts, "host").lower()
+        )
+    ]
+    of_all = (
+        ("completed", "Handshakes completed", counts.completed),
+        ("broken-off", "Broken off", counts.broken_off),
+        ("resumed", "Resumed", counts.resumed),
+    )
+    of_versioned = (
+        ("tls13", "TLS or DTLS 1.3", counts.newest),
+        ("old", "Old versions", counts.old),
+        ("weak", "Weak cipher suites", counts.weak),
+    )
+    rows += [
+        _figure(name, title, text.number(count), text.share(count, whole))
+        for name, title, count in of_all
+    ]
     for name, title, count in of_versioned:
-        rows.append(_figure(name, title, text.number(count), f"{text.share(count, counts.versioned)} of those with a ServerHello"))
+        rows.append(
+            _figure(
+                name,
+                title,
+                text.number(count),
+                f"{text.share(count, counts.versioned)} of those with a ServerHello",
+            )
+        )
     is_told = counts.certified and counts.last is not None
-    value, more = (text.number(len(weak.expiring(counts))), "or expired before") if is_told else ("–", "the log doesn’t tell")
+    value, more = (
+        (text.number(len(weak.expiring(counts))), "or expired before")
+        if is_told
+        else ("–", "the log doesn’t tell")
+    )
     rows.append(_figure("expiring", f"Certificates expiring in {weak.SOON} days", value, more))
     return f'<dl class="figures">{"".join(rows)}</dl>'
 
@@ -103,7 +148,17 @@ def _main(page: _Page) -> Iterator[str]:
     counts, commands = page.counts, page.commands
     yield _figures(counts)
     yield from _over_time(counts)
-    for section in (_chosen, _failures, _poor_servers, _poor_clients, _expiring, _unproven, _hosts, _programs, _addresses):
+    for section in (
+        _chosen,
+        _failures,
+        _poor_servers,
+        _poor_clients,
+        _expiring,
+        _unproven,
+        _hosts,
+        _programs,
+        _addresses,
+    ):
         yield section(counts, commands)
     yield _about(page.reader, counts)
 
@@ -121,18 +176,27 @@ def _over_time(counts: Counts) -> Iterator[str]:
         yield _section("time", "Over time", _paragraph("No line has a time (ts)."))
         return
     pictures = []
-    kinds = (("outcome", counts.by_outcome, _BY_OUTCOME), ("version", counts.by_version, _BY_VERSION))
+    kinds = (
+        ("outcome", counts.by_outcome, _BY_OUTCOME),
+        ("version", counts.by_version, _BY_VERSION),
+    )
     for name, line, series in kinds:
         title = f"Connections by {name}, each bar {text.duration(line.step)}"
         picture = drawing.timeline(f"by-{name}", title, line, series)
-        pictures.append(f"<figure><figcaption>{text.escaped(title)}{drawing.legend(series)}</figcaption>{picture}</figure>")
+        pictures.append(
+            f"<figure><figcaption>{text.escaped(title)}{drawing.legend(series)}</figcaption>{picture}</figure>"
+        )
     yield _section("time", "Over time", "".join(pictures))
 
 
 def _chosen(counts: Counts, commands: Commands) -> str:
     left = sections.outcomes(counts, commands) + sections.groups(counts, commands)
-    pair = f'<div class="pair"><div>{left}</div><div>{sections.versions(counts, commands)}</div></div>'
-    return _section("chosen", "Outcomes and what was negotiated", pair + sections.suite_table(counts, commands))
+    pair = (
+        f'<div class="pair"><div>{left}</div><div>{sections.versions(counts, commands)}</div></div>'
+    )
+    return _section(
+        "chosen", "Outcomes and what was negotiated", pair + sections.suite_table(counts, commands)
+    )
 
 
 def _failures(counts: Counts, commands: Commands) -> str:
@@ -147,8 +211,7 @@ def _failures(counts: Counts, commands: Commands) -> str:
 
 
 def _kinds(tally: Tally[Any, Any], noun: str) -> str:
-    """How many distinct values there are: `12 different hosts`, `More than 10,000 different hosts`.
-    """
+    """How many distinct values there are: `12 different hosts`, `More than 10,000 different hosts`."""
     return f"{'More than ' if tally.missed else ''}{text.counted(len(tally.entries), 'different ' + noun)}"
 
 
@@ -164,13 +227,17 @@ def _programs(counts: Counts, commands: Commands) -> str:
     if not counts.programs.total:
         return _section("by-program", "Client programs", _paragraph("No line has a ja4."))
     told = f"{_kinds(counts.programs, 'JA4 fingerprint')}. Programs that use the same library in the same way share one."
-    return _section("by-program", "Client programs", _paragraph(told) + sections.programs(counts, commands))
+    return _section(
+        "by-program", "Client programs", _paragraph(told) + sections.programs(counts, commands)
+    )
 
 
 def _addresses(counts: Counts, commands: Commands) -> str:
     title = "Clients and servers"
     if not counts.clients.total and not counts.servers.total:
-        return _section("by-address", title, _paragraph("No line has an address (id.orig_h, id.resp_h)."))
+        return _section(
+            "by-address", title, _paragraph("No line has an address (id.orig_h, id.resp_h).")
+        )
     told = f"{_kinds(counts.clients, 'client')} and {_kinds(counts.servers, 'server').lower()}."
     found = sections.clients(counts, commands) if counts.clients.total else ""
     found += sections.servers(counts, commands) if counts.servers.total else ""
@@ -196,15 +263,25 @@ def _poor_clients(counts: Counts, commands: Commands) -> str:
         f"without it. {text.number(counts.weak_offers)} offered no suite that the rule above calls good."
     )
     found = weak.poor_clients(counts, commands) if counts.offers.total else ""
-    return _section("weak-clients", "Clients with old versions or weak suites", _paragraph(told) + found)
+    return _section(
+        "weak-clients", "Clients with old versions or weak suites", _paragraph(told) + found
+    )
 
 
 def _expiring(counts: Counts, commands: Commands) -> str:
     title = "Certificates that expire soon"
     if not counts.certified:
-        return _section("expiry", title, _paragraph("No line has a not_after: the log tells nothing of certificates, or TLS 1.3 encrypted them all."))
+        return _section(
+            "expiry",
+            title,
+            _paragraph(
+                "No line has a not_after: the log tells nothing of certificates, or TLS 1.3 encrypted them all."
+            ),
+        )
     if counts.last is None:
-        return _section("expiry", title, _paragraph("No line has a time (ts), so nothing tells what is soon."))
+        return _section(
+            "expiry", title, _paragraph("No line has a time (ts), so nothing tells what is soon.")
+        )
     found = weak.expiring(counts)
     more = "more than " if counts.certificates.latest is not None else ""
     kept = f"{more}{text.counted(len(counts.certificates.entries), 'certificate')}"
@@ -213,7 +290,12 @@ def _expiring(counts: Counts, commands: Commands) -> str:
         f"counted from the last time in the log, {text.time(counts.last)} UTC, not from today: the same log always gives the same page. TLS 1.3 encrypts "
         "certificates, so only those of earlier versions are here."
     )
-    return _section("expiry", title, _paragraph(told[0].upper() + told[1:]) + (weak.certificates(counts, commands) if found else ""))
+    return _section(
+        "expiry",
+        title,
+        _paragraph(told[0].upper() + told[1:])
+        + (weak.certificates(counts, commands) if found else ""),
+    )
 
 
 def _unproven(counts: Counts, commands: Commands) -> str:
@@ -223,11 +305,15 @@ def _unproven(counts: Counts, commands: Commands) -> str:
     )
     found = weak.mismatches(counts, commands) if counts.mismatches.total else ""
     found += weak.self_signed(counts, commands) if counts.self_signed.total else ""
-    return _section("unproven", "Wrong names and self-signed certificates", _paragraph(told) + found)
+    return _section(
+        "unproven", "Wrong names and self-signed certificates", _paragraph(told) + found
+    )
 
 
 def _about(reader: Reader, counts: Counts) -> str:
-    lines, connections = text.counted(reader.lines, "line"), text.counted(counts.connections, "connection")
+    lines, connections = text.counted(reader.lines, "line"), text.counted(
+        counts.connections, "connection"
+    )
     told = [
         f"{lines} of the log, {connections}. The time of a connection is that of its first packet.",
         f"Tables have at most {ROWS} rows. Click the head of a column to sort by it. The last column has the uid of a row’s connections and the command "
@@ -238,16 +324,27 @@ def _about(reader: Reader, counts: Counts) -> str:
         *_limits(counts),
     ]
     items = "".join(f"<li>{text.escaped(one)}</li>" for one in told)
-    return _section("about", "How this was counted", f'<ul id="about">{items}</ul>{_left_out(reader)}')
+    return _section(
+        "about", "How this was counted", f'<ul id="about">{items}</ul>{_left_out(reader)}'
+    )
 
 
 def _limits(counts: Counts) -> Iterator[str]:
     """The limits that were reached, and what they mean for the counts."""
     tallies: tuple[tuple[str, Tally[Any, Any]], ...] = (
-        ("hosts", counts.hosts), ("client programs", counts.programs), ("clients", counts.clients), ("servers", counts.servers),
-        ("servers with old versions or weak suites", counts.poor), ("clients with old versions or weak suites", counts.offers),
-        ("hosts with wrong names", counts.mismatches), ("self-signed certificates", counts.self_signed), ("reasons", counts.failures),
-        ("outcomes", counts.outcomes), ("versions", counts.versions), ("suites", counts.suites), ("groups", counts.groups),
+        ("hosts", counts.hosts),
+        ("client programs", counts.programs),
+        ("clients", counts.clients),
+        ("servers", counts.servers),
+        ("servers with old versions or weak suites", counts.poor),
+        ("clients with old versions or weak suites", counts.offers),
+        ("hosts with wrong names", counts.mismatches),
+        ("self-signed certificates", counts.self_signed),
+        ("reasons", counts.failures),
+        ("outcomes", counts.outcomes),
+        ("versions", counts.versions),
+        ("suites", counts.suites),
+        ("groups", counts.groups),
     )
     reached = [(name, tally.missed) for name, tally in tallies if tally.missed]
     if counts.certificates.latest is not None:
@@ -265,10 +362,20 @@ def _left_out(reader: Reader) -> str:
     parts = []
     if reader.unread:
         columns = (Column("Lines that weren’t read"), Column("Lines", True))
-        rows = [[words(reason), number(count)] for reason, count in sorted(reader.unread.items(), key=lambda item: (-item[1], item[0]))]
+        rows = [
+            [words(reason), number(count)]
+            for reason, count in sorted(reader.unread.items(), key=lambda item: (-item[1], item[0]))
+        ]
         parts.append(table("unread-lines", "Lines that weren’t read, by reason", columns, rows))
     if reader.misfits:
         columns = (Column("Field"), Column("Lines", True))
         rows = [[words(field), number(count)] for field, count in sorted(reader.misfits.items())]
-        parts.append(table("misfits", "Values of another type than the field has, which were left out", columns, rows))
+        parts.append(
+            table(
+                "misfits",
+                "Values of another type than the field has, which were left out",
+                columns,
+                rows,
+            )
+        )
     return "".join(parts)

@@ -99,13 +99,40 @@ _JSON_BLANKS = b" \t\n\r"
 # The most names of a certificate that the page shows.
 NAMES = 4
 # The fields of docs/TLSLOG.md that are read.
-TEXTS = ("uid", "version", "cipher", "curve", "server_name", "outcome", "last_alert", "ja4", "id.orig_h", "id.resp_h")
-FIELDS = {"ts", "resumed", "stop", "not_after", "sni_matches_cert", "client_version", "client_supported_versions", "client_ciphers", *TEXTS}
+TEXTS = (
+    "uid",
+    "version",
+    "cipher",
+    "curve",
+    "server_name",
+    "outcome",
+    "last_alert",
+    "ja4",
+    "id.orig_h",
+    "id.resp_h",
+)
+FIELDS = {
+    "ts",
+    "resumed",
+    "stop",
+    "not_after",
+    "sni_matches_cert",
+    "client_version",
+    "client_supported_versions",
+    "client_ciphers",
+    *TEXTS,
+}
 # Fields of a message that no connection has.
 OF_MESSAGES = {"content_type", "side", "place"}
 # The magic numbers of captures: pcap in either byte order, with microseconds or nanoseconds, and
 # pcapng.
-_CAPTURES = (b"\xd4\xc3\xb2\xa1", b"\xa1\xb2\xc3\xd4", b"\x4d\x3c\xb2\xa1", b"\xa1\xb2\x3c\x4d", b"\x0a\x0d\x0d\x0a")
+_CAPTURES = (
+    b"\xd4\xc3\xb2\xa1",
+    b"\xa1\xb2\xc3\xd4",
+    b"\x4d\x3c\xb2\xa1",
+    b"\xa1\xb2\x3c\x4d",
+    b"\x0a\x0d\x0d\x0a",
+)
 _IS_CAPTURE = "this is a capture: run tlslog CAPTURE | tlslog-report -"
 _TO_JSON = "the report reads JSON: run tlslog CAPTURE > LOG"
 
@@ -260,8 +287,23 @@ class Reader:
         if suite is not None:
             suite = suites.name_of(suite)
         return Connection(
-            uid, time, client, server, version, suite, group, host, outcome, is_resumed, alert,
-            stop, ja4, versions, offered, has_name, certificate,
+            uid,
+            time,
+            client,
+            server,
+            version,
+            suite,
+            group,
+            host,
+            outcome,
+            is_resumed,
+            alert,
+            stop,
+            ja4,
+            versions,
+            offered,
+            has_name,
+            certificate,
         )
 
     def _misfit(self, name: str) -> Any:
@@ -297,7 +339,10 @@ class Reader:
         value = self._value(fields["stop"], "stop", _is_object)
         if value is None:
             return None
-        return Stop(self._text(value.get("message"), "stop.message"), self._text(value.get("sender"), "stop.sender"))
+        return Stop(
+            self._text(value.get("message"), "stop.message"),
+            self._text(value.get("sender"), "stop.sender"),
+        )
 
     def _certificate(self, fields: dict[str, Any]) -> Optional[Certificate]:
         not_after = fields["not_after"]

@@ -11,7 +11,21 @@ from . import suites, text
 from .commands import Commands
 from .counting import Address, Counts, Failure, Host, Program, Way
 from .reading import Server
-from .tables import ROWS, Cell, Column, aside, behind, breakable, counted, how_many, number, share, some, table, words
+from .tables import (
+    ROWS,
+    Cell,
+    Column,
+    aside,
+    behind,
+    breakable,
+    counted,
+    how_many,
+    number,
+    share,
+    some,
+    table,
+    words,
+)
 from .tallies import Entry, Tally
 
 CONNECTIONS = Column("Connections", True, "descending")
@@ -43,7 +57,9 @@ class Ranking(NamedTuple):
     columns: Sequence[Column]
 
     def table(self, tally: Tally[Any, Any], row: Callable[[Any, Any], list[Cell]]) -> str:
-        caption = self.title if len(tally.entries) <= ROWS else f"{self.title}: the {ROWS} {self.shown}"
+        caption = (
+            self.title if len(tally.entries) <= ROWS else f"{self.title}: the {ROWS} {self.shown}"
+        )
         rows = [row(key, entry) for key, entry in tally.ranked()[:ROWS]]
         return table(self.name, caption, self.columns, rows, self._others(tally))
 
@@ -54,7 +70,9 @@ class Ranking(NamedTuple):
         if not rest:
             return []
         told = f"{'more than ' if tally.missed else ''}{text.counted(len(tally.entries) - len(shown), 'other ' + self.noun)}"
-        cells = [Cell(aside(told)), number(rest)] + ([share(rest, self.whole)] if _SHARE in self.columns else [])
+        cells = [Cell(aside(told)), number(rest)] + (
+            [share(rest, self.whole)] if _SHARE in self.columns else []
+        )
         return cells + [Cell("")] * (len(self.columns) - len(cells))
 
     def counts(self, entry: Entry) -> list[Cell]:
@@ -68,11 +86,25 @@ def of_entry(entry: Any, commands: Commands, *conditions: str) -> Cell:
 
 
 def _of_field(
-    name: str, title: str, column: str, tally: Tally[Optional[str], Any], cell: Callable[[Optional[str]], Cell], list_of: Callable[[Any, Any], Cell],
+    name: str,
+    title: str,
+    column: str,
+    tally: Tally[Optional[str], Any],
+    cell: Callable[[Optional[str]], Cell],
+    list_of: Callable[[Any, Any], Cell],
 ) -> str:
     """A table of the values of one field."""
-    ranking = Ranking(name, title, "most frequent", "value", tally.total, (Column(column), CONNECTIONS, _SHARE, BEHIND))
-    return ranking.table(tally, lambda key, entry: [cell(key), *ranking.counts(entry), list_of(key, entry)])
+    ranking = Ranking(
+        name,
+        title,
+        "most frequent",
+        "value",
+        tally.total,
+        (Column(column), CONNECTIONS, _SHARE, BEHIND),
+    )
+    return ranking.table(
+        tally, lambda key, entry: [cell(key), *ranking.counts(entry), list_of(key, entry)]
+    )
 
 
 def _having(field: str, commands: Commands) -> Callable[[Any, Any], Cell]:
@@ -83,9 +115,20 @@ def outcomes(counts: Counts, commands: Commands) -> str:
     def cell(value: Optional[str]) -> Cell:
         if value is None:
             return words(None, NONE)
-        return Cell(f"<code>{text.escaped(value)}</code> {aside(OUTCOMES[value])}") if value in OUTCOMES else words(value)
+        return (
+            Cell(f"<code>{text.escaped(value)}</code> {aside(OUTCOMES[value])}")
+            if value in OUTCOMES
+            else words(value)
+        )
 
-    return _of_field("outcomes", "Outcome of the handshake", "Outcome", counts.outcomes, cell, _having("outcome", commands))
+    return _of_field(
+        "outcomes",
+        "Outcome of the handshake",
+        "Outcome",
+        counts.outcomes,
+        cell,
+        _having("outcome", commands),
+    )
 
 
 def versions(counts: Counts, commands: Commands) -> str:
@@ -96,11 +139,21 @@ def versions(counts: Counts, commands: Commands) -> str:
         name = text.escaped(suites.name_of_version(value))
         return Cell(f'{name} <span class="bad">old</span>' if suites.is_old(value) else name)
 
-    return _of_field("versions", "Version that the server chose", "Version", counts.versions, cell, _having("version", commands))
+    return _of_field(
+        "versions",
+        "Version that the server chose",
+        "Version",
+        counts.versions,
+        cell,
+        _having("version", commands),
+    )
 
 
 def faults(found: Sequence[suites.Fault]) -> str:
-    return " ".join(f'<span class="{"bad" if one.is_forbidden else "poor"}">{text.escaped(one.reason)}</span>' for one in found)
+    return " ".join(
+        f'<span class="{"bad" if one.is_forbidden else "poor"}">{text.escaped(one.reason)}</span>'
+        for one in found
+    )
 
 
 def suite_table(counts: Counts, commands: Commands) -> str:
@@ -108,80 +161,186 @@ def suite_table(counts: Counts, commands: Commands) -> str:
         if name is None or not name:
             return words(name, NONE)
         number = suites.number_of_suite(name)
-        return Cell(f"{breakable(name)}{f' {aside(number)}' if number else ''} {faults(suites.faults_of(name))}".rstrip())
+        return Cell(
+            f"{breakable(name)}{f' {aside(number)}' if number else ''} {faults(suites.faults_of(name))}".rstrip()
+        )
 
     def list_of(name: Optional[str], entry: Entry) -> Cell:
-        return of_entry(entry, commands, jq.is_one_of("cipher", spellings([name])) if name is not None else jq.equals("cipher", None))
+        return of_entry(
+            entry,
+            commands,
+            jq.is_one_of("cipher", spellings([name]))
+            if name is not None
+            else jq.equals("cipher", None),
+        )
 
-    return _of_field("suites", "Cipher suite that the server chose", "Suite", counts.suites, cell, list_of)
+    return _of_field(
+        "suites", "Cipher suite that the server chose", "Suite", counts.suites, cell, list_of
+    )
 
 
 def spellings(names: Sequence[str]) -> list[str]:
     """Each suite by name and by number, since a log may have either."""
-    return [one for name in names for one in (name, suites.number_of_suite(name)) if one is not None]
+    return [
+        one for name in names for one in (name, suites.number_of_suite(name)) if one is not None
+    ]
 
 
 def groups(counts: Counts, commands: Commands) -> str:
-    return _of_field("groups", "Group of the key exchange", "Group", counts.groups, lambda value: words(value, NONE), _having("curve", commands))
+    return _of_field(
+        "groups",
+        "Group of the key exchange",
+        "Group",
+        counts.groups,
+        lambda value: words(value, NONE),
+        _having("curve", commands),
+    )
 
 
 def failures(counts: Counts, commands: Commands) -> str:
     columns = (
-        Column("Last alert"), CONNECTIONS, _SHARE, Column("Outcome"), Column("Ended by the message"), Column("Sent by"), Column("Where"), BEHIND,
+        Column("Last alert"),
+        CONNECTIONS,
+        _SHARE,
+        Column("Outcome"),
+        Column("Ended by the message"),
+        Column("Sent by"),
+        Column("Where"),
+        BEHIND,
     )
-    ranking = Ranking("failures", "Failed handshakes by reason", "most frequent", "reason", counts.failures.total, columns)
+    ranking = Ranking(
+        "failures",
+        "Failed handshakes by reason",
+        "most frequent",
+        "reason",
+        counts.failures.total,
+        columns,
+    )
 
     def row(key: Way, entry: Failure) -> list[Cell]:
         outcome, alert, message, sender = key
-        fields = (("outcome", outcome), ("last_alert", alert), ("stop.message", message), ("stop.sender", sender))
+        fields = (
+            ("outcome", outcome),
+            ("last_alert", alert),
+            ("stop.message", message),
+            ("stop.sender", sender),
+        )
         listed = of_entry(entry, commands, *(jq.equals(name, value) for name, value in fields))
         where = some(sorted(entry.servers))
-        return [words(alert, "none"), *ranking.counts(entry), words(outcome), words(message), words(sender), where, listed]
+        return [
+            words(alert, "none"),
+            *ranking.counts(entry),
+            words(outcome),
+            words(message),
+            words(sender),
+            where,
+            listed,
+        ]
 
     return ranking.table(counts.failures, row)
 
 
 def hosts(counts: Counts, commands: Commands) -> str:
     columns = (
-        Column("Host (server_name)"), CONNECTIONS, _SHARE, _BROKEN_OFF, Column("Clients", True), Column("Servers", True), Column("Versions"), BEHIND,
+        Column("Host (server_name)"),
+        CONNECTIONS,
+        _SHARE,
+        _BROKEN_OFF,
+        Column("Clients", True),
+        Column("Servers", True),
+        Column("Versions"),
+        BEHIND,
     )
     ranking = Ranking("hosts", "Hosts", "asked for most often", "host", counts.connections, columns)
 
     def row(key: str, entry: Host) -> list[Cell]:
         broken_off = number(entry.broken_off, entry.missed)
         told = some(suites.in_order(entry.versions), 4)
-        return [words(key), *ranking.counts(entry), broken_off, *map(how_many, entry.others), told, of_entry(entry, commands, jq.equals("server_name", key))]
+        return [
+            words(key),
+            *ranking.counts(entry),
+            broken_off,
+            *map(how_many, entry.others),
+            told,
+            of_entry(entry, commands, jq.equals("server_name", key)),
+        ]
 
     return ranking.table(counts.hosts, row)
 
 
 def programs(counts: Counts, commands: Commands) -> str:
     columns = (
-        Column("Client program (JA4)"), CONNECTIONS, _SHARE, _BROKEN_OFF, Column("Addresses", True), Column("Hosts asked for"), BEHIND,
+        Column("Client program (JA4)"),
+        CONNECTIONS,
+        _SHARE,
+        _BROKEN_OFF,
+        Column("Addresses", True),
+        Column("Hosts asked for"),
+        BEHIND,
     )
-    ranking = Ranking("programs", "Client programs", "seen most often", "client program", counts.connections, columns)
+    ranking = Ranking(
+        "programs",
+        "Client programs",
+        "seen most often",
+        "client program",
+        counts.connections,
+        columns,
+    )
 
     def row(key: str, entry: Program) -> list[Cell]:
         # A JA4 is shorter, but a log may have any text.
-        told = f'<code class="whole">{text.escaped(key)}</code>' if len(key) <= 40 else f"<code>{breakable(key)}</code>"
+        told = (
+            f'<code class="whole">{text.escaped(key)}</code>'
+            if len(key) <= 40
+            else f"<code>{breakable(key)}</code>"
+        )
         name = Cell(told) if key else words(key)
         broken_off = number(entry.broken_off, entry.missed)
         listed = of_entry(entry, commands, jq.equals("ja4", key))
-        return [name, *ranking.counts(entry), broken_off, *map(how_many, entry.others), some(sorted(entry.hosts)), listed]
+        return [
+            name,
+            *ranking.counts(entry),
+            broken_off,
+            *map(how_many, entry.others),
+            some(sorted(entry.hosts)),
+            listed,
+        ]
 
     return ranking.table(counts.programs, row)
 
 
-def _addresses(name: str, title: str, noun: str, others: str, counts: Counts, tally: Tally[Any, Address], list_of: Callable[[Any, Address], Cell]) -> str:
+def _addresses(
+    name: str,
+    title: str,
+    noun: str,
+    others: str,
+    counts: Counts,
+    tally: Tally[Any, Address],
+    list_of: Callable[[Any, Address], Cell],
+) -> str:
     columns = (
-        Column(noun.capitalize()), CONNECTIONS, _SHARE, _BROKEN_OFF, Column(others, True), Column("Versions"), Column("Hosts asked for"), BEHIND,
+        Column(noun.capitalize()),
+        CONNECTIONS,
+        _SHARE,
+        _BROKEN_OFF,
+        Column(others, True),
+        Column("Versions"),
+        Column("Hosts asked for"),
+        BEHIND,
     )
     ranking = Ranking(name, title, "with the most connections", noun, counts.connections, columns)
 
     def row(key: object, entry: Address) -> list[Cell]:
         broken_off = number(entry.broken_off, entry.missed)
         told = [some(suites.in_order(entry.versions), 4), some(sorted(entry.hosts), 2)]
-        return [words(str(key)), *ranking.counts(entry), broken_off, *map(how_many, entry.others), *told, list_of(key, entry)]
+        return [
+            words(str(key)),
+            *ranking.counts(entry),
+            broken_off,
+            *map(how_many, entry.others),
+            *told,
+            list_of(key, entry),
+        ]
 
     return ranking.table(tally, row)
 
@@ -190,11 +349,21 @@ def clients(counts: Counts, commands: Commands) -> str:
     def list_of(key: str, entry: Address) -> Cell:
         return of_entry(entry, commands, jq.equals("id.orig_h", key))
 
-    return _addresses("clients", "Clients by address", "client", "Servers", counts, counts.clients, list_of)
+    return _addresses(
+        "clients", "Clients by address", "client", "Servers", counts, counts.clients, list_of
+    )
 
 
 def servers(counts: Counts, commands: Commands) -> str:
     def list_of(key: Server, entry: Address) -> Cell:
         return of_entry(entry, commands, jq.of_server(key))
 
-    return _addresses("servers", "Servers by address and port", "server", "Clients", counts, counts.servers, list_of)
+    return _addresses(
+        "servers",
+        "Servers by address and port",
+        "server",
+        "Clients",
+        counts,
+        counts.servers,
+        list_of,
+    )

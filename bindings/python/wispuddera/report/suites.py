@@ -19,8 +19,7 @@ def name_of(suite: str) -> str:
 
 
 def number_of_suite(suite: str) -> Optional[str]:
-    """The number of a suite by its name, as `0x1301`; `None` if the registry doesn't have the name.
-    """
+    """The number of a suite by its name, as `0x1301`; `None` if the registry doesn't have the name."""
     return _BY_NAME.get(suite)
 
 
@@ -37,7 +36,13 @@ class Fault(NamedTuple):
 # The key exchange is the first word behind TLS_. Nothing else precedes _WITH_.
 _STATIC = r"^TLS_(RSA|RSA_PSK|DH_DSS|DH_RSA|ECDH_ECDSA|ECDH_RSA|PSK|KRB5)(_EXPORT(1024)?)?_WITH_"
 FAULTS = (
-    Fault(r"_NULL(_|$)|^TLS_SHA\d+_SHA\d+$", "NULL; TLS_SHA256_SHA256, TLS_SHA384_SHA384", "no encryption", True, "RFC 9325, 4.1"),
+    Fault(
+        r"_NULL(_|$)|^TLS_SHA\d+_SHA\d+$",
+        "NULL; TLS_SHA256_SHA256, TLS_SHA384_SHA384",
+        "no encryption",
+        True,
+        "RFC 9325, 4.1",
+    ),
     Fault(r"_anon_", "anon", "no authentication", True, "RFC 5246, A.5"),
     Fault(r"_EXPORT(1024)?_", "EXPORT", "export key length", True, "RFC 9325, 4.1"),
     Fault(r"_RC4_", "RC4", "RC4", True, "RFC 7465"),
@@ -46,7 +51,13 @@ FAULTS = (
     Fault(r"_IDEA_", "IDEA", "IDEA", False, "RFC 5469"),
     Fault(r"_MD5$", "MD5 at the end", "MD5", False, "RFC 6151"),
     Fault(r"_CBC_SHA$", "CBC_SHA at the end", "CBC with SHA-1", False, "RFC 7457, 2.4"),
-    Fault(_STATIC, "RSA, RSA_PSK, DH_DSS, DH_RSA, ECDH_ECDSA, ECDH_RSA, PSK or KRB5 in front of WITH", "no forward secrecy", False, "RFC 9325, 4.1"),
+    Fault(
+        _STATIC,
+        "RSA, RSA_PSK, DH_DSS, DH_RSA, ECDH_ECDSA, ECDH_RSA, PSK or KRB5 in front of WITH",
+        "no forward secrecy",
+        False,
+        "RFC 9325, 4.1",
+    ),
 )
 
 
@@ -58,7 +69,11 @@ def is_judged(name: str) -> bool:
 def faults_of(name: str) -> tuple[Fault, ...]:
     """Why the suite of this name is weak, in the order of the rule; empty for a name in another
     form."""
-    return tuple(fault for fault in FAULTS if re.search(fault.pattern, name)) if is_judged(name) else ()
+    return (
+        tuple(fault for fault in FAULTS if re.search(fault.pattern, name))
+        if is_judged(name)
+        else ()
+    )
 
 
 def faults_in(names: tuple[str, ...]) -> tuple[Fault, ...]:
@@ -67,7 +82,13 @@ def faults_in(names: tuple[str, ...]) -> tuple[Fault, ...]:
     return tuple(fault for fault in FAULTS if fault in found)
 
 
-_VERSIONS = {"TLSv13": "TLS 1.3", "TLSv12": "TLS 1.2", "TLSv11": "TLS 1.1", "TLSv10": "TLS 1.0", "SSLv3": "SSL 3.0"}
+_VERSIONS = {
+    "TLSv13": "TLS 1.3",
+    "TLSv12": "TLS 1.2",
+    "TLSv11": "TLS 1.1",
+    "TLSv10": "TLS 1.0",
+    "SSLv3": "SSL 3.0",
+}
 _VERSIONS.update({"DTLSv13": "DTLS 1.3", "DTLSv12": "DTLS 1.2", "DTLSv10": "DTLS 1.0"})
 _OLD = {"SSLv3", "TLSv10", "TLSv11", "DTLSv10"}
 _TLS12 = 0x0303
@@ -81,7 +102,9 @@ def name_of_version(version: str) -> str:
 def in_order(versions: Iterable[str]) -> list[str]:
     """The versions in words: TLS, then DTLS, each newest first, then numbers without a name."""
     found = set(versions)
-    return [name for version, name in _VERSIONS.items() if version in found] + sorted(found - set(_VERSIONS))
+    return [name for version, name in _VERSIONS.items() if version in found] + sorted(
+        found - set(_VERSIONS)
+    )
 
 
 def number_of(version: str) -> Optional[int]:

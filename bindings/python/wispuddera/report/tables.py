@@ -47,7 +47,9 @@ def counted(entry: Entry) -> Cell:
 
 def share(part: int, whole: int) -> Cell:
     told = text.share(part, whole)
-    return Cell(f'<span class="percent">{text.escaped(told)}</span>{drawing.bar(part, whole, told)}', part)
+    return Cell(
+        f'<span class="percent">{text.escaped(told)}</span>{drawing.bar(part, whole, told)}', part
+    )
 
 
 def how_many(values: Distinct) -> Cell:
@@ -59,7 +61,9 @@ def behind(uids: Values, count: int, command: str) -> Cell:
     """A row's connections: the `uid` of the first ones, and the command that lists all."""
     first, *others = uids or ("list",)
     more = count - len(uids)
-    told = "".join(f"<br/><code>{text.escaped(one)}</code>" for one in others) + (f"<br/>{aside(f'and {text.number(more)} more')}" if uids and more > 0 else "")
+    told = "".join(f"<br/><code>{text.escaped(one)}</code>" for one in others) + (
+        f"<br/>{aside(f'and {text.number(more)} more')}" if uids and more > 0 else ""
+    )
     return Cell(
         f"<details><summary><code>{text.escaped(first)}</code></summary>{told.removeprefix('<br/>')}"
         f'<pre><code class="command">{text.escaped_line(command)}</code></pre></details>'
@@ -83,7 +87,13 @@ def some(values: Sequence[str], most: int = 3, count: int = 0) -> Cell:
     return Cell(f"{', '.join(shown)}{rest}")
 
 
-def table(name: str, caption: str, columns: Sequence[Column], rows: Iterable[Sequence[Cell]], foot: Sequence[Cell] = ()) -> str:
+def table(
+    name: str,
+    caption: str,
+    columns: Sequence[Column],
+    rows: Iterable[Sequence[Cell]],
+    foot: Sequence[Cell] = (),
+) -> str:
     """A table whose first column has the row headers. Sorting leaves the foot at the end. The
     caption is outside of the part that scrolls, so that it can be read on a narrow screen."""
     head = "".join(_head(column) for column in columns)

@@ -65,7 +65,9 @@ class Tally(Generic[Key, E]):
 
     def _forget(self) -> None:
         """Drops the entries with the lowest counts; among equals the first ones stay."""
-        ranked = sorted(self.entries.items(), key=lambda item: item[1].count + item[1].missed, reverse=True)
+        ranked = sorted(
+            self.entries.items(), key=lambda item: item[1].count + item[1].missed, reverse=True
+        )
         first_out = ranked[self.most][1]
         self.missed = first_out.count + first_out.missed
         self.entries = dict(ranked[: self.most])
@@ -74,7 +76,9 @@ class Tally(Generic[Key, E]):
 
     def ranked(self) -> list[tuple[Key, E]]:
         """The entries by rank, then the most frequent first, then by name."""
-        return sorted(self.entries.items(), key=lambda item: (item[1].rank, -item[1].count, str(item[0])))
+        return sorted(
+            self.entries.items(), key=lambda item: (item[1].rank, -item[1].count, str(item[0]))
+        )
 
 
 def with_value(values: Values, value: Optional[str]) -> Values:
@@ -91,7 +95,23 @@ class Timeline:
     MOST = 180
     # Lengths in seconds. Each is a multiple of the one before, so that whole intervals are joined.
     # The last ones are 4, 52, 520 and 5200 weeks.
-    STEPS = (1, 5, 15, 60, 300, 900, 3600, 10800, 43200, 86400, 604800, 2419200, 31449600, 314496000, 3144960000)
+    STEPS = (
+        1,
+        5,
+        15,
+        60,
+        300,
+        900,
+        3600,
+        10800,
+        43200,
+        86400,
+        604800,
+        2419200,
+        31449600,
+        314496000,
+        3144960000,
+    )
 
     def __init__(self, kinds: int) -> None:
         self.kinds = kinds
@@ -127,8 +147,7 @@ class Timeline:
 
 
 class Soonest(Generic[Key, Item]):
-    """Keeps the entries with the earliest ends: at least `most` of them, and at most twice as many.
-    """
+    """Keeps the entries with the earliest ends: at least `most` of them, and at most twice as many."""
 
     def __init__(self, most: int = MOST) -> None:
         self.most = most

@@ -60,8 +60,7 @@ def counted(value: int, one: str, more: Optional[str] = None) -> str:
 
 
 def share(part: int, whole: int) -> str:
-    """A part in percent, with one decimal. A small part isn't shown as 0, nor a large one as 100.
-    """
+    """A part in percent, with one decimal. A small part isn't shown as 0, nor a large one as 100."""
     if not whole:
         return "–"
     percent = 100 * part / whole
@@ -108,6 +107,10 @@ def seconds_of(iso: str) -> Optional[int]:
 def _seconds_of(iso: str) -> Optional[int]:
     found = _ISO.fullmatch(iso)
     try:
-        return int((datetime.fromisoformat(f"{iso[:-1]}+00:00") - _START).total_seconds()) if found else None
+        return (
+            int((datetime.fromisoformat(f"{iso[:-1]}+00:00") - _START).total_seconds())
+            if found
+            else None
+        )
     except ValueError:
         return None
