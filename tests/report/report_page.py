@@ -46,9 +46,9 @@ WEAK_LISTS = (
     {"0x002f", "0x0035", "0x003c", "0x00ff", "0x010080", "0x0700c0"},
     {"0xc00a", "0xc014", "0x0039", "0xc009", "0xc013", "0x0033", "0x0035", "0x002f", "0x00ff"},
 )
-NONE = "none in the line"
+NONE = "absent"
 # The counts in the title of a bar.
-PARTS = r"([\d,]+) (?:completed|broken off|other|1\.3|1\.2|older|none or another)"
+PARTS = r"([\d,]+) (?:completed|broken off|other|1\.3|1\.2|older|none or unknown)"
 
 
 class Wrong(Exception):
@@ -266,7 +266,7 @@ def check_figures(page: Page, lines: list[Line]) -> None:
 
 def check_fields(page: Page, lines: list[Line]) -> None:
     field = lambda name: Counter(line.get(name) for line in lines)  # noqa: E731
-    none = lambda told: lambda text: None if text == told else text  # noqa: E731
+    none = lambda absent: lambda text: None if text == absent else text  # noqa: E731
     same_table(page, "outcomes", field("outcome"), key=lambda text: text.split(" ")[0])
     same_table(page, "groups", field("curve"), key=none(NONE))
     versions = Counter(
@@ -299,7 +299,7 @@ def check_fields(page: Page, lines: list[Line]) -> None:
     marked = {
         suite(text)
         for text in page.column("suites")
-        if not re.search(r"0x[0-9a-f]{4}$|^none", text)
+        if not re.search(r"0x[0-9a-f]{4}$|^absent", text)
     }
     want(
         marked == {number_of_suite(line) for line in lines if is_weak(line)}, "weak suites:", marked
@@ -459,7 +459,7 @@ def check_certificates(page: Page, lines: list[Line]) -> None:
         page.number("expiring") == len(soon), "certificates:", page.ids["expiring"],
         "where this is wanted:", len(soon),
     )
-    subjects = {line["cert_chain_fps"][0]: line.get("subject", "none told") for line in some}
+    subjects = {line["cert_chain_fps"][0]: line.get("subject", NONE) for line in some}
     counts = Counter(line["cert_chain_fps"][0] for line in some)
     servers = {}
     for line in some:
@@ -492,7 +492,7 @@ def kind_of_outcome(line: Line) -> int:
 
 
 def kind_of_version(line: Line) -> int:
-    """The place of a line's version in a bar: 1.3, 1.2, older, none or another."""
+    """The place of a line's version in a bar: 1.3, 1.2, older, none or unknown."""
     number = line.get("version", "")[-2:]
     if number in ("13", "12"):
         return 0 if number == "13" else 1

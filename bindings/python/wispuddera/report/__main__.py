@@ -43,8 +43,8 @@ class _Reading:
         return self._log.readline(most)
 
 
-def _fail(status: int, told: str) -> NoReturn:
-    print(f"{NAME}: {told}", file=sys.stderr)
+def _fail(status: int, message: str) -> NoReturn:
+    print(f"{NAME}: {message}", file=sys.stderr)
     sys.exit(status)
 
 
@@ -96,13 +96,13 @@ def main() -> None:
     capture = "the name in the page's title (default: that of the log)"
     parser.add_argument("logs", metavar="LOG", nargs="+", help=logs)
     parser.add_argument("--capture", metavar="NAME", default="", help=capture)
-    asked = parser.parse_args()
-    if asked.logs.count("-") > 1:
+    options = parser.parse_args()
+    if options.logs.count("-") > 1:
         parser.error("standard input is named twice")
-    if sys.stdin.isatty() and "-" in asked.logs:
+    if sys.stdin.isatty() and "-" in options.logs:
         print(f"{NAME}: reading the log from the terminal; Ctrl-D ends it", file=sys.stderr)
     try:
-        _write(_page_of(asked.logs, Path(asked.capture).name))
+        _write(_page_of(options.logs, Path(options.capture).name))
     except KeyboardInterrupt:
         sys.exit(130)
 

@@ -127,11 +127,11 @@ def _height_of(mark: int, top: int) -> str:
 
 def _axis(top: int, marks: list[int]) -> str:
     """The labels of the vertical axis."""
-    told = "".join(
+    labels = "".join(
         f'<text x="100%" y="{_height_of(mark, top)}" dy="4">{text.number(mark)}</text>'
         for mark in marks
     )
-    return f'<svg class="axis" aria-hidden="true">{told}</svg>'
+    return f'<svg class="axis" aria-hidden="true">{labels}</svg>'
 
 
 def _grid(top: int, marks: list[int]) -> Iterator[str]:
@@ -171,10 +171,10 @@ def _bar(
     series: tuple[Series, ...],
 ) -> str:
     """The bar of an interval; its title has the counts."""
-    told = ", ".join(
+    shown = ", ".join(
         f"{text.number(count)} {one.name.lower()}" for one, count in zip(series, counts)
     )
-    parts = [f"<g><title>{text.time(start)}, {text.duration(step)}: {text.escaped(told)}</title>"]
+    parts = [f"<g><title>{text.time(start)}, {text.duration(step)}: {text.escaped(shown)}</title>"]
     y = float(HEIGHT - BOTTOM)
     width = 0.85 * room
     for one, count in zip(series, counts):

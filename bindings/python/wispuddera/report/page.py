@@ -25,7 +25,7 @@ _BY_VERSION = (
     Series("1.3", "newest"),
     Series("1.2", "newer"),
     Series("Older", "older"),
-    Series("None or another", "other"),
+    Series("None or unknown", "other"),
 )
 
 
@@ -95,8 +95,8 @@ def _header(page: _Page) -> Iterator[str]:
         yield f'<p class="span"><span id="first">{first}</span> to <span id="last">{last}</span> UTC, {span}</p>'
     unread = sum(reader.unread.values())
     if unread:
-        told = f'<span id="unread">{text.counted(unread, "line")}</span> of {text.number(reader.lines)} weren’t read'
-        yield f'<p class="notice">{told}: <a href="#about">why</a>.</p>'
+        skipped = f'<span id="unread">{text.counted(unread, "line")}</span> of {text.number(reader.lines)} skipped'
+        yield f'<p class="notice">{skipped}: <a href="#about">why</a>.</p>'
     yield "</header>"
 
 
@@ -131,14 +131,14 @@ def _figures(counts: Counts) -> str:
                 name,
                 title,
                 text.number(count),
-                f"{text.share(count, counts.versioned)} of those with a ServerHello",
+                f"{text.share(count, counts.versioned)} of connections with a ServerHello",
             )
         )
-    is_told = counts.certified and counts.last is not None
+    is_known = counts.certified and counts.last is not None
     value, more = (
-        (text.number(len(weak.expiring(counts))), "or expired before")
-        if is_told
-        else ("–", "the log doesn’t tell")
+        (text.number(len(weak.expiring(counts))), "or already expired")
+        if is_known
+        else ("–", "not in the log")
     )
     rows.append(_figure("expiring", f"Certificates expiring in {weak.SOON} days", value, more))
     return f'<dl class="figures">{"".join(rows)}</dl>'
@@ -167,8 +167,8 @@ def _section(name: str, title: str, content: str) -> str:
     return f'<section aria-labelledby="{name}-head"><h2 id="{name}-head">{text.escaped(title)}</h2>{content}</section>'
 
 
-def _paragraph(told: str) -> str:
-    return f"<p>{text.escaped(told)}</p>"
+def _paragraph(content: str) -> str:
+    return f"<p>{text.escaped(content)}</p>"
 
 
 def _over_time(counts: Counts) -> Iterator[str]:
@@ -181,7 +181,7 @@ def _over_time(counts: Counts) -> Iterator[str]:
         ("version", counts.by_version, _BY_VERSION),
     )
     for name, line, series in kinds:
-        title = f"Connections by {name}, each bar {text.duration(line.step)}"
+        title = f"Connections by {name}, {text.duration(line.step)} per bar"
         picture = drawing.timeline(f"by-{name}", title, line, series)
         pictures.append(
             f"<figure><figcaption>{text.escaped(title)}{drawing.legend(series)}</figcaption>{picture}</figure>"
@@ -195,40 +195,40 @@ def _chosen(counts: Counts, commands: Commands) -> str:
         f'<div class="pair"><div>{left}</div><div>{sections.versions(counts, commands)}</div></div>'
     )
     return _section(
-        "chosen", "Outcomes and what was negotiated", pair + sections.suite_table(counts, commands)
+        "chosen", "Outcomes and negotiated parameters", pair + sections.suite_table(counts, commands)
     )
 
 
 def _failures(counts: Counts, commands: Commands) -> str:
-    title = "Failed handshakes, and why"
+    title = "Failed handshakes"
     if not counts.failures.total:
         return _section("broken", title, _paragraph("No handshake failed."))
-    told = (
-        f"{text.counted(counts.failures.total, 'handshake')} failed. The last alert says why a side gave up. The message that ended the handshake is that "
-        "alert, or one that should not have come. In TLS 1.3 alerts after the ServerHello are encrypted, so they aren’t here."
+    content = (
+        f"{text.counted(counts.failures.total, 'handshake')} failed. The last alert gives the reason. The message that ended the handshake is that "
+        "alert, or an unexpected message. TLS 1.3 encrypts alerts after the ServerHello, so they don’t appear here."
     )
-    return _section("broken", title, _paragraph(told) + sections.failures(counts, commands))
+    return _section("broken", title, _paragraph(content) + sections.failures(counts, commands))
 
 
 def _kinds(tally: Tally[Any, Any], noun: str) -> str:
-    """How many distinct values there are: `12 different hosts`, `More than 10,000 different hosts`."""
-    return f"{'More than ' if tally.missed else ''}{text.counted(len(tally.entries), 'different ' + noun)}"
+    """How many distinct values there are: `12 distinct hosts`, `More than 10,000 distinct hosts`."""
+    return f"{'More than ' if tally.missed else ''}{text.counted(len(tally.entries), 'distinct ' + noun)}"
 
 
 def _hosts(counts: Counts, commands: Commands) -> str:
     if not counts.hosts.total:
         return _section("by-host", "Hosts", _paragraph("No line has a server_name."))
     without = counts.connections - counts.hosts.total
-    told = f"{_kinds(counts.hosts, 'host')}. {text.counted(without, 'connection')} asked for none. Clients and servers are counted by address."
-    return _section("by-host", "Hosts", _paragraph(told) + sections.hosts(counts, commands))
+    content = f"{_kinds(counts.hosts, 'host')}. {text.counted(without, 'connection')} without a server_name. Clients and servers are counted by address."
+    return _section("by-host", "Hosts", _paragraph(content) + sections.hosts(counts, commands))
 
 
 def _programs(counts: Counts, commands: Commands) -> str:
     if not counts.programs.total:
         return _section("by-program", "Client programs", _paragraph("No line has a ja4."))
-    told = f"{_kinds(counts.programs, 'JA4 fingerprint')}. Programs that use the same library in the same way share one."
+    content = f"{_kinds(counts.programs, 'JA4 fingerprint')}. Programs that use a TLS library with the same settings share a fingerprint."
     return _section(
-        "by-program", "Client programs", _paragraph(told) + sections.programs(counts, commands)
+        "by-program", "Client programs", _paragraph(content) + sections.programs(counts, commands)
     )
 
 
@@ -238,33 +238,33 @@ def _addresses(counts: Counts, commands: Commands) -> str:
         return _section(
             "by-address", title, _paragraph("No line has an address (id.orig_h, id.resp_h).")
         )
-    told = f"{_kinds(counts.clients, 'client')} and {_kinds(counts.servers, 'server').lower()}."
+    content = f"{_kinds(counts.clients, 'client')} and {_kinds(counts.servers, 'server').lower()}."
     found = sections.clients(counts, commands) if counts.clients.total else ""
     found += sections.servers(counts, commands) if counts.servers.total else ""
-    return _section("by-address", title, _paragraph(told) + found)
+    return _section("by-address", title, _paragraph(content) + found)
 
 
 def _poor_servers(counts: Counts, commands: Commands) -> str:
     title = "Servers with old versions or weak suites"
-    told = (
+    content = (
         f"{text.counted(counts.old, 'connection')} with an old version (below TLS 1.2 or DTLS 1.2, RFC 8996), {text.number(counts.weak)} with a weak "
-        "suite. The grade is that of the RFCs: a server must not choose it, or should not."
+        "suite. The grade follows the RFCs: a server must not choose it, or should not."
     )
     if counts.unjudged:
-        told += f" Suites of {text.counted(counts.unjudged, 'connection')} have no name here, and weren’t judged."
-    rule = f"<details><summary>The rule for suites</summary>{weak.rule()}</details>"
+        content += f" The suites of {text.counted(counts.unjudged, 'connection')} have no known name and weren’t judged."
+    rule = f"<details><summary>Which suites are weak</summary>{weak.rule()}</details>"
     found = weak.poor_servers(counts, commands) if counts.poor.total else ""
-    return _section("weak-servers", title, _paragraph(told) + found + rule)
+    return _section("weak-servers", title, _paragraph(content) + found + rule)
 
 
 def _poor_clients(counts: Counts, commands: Commands) -> str:
-    told = (
+    content = (
         f"{text.counted(counts.old_offers, 'ClientHello')} offered TLS 1.1, DTLS 1.0 or older: in supported_versions, or as the version of a hello "
-        f"without it. {text.number(counts.weak_offers)} offered no suite that the rule above calls good."
+        f"without that extension. {text.number(counts.weak_offers)} offered only weak suites, by the rules above."
     )
     found = weak.poor_clients(counts, commands) if counts.offers.total else ""
     return _section(
-        "weak-clients", "Clients with old versions or weak suites", _paragraph(told) + found
+        "weak-clients", "Clients with old versions or weak suites", _paragraph(content) + found
     )
 
 
@@ -275,38 +275,38 @@ def _expiring(counts: Counts, commands: Commands) -> str:
             "expiry",
             title,
             _paragraph(
-                "No line has a not_after: the log tells nothing of certificates, or TLS 1.3 encrypted them all."
+                "No line has a not_after: the log has no fields of certificates, or TLS 1.3 encrypted them all."
             ),
         )
     if counts.last is None:
         return _section(
-            "expiry", title, _paragraph("No line has a time (ts), so nothing tells what is soon.")
+            "expiry", title, _paragraph("No line has a time (ts) to count days from.")
         )
     found = weak.expiring(counts)
     more = "more than " if counts.certificates.latest is not None else ""
     kept = f"{more}{text.counted(len(counts.certificates.entries), 'certificate')}"
-    told = (
+    content = (
         f"{kept} in {text.counted(counts.certified, 'connection')}; {text.number(len(found))} have expired or expire within {weak.SOON} days. Days are "
         f"counted from the last time in the log, {text.time(counts.last)} UTC, not from today: the same log always gives the same page. TLS 1.3 encrypts "
-        "certificates, so only those of earlier versions are here."
+        "certificates, so only those of earlier versions appear here."
     )
     return _section(
         "expiry",
         title,
-        _paragraph(told[0].upper() + told[1:])
+        _paragraph(content[0].upper() + content[1:])
         + (weak.certificates(counts, commands) if found else ""),
     )
 
 
 def _unproven(counts: Counts, commands: Commands) -> str:
-    told = (
-        f"{text.counted(counts.mismatches.total, 'connection')} got a certificate that doesn’t have the name that was asked for (RFC 6125), and "
-        f"{text.number(counts.self_signed.total)} one whose subject is its issuer. No signature was verified."
+    content = (
+        f"{text.counted(counts.mismatches.total, 'connection')} got a certificate without the requested name (RFC 6125), and "
+        f"{text.number(counts.self_signed.total)} one whose subject equals its issuer. Signatures aren’t verified."
     )
     found = weak.mismatches(counts, commands) if counts.mismatches.total else ""
     found += weak.self_signed(counts, commands) if counts.self_signed.total else ""
     return _section(
-        "unproven", "Wrong names and self-signed certificates", _paragraph(told) + found
+        "unproven", "Wrong names and self-signed certificates", _paragraph(content) + found
     )
 
 
@@ -314,18 +314,18 @@ def _about(reader: Reader, counts: Counts) -> str:
     lines, connections = text.counted(reader.lines, "line"), text.counted(
         counts.connections, "connection"
     )
-    told = [
+    content = [
         f"{lines} of the log, {connections}. The time of a connection is that of its first packet.",
-        f"Tables have at most {ROWS} rows. Click the head of a column to sort by it. The last column has the uid of a row’s connections and the command "
-        "that lists them all.",
-        f"Numbers of clients, servers and addresses are exact up to {text.number(distinct.EXACT)}. Those with ≈ are estimates by HyperLogLog with "
-        f"{text.number(distinct.REGISTERS)} registers: the standard error is {100 * distinct.ERROR:.1f}%.",
-        f"Characters of the log that can’t be seen are escaped. Text is cut at {text.LONGEST} characters: {text.counted(reader.cut, 'value')}.",
+        f"Tables have at most {ROWS} rows. Click a column’s head to sort by it. The last column has the uids of a row’s first connections and the "
+        "command that lists all of them.",
+        f"Numbers of clients, servers and addresses are exact up to {text.number(distinct.EXACT)}. Those marked ≈ are HyperLogLog estimates with "
+        f"{text.number(distinct.REGISTERS)} registers and a standard error of {100 * distinct.ERROR:.1f}%.",
+        f"Invisible characters are escaped. Text is cut at {text.LONGEST} characters ({text.counted(reader.cut, 'value')} cut).",
         *_limits(counts),
     ]
-    items = "".join(f"<li>{text.escaped(one)}</li>" for one in told)
+    items = "".join(f"<li>{text.escaped(one)}</li>" for one in content)
     return _section(
-        "about", "How this was counted", f'<ul id="about">{items}</ul>{_left_out(reader)}'
+        "about", "How this was counted", f'<ul id="about">{items}</ul>{_skipped(reader)}'
     )
 
 
@@ -340,7 +340,7 @@ def _limits(counts: Counts) -> Iterator[str]:
         ("clients with old versions or weak suites", counts.offers),
         ("hosts with wrong names", counts.mismatches),
         ("self-signed certificates", counts.self_signed),
-        ("reasons", counts.failures),
+        ("reasons of failed handshakes", counts.failures),
         ("outcomes", counts.outcomes),
         ("versions", counts.versions),
         ("suites", counts.suites),
@@ -348,32 +348,32 @@ def _limits(counts: Counts) -> Iterator[str]:
     )
     reached = [(name, tally.missed) for name, tally in tallies if tally.missed]
     if counts.certificates.latest is not None:
-        yield f"There were more than {text.number(2 * MOST)} certificates: only those that expire first were kept."
+        yield f"There were more than {text.number(2 * MOST)} certificates; only those that expire first were kept."
     for name, missed in reached:
         yield (
-            f"There were more than {text.number(2 * MOST)} different {name}, so the rarest were dropped on the way. Counts with ≥ may be short by up "
-            f"to {text.number(missed)}, others are exact, and none with more than {text.number(missed)} connections is missing."
+            f"There were more than {text.number(2 * MOST)} distinct {name}, so the rarest were dropped. Counts marked ≥ may be short by up "
+            f"to {text.number(missed)}; others are exact. Nothing with more than {text.number(missed)} connections is missing."
         )
     if not reached and counts.certificates.latest is None:
-        yield f"Up to {text.number(2 * MOST)} different values of a field are held at once. There weren’t more, so all counts are exact."
+        yield f"No field has more than {text.number(2 * MOST)} distinct values, so all counts of connections are exact."
 
 
-def _left_out(reader: Reader) -> str:
+def _skipped(reader: Reader) -> str:
     parts = []
     if reader.unread:
-        columns = (Column("Lines that weren’t read"), Column("Lines", True))
+        columns = (Column("Reason"), Column("Lines", True))
         rows = [
             [words(reason), number(count)]
             for reason, count in sorted(reader.unread.items(), key=lambda item: (-item[1], item[0]))
         ]
-        parts.append(table("unread-lines", "Lines that weren’t read, by reason", columns, rows))
+        parts.append(table("unread-lines", "Skipped lines by reason", columns, rows))
     if reader.misfits:
         columns = (Column("Field"), Column("Lines", True))
         rows = [[words(field), number(count)] for field, count in sorted(reader.misfits.items())]
         parts.append(
             table(
                 "misfits",
-                "Values of another type than the field has, which were left out",
+                "Skipped values of the wrong type",
                 columns,
                 rows,
             )

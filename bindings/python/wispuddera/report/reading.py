@@ -21,15 +21,15 @@ BATCH = 256 << 10
 class Unread:
     """The reasons why a line is skipped."""
 
-    NO_JSON = "no JSON, or cut short"
-    NO_OBJECT = "JSON, but no object"
+    NO_JSON = "not JSON, or truncated"
+    NO_OBJECT = "JSON, but not an object"
     TOO_LONG = f"longer than {text.number(LONGEST_LINE)} bytes"
     MESSAGE = "a message, as --messages prints them"
-    NO_FIELD = "none of the fields that the report reads"
+    NO_FIELD = "no field that the report reads"
 
 
 class OtherFormat(ValueError):
-    """The log isn't JSON of `tlslog`. The text says what it is, and which command makes JSON."""
+    """The log isn't JSON of `tlslog`. The text names its format, and the command that makes JSON."""
 
 
 class Stop(NamedTuple):
@@ -90,7 +90,7 @@ class Connection(NamedTuple):
 
 
 def _refuse(constant: str) -> NoReturn:
-    raise ValueError(f"{constant} is no JSON")
+    raise ValueError(f"{constant} is not JSON")
 
 
 _DECODER = json.JSONDecoder(parse_constant=_refuse)
@@ -161,7 +161,7 @@ def _other_lines(line: bytes) -> Optional[str]:
     if "event_type" in fields:
         return f"these are Suricata's events, and {_TO_JSON}"
     if "@timestamp" in fields:
-        return f"these are events by Elastic's names, and {_TO_JSON}"
+        return f"these are events in Elastic's format, and {_TO_JSON}"
     if "content_type" in fields and "side" in fields:
         return "these are messages, and the report reads connections: run tlslog CAPTURE > LOG, without --messages"
     if "fingerprint" in fields and "side" in fields:
@@ -209,7 +209,7 @@ class Reader:
                     batch, room = [], BATCH
             yield from batch
             if self.lines > lines and self.lines - lines == sum(self.unread.values()) - unread:
-                raise OtherFormat(f"no line of it is a connection, and {_TO_JSON}")
+                raise OtherFormat(f"no line is a connection, and {_TO_JSON}")
 
     def _lines(self, log: BinaryIO) -> Iterator[bytes]:
         """The lines that are neither blank nor too long."""

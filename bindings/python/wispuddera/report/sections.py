@@ -32,16 +32,16 @@ CONNECTIONS = Column("Connections", True, "descending")
 BEHIND = Column("uid")
 _SHARE = Column("Share", True)
 _BROKEN_OFF = Column("Broken off", True)
-NONE = "none in the line"
+NONE = "absent"
 
 OUTCOMES = {
     "full": "full handshake",
     "resumed": "session resumed",
     "tls13": "TLS 1.3, up to the ServerHello",
     "broken_off": "broken off by an alert",
-    "waiting": "not finished",
+    "waiting": "incomplete",
     "unknown": "unknown message",
-    "no_handshake": "messages that are no handshake",
+    "no_handshake": "not a handshake",
 }
 
 
@@ -69,8 +69,8 @@ class Ranking(NamedTuple):
         rest = tally.total - sum(entry.count for _, entry in shown)
         if not rest:
             return []
-        told = f"{'more than ' if tally.missed else ''}{text.counted(len(tally.entries) - len(shown), 'other ' + self.noun)}"
-        cells = [Cell(aside(told)), number(rest)] + (
+        others = f"{'more than ' if tally.missed else ''}{text.counted(len(tally.entries) - len(shown), 'other ' + self.noun)}"
+        cells = [Cell(aside(others)), number(rest)] + (
             [share(rest, self.whole)] if _SHARE in self.columns else []
         )
         return cells + [Cell("")] * (len(self.columns) - len(cells))
@@ -141,7 +141,7 @@ def versions(counts: Counts, commands: Commands) -> str:
 
     return _of_field(
         "versions",
-        "Version that the server chose",
+        "Negotiated version",
         "Version",
         counts.versions,
         cell,
@@ -175,7 +175,7 @@ def suite_table(counts: Counts, commands: Commands) -> str:
         )
 
     return _of_field(
-        "suites", "Cipher suite that the server chose", "Suite", counts.suites, cell, list_of
+        "suites", "Negotiated cipher suite", "Suite", counts.suites, cell, list_of
     )
 
 
@@ -189,7 +189,7 @@ def spellings(names: Sequence[str]) -> list[str]:
 def groups(counts: Counts, commands: Commands) -> str:
     return _of_field(
         "groups",
-        "Group of the key exchange",
+        "Key exchange group",
         "Group",
         counts.groups,
         lambda value: words(value, NONE),
@@ -203,9 +203,9 @@ def failures(counts: Counts, commands: Commands) -> str:
         CONNECTIONS,
         _SHARE,
         Column("Outcome"),
-        Column("Ended by the message"),
-        Column("Sent by"),
-        Column("Where"),
+        Column("Ended by"),
+        Column("Sender"),
+        Column("Host or server"),
         BEHIND,
     )
     ranking = Ranking(
@@ -251,17 +251,17 @@ def hosts(counts: Counts, commands: Commands) -> str:
         Column("Versions"),
         BEHIND,
     )
-    ranking = Ranking("hosts", "Hosts", "asked for most often", "host", counts.connections, columns)
+    ranking = Ranking("hosts", "Hosts", "most requested", "host", counts.connections, columns)
 
     def row(key: str, entry: Host) -> list[Cell]:
         broken_off = number(entry.broken_off, entry.missed)
-        told = some(suites.in_order(entry.versions), 4)
+        versions = some(suites.in_order(entry.versions), 4)
         return [
             words(key),
             *ranking.counts(entry),
             broken_off,
             *map(how_many, entry.others),
-            told,
+            versions,
             of_entry(entry, commands, jq.equals("server_name", key)),
         ]
 
@@ -275,13 +275,13 @@ def programs(counts: Counts, commands: Commands) -> str:
         _SHARE,
         _BROKEN_OFF,
         Column("Addresses", True),
-        Column("Hosts asked for"),
+        Column("Requested hosts"),
         BEHIND,
     )
     ranking = Ranking(
         "programs",
         "Client programs",
-        "seen most often",
+        "most frequent",
         "client program",
         counts.connections,
         columns,
@@ -289,12 +289,12 @@ def programs(counts: Counts, commands: Commands) -> str:
 
     def row(key: str, entry: Program) -> list[Cell]:
         # A JA4 is shorter, but a log may have any text.
-        told = (
+        code = (
             f'<code class="whole">{text.escaped(key)}</code>'
             if len(key) <= 40
             else f"<code>{breakable(key)}</code>"
         )
-        name = Cell(told) if key else words(key)
+        name = Cell(code) if key else words(key)
         broken_off = number(entry.broken_off, entry.missed)
         listed = of_entry(entry, commands, jq.equals("ja4", key))
         return [
@@ -325,20 +325,20 @@ def _addresses(
         _BROKEN_OFF,
         Column(others, True),
         Column("Versions"),
-        Column("Hosts asked for"),
+        Column("Requested hosts"),
         BEHIND,
     )
     ranking = Ranking(name, title, "with the most connections", noun, counts.connections, columns)
 
     def row(key: object, entry: Address) -> list[Cell]:
         broken_off = number(entry.broken_off, entry.missed)
-        told = [some(suites.in_order(entry.versions), 4), some(sorted(entry.hosts), 2)]
+        lists = [some(suites.in_order(entry.versions), 4), some(sorted(entry.hosts), 2)]
         return [
             words(str(key)),
             *ranking.counts(entry),
             broken_off,
             *map(how_many, entry.others),
-            *told,
+            *lists,
             list_of(key, entry),
         ]
 

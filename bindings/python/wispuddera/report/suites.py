@@ -24,10 +24,11 @@ def number_of_suite(suite: str) -> Optional[str]:
 
 
 class Fault(NamedTuple):
-    """A reason why suites whose names match the pattern are weak, and the RFC that has it."""
+    """Why suites whose names match the pattern are weak, and the RFC that says so. `contains` shows
+    the pattern to readers."""
 
     pattern: str
-    told: str
+    contains: str
     reason: str
     is_forbidden: bool  # MUST NOT; else SHOULD NOT
     reference: str
@@ -53,7 +54,7 @@ FAULTS = (
     Fault(r"_CBC_SHA$", "CBC_SHA at the end", "CBC with SHA-1", False, "RFC 7457, 2.4"),
     Fault(
         _STATIC,
-        "RSA, RSA_PSK, DH_DSS, DH_RSA, ECDH_ECDSA, ECDH_RSA, PSK or KRB5 in front of WITH",
+        "RSA, RSA_PSK, DH_DSS, DH_RSA, ECDH_ECDSA, ECDH_RSA, PSK or KRB5 before WITH",
         "no forward secrecy",
         False,
         "RFC 9325, 4.1",

@@ -32,8 +32,8 @@ def words(value: Optional[str], none: str = "–") -> Cell:
     return Cell(text.escaped(value) if value else aside(none if value is None else "empty"))
 
 
-def aside(told: str) -> str:
-    return f'<span class="aside">{text.escaped(told)}</span>'
+def aside(note: str) -> str:
+    return f'<span class="aside">{text.escaped(note)}</span>'
 
 
 def number(value: int, missed: int = 0) -> Cell:
@@ -46,9 +46,9 @@ def counted(entry: Entry) -> Cell:
 
 
 def share(part: int, whole: int) -> Cell:
-    told = text.share(part, whole)
+    percent = text.share(part, whole)
     return Cell(
-        f'<span class="percent">{text.escaped(told)}</span>{drawing.bar(part, whole, told)}', part
+        f'<span class="percent">{text.escaped(percent)}</span>{drawing.bar(part, whole, percent)}', part
     )
 
 
@@ -61,11 +61,11 @@ def behind(uids: Values, count: int, command: str) -> Cell:
     """A row's connections: the `uid` of the first ones, and the command that lists all."""
     first, *others = uids or ("list",)
     more = count - len(uids)
-    told = "".join(f"<br/><code>{text.escaped(one)}</code>" for one in others) + (
+    uid_lines = "".join(f"<br/><code>{text.escaped(one)}</code>" for one in others) + (
         f"<br/>{aside(f'and {text.number(more)} more')}" if uids and more > 0 else ""
     )
     return Cell(
-        f"<details><summary><code>{text.escaped(first)}</code></summary>{told.removeprefix('<br/>')}"
+        f"<details><summary><code>{text.escaped(first)}</code></summary>{uid_lines.removeprefix('<br/>')}"
         f'<pre><code class="command">{text.escaped_line(command)}</code></pre></details>'
     )
 

@@ -10,12 +10,12 @@ from . import suites, text
 from .commands import Commands
 from .counting import MUST_NOT, OFFERED, Counts, Issued, Mismatch, Offer, Poor, SelfSigned
 from .reading import Certificate, Server
-from .sections import BEHIND, CONNECTIONS, Ranking, faults, of_entry, spellings
+from .sections import BEHIND, CONNECTIONS, NONE, Ranking, faults, of_entry, spellings
 from .tables import ROWS, Cell, Column, aside, counted, number, some, table, words
 
 # A certificate expires soon if at most so many days are left.
 SOON = 30
-_NO_ADDRESS = "no address in the line"
+_NO_ADDRESS = "no address"
 _LAST_SEEN = Column("Last seen (UTC)")
 _FINGERPRINT = Column("SHA-256")
 # A line may break after so many digits of a fingerprint.
@@ -52,19 +52,19 @@ def poor_servers(counts: Counts, commands: Commands) -> str:
     )
     title = "Servers that chose an old version or a weak suite"
     ranking = Ranking(
-        "poor", title, "first by grade and connections", "server", counts.poor.total, columns
+        "poor", title, "with the worst grades", "server", counts.poor.total, columns
     )
 
     def row(key: Optional[Server], entry: Poor) -> list[Cell]:
-        style, told = ("bad", "must not") if entry.rank == MUST_NOT else ("poor", "should not")
-        grade = Cell(f'<span class="{style}">{told}</span>', entry.rank)
+        style, grade = ("bad", "must not") if entry.rank == MUST_NOT else ("poor", "should not")
+        judged = Cell(f'<span class="{style}">{grade}</span>', entry.rank)
         fields = (("version", entry.versions), ("cipher", spellings(entry.suites)))
         chosen = [jq.is_one_of(name, values) if values else "" for name, values in fields]
         listed = of_entry(entry, commands, jq.of_server(key), jq.any_of(*chosen))
         front = [
             words(key.name if key else None, _NO_ADDRESS),
             counted(entry),
-            grade,
+            judged,
             some(suites.in_order(entry.versions)),
         ]
         return [
@@ -96,8 +96,8 @@ def poor_clients(counts: Counts, commands: Commands) -> str:
         Column("Client"),
         CONNECTIONS,
         Column("Old versions offered"),
-        Column("Nothing but weak suites"),
-        Column("Hosts asked for"),
+        Column("Only weak suites"),
+        Column("Requested hosts"),
         _LAST_SEEN,
         BEHIND,
     )
@@ -108,13 +108,13 @@ def poor_clients(counts: Counts, commands: Commands) -> str:
 
     def row(key: Optional[str], entry: Offer) -> list[Cell]:
         listed = of_entry(entry, commands, jq.equals("id.orig_h", key), _of_offer(entry))
-        told = [
+        lists = [
             some(suites.in_order(entry.versions)),
             _suites(tuple(entry.suites)),
             some(sorted(entry.hosts), 2),
             _time(entry.last),
         ]
-        return [words(key, _NO_ADDRESS), counted(entry), *told, listed]
+        return [words(key, _NO_ADDRESS), counted(entry), *lists, listed]
 
     return ranking.table(counts.offers, row)
 
@@ -135,12 +135,12 @@ def expiring(counts: Counts) -> list[Issued]:
 def _days_left(of: Certificate, now: float) -> list[Cell]:
     """When it expires, and in how many days."""
     left = int((of.not_after - now) // text.DAY)
-    told = (
+    days = (
         f'<span class="bad">expired</span> {text.number(left)}'
         if of.not_after < now
         else text.number(left)
     )
-    return [Cell(text.time(of.not_after), of.not_after), Cell(told, left)]
+    return [Cell(text.time(of.not_after), of.not_after), Cell(days, left)]
 
 
 def certificates(counts: Counts, commands: Commands) -> str:
@@ -160,7 +160,7 @@ def certificates(counts: Counts, commands: Commands) -> str:
     def row(issued: Issued) -> list[Cell]:
         of = issued.certificate
         front = [
-            words(of.subject, "none told"),
+            words(of.subject, NONE),
             number(issued.count),
             *_days_left(of, now),
             words(of.issuer),
@@ -200,8 +200,8 @@ def mismatches(counts: Counts, commands: Commands) -> str:
     )
     ranking = Ranking(
         "mismatches",
-        "Certificates without the name of the host",
-        "seen most often",
+        "Certificates that lack the host’s name",
+        "most frequent",
         "pair",
         counts.mismatches.total,
         columns,
@@ -217,7 +217,7 @@ def mismatches(counts: Counts, commands: Commands) -> str:
             jq.of_server(server),
         )
         front = [
-            words(host, "none in the line"),
+            words(host, NONE),
             counted(entry),
             words(server.name if server else None, _NO_ADDRESS),
         ]
@@ -232,14 +232,14 @@ def self_signed(counts: Counts, commands: Commands) -> str:
         CONNECTIONS,
         Column("Expires (UTC)"),
         Column("Days left", True),
-        Column("Hosts asked for"),
+        Column("Requested hosts"),
         Column("Server"),
         _FINGERPRINT,
         BEHIND,
     )
-    title = "Self-signed certificates: the subject is the issuer"
+    title = "Self-signed certificates (subject equals issuer)"
     ranking = Ranking(
-        "self-signed", title, "seen most often", "certificate", counts.self_signed.total, columns
+        "self-signed", title, "most frequent", "certificate", counts.self_signed.total, columns
     )
 
     def row(key: str, entry: SelfSigned) -> list[Cell]:
@@ -252,7 +252,7 @@ def self_signed(counts: Counts, commands: Commands) -> str:
         )
         where = [some(sorted(entry.hosts), 2), some(sorted(entry.servers), 2)]
         return [
-            words(of.subject, "none told"),
+            words(of.subject, NONE),
             counted(entry),
             *left,
             *where,
@@ -264,16 +264,16 @@ def self_signed(counts: Counts, commands: Commands) -> str:
 
 
 def rule() -> str:
-    """The table of the rule for weak suites."""
-    columns = (Column("The name has"), Column("Told as"), Column("Grade"), Column("From"))
+    """The table of the rules for weak suites."""
+    columns = (Column("Name contains"), Column("Fault"), Column("Grade"), Column("Reference"))
 
     def row(one: suites.Fault) -> list[Cell]:
         grade = words("must not" if one.is_forbidden else "should not")
         return [
-            Cell(f"<code>{text.escaped(one.told)}</code>"),
+            Cell(f"<code>{text.escaped(one.contains)}</code>"),
             Cell(faults([one])),
             grade,
             words(one.reference),
         ]
 
-    return table("rule", "Weak suites, by their names", columns, map(row, suites.FAULTS))
+    return table("rule", "Weak suites by name", columns, map(row, suites.FAULTS))
