@@ -1,10 +1,10 @@
-"""Makes a table of what callgrind counted: of each case and side four dumps, of which the last has ten calls more than
-the one before. The first two warmed up.
+"""Makes tables from callgrind's dumps. Each case and side has four: two that warm up, one call, and
+eleven calls.
 
-    instructions.py FOLDER table           the table
+    instructions.py FOLDER table           prints the table
     instructions.py FOLDER store FILE      writes our side's counts to FILE
-    instructions.py FOLDER compare FILE    compares them with FILE's; the status is 1 where one rose by more than 1 in 100
-    instructions.py FOLDER moves PROGRAM   what the compilers and not the sources say: moves of large values, and the heap's wrapper
+    instructions.py FOLDER compare FILE    compares with FILE; exits with 1 if a count rose by over 1%
+    instructions.py FOLDER moves PROGRAM   counts moves of large values and the heap's wrappers
 """
 import math
 import os
@@ -29,12 +29,12 @@ def total(folder, number):
 
 
 def last_dumps(place):
-    """The numbers of the last dumps of both sides of a case."""
+    """The numbers of both sides' last dumps of a case."""
     return (8 * place + 4, 8 * place + 8)
 
 
 def counted(folder):
-    """Each case: its group, its name, and the instructions of a call on our side and on Rust's."""
+    """Each case: group, name, and the instructions per call on our side and on Rust's."""
     found = []
     for place, (group, name) in enumerate(cases_of(folder)):
         ours, rust = (
@@ -49,7 +49,7 @@ def cases_of(folder):
         return [line.rstrip("\n").split("\t") for line in lines]
 
 
-# What moves or zeroes 16 bytes at once, or writes a zero of 8 bytes.
+# Instructions that move or zero 16 bytes, or zero 8 bytes.
 MOVE = re.compile(r"\b(movups|movaps|movdqu|movdqa|xorps|pxor)\b.*%xmm|movq +\$0x0,")
 MOVERS = ("memcpy", "memmove", "memset")
 WRAPPERS = (
@@ -71,7 +71,7 @@ def moving_addresses(program):
 
 
 def by_kind(folder, number, moving):
-    """The instructions of a dump: moves, those of the heap's wrappers, and the others."""
+    """The instructions of a dump: moves, the heap's wrappers, and others."""
     names, found = {}, Counter()
     function, address, is_call = "", 0, False
     with open(os.path.join(folder, f"dump.{number}"), encoding="utf-8") as dump:
@@ -137,7 +137,7 @@ def store(found, path):
 
 
 def compare(found, path):
-    """Prints what differs by more than 1 in 100; answers whether nothing rose so much."""
+    """Prints counts that differ by more than 1%. Returns whether none rose by more."""
     with open(path, encoding="utf-8") as lines:
         stored = {tuple(line.split("\t")[:2]): float(line.split("\t")[2]) for line in lines}
     print("| group | case | stored | now | ratio |\n|---|---|---|---|---|")

@@ -1,5 +1,5 @@
-/* What programs of bench/ that measure share: a side that makes calls on two copies of a file's bytes in turn, and the processor's time of so many calls. The
- * program that includes it defines LONGEST, the most bytes of a file. */
+/* Shared by the measuring programs: a side makes calls on two copies of a file's bytes in turn, and
+ * its CPU time is taken. The including program defines LONGEST, the maximum size of a file. */
 #include <stdint.h>
 #include <stdio.h>
 #include <stdlib.h>
@@ -8,7 +8,7 @@
 
 typedef uint64_t (*side)(const uint8_t *, size_t, size_t);
 
-/* The processor's time. */
+/* The CPU time of this process. */
 static double seconds(void) {
     struct timespec t;
     clock_gettime(CLOCK_PROCESS_CPUTIME_ID, &t);
@@ -28,7 +28,7 @@ static int rises(const void *a, const void *b) {
     return (x > y) - (x < y);
 }
 
-/* Two copies of a file's bytes; 0 where there are none. */
+/* Reads a file twice into the buffer. Returns the length of both copies, 0 if it can't be read. */
 static size_t two_copies(const char *path, uint8_t *bytes) {
     FILE *file = fopen(path, "rb");
     size_t count = file == NULL ? 0 : fread(bytes, 1, LONGEST, file);

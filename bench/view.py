@@ -1,4 +1,4 @@
-"""The program tlsview on 50 MB of lines of several kinds: processor time and peak memory, of five runs each.
+"""Measures tlsview on 50 MB of lines of several kinds: CPU time and peak memory of five runs each.
 
     view.py PROGRAM CORE
 """
@@ -23,7 +23,7 @@ def record(kind, fragment):
 
 
 def hello(length):
-    """A record of so many bytes with a ClientHello of 16 suites and a padding."""
+    """A record of this many bytes with a ClientHello: 16 suites and padding."""
 
     def padded(padding):
         extension = (21).to_bytes(2, "big") + padding.to_bytes(2, "big") + bytes(padding)
@@ -54,7 +54,7 @@ def encrypted(fragment):
 
 
 def cut():
-    """A hundred hellos in lines of 100 bytes each, again and again."""
+    """A hundred hellos in lines of 100 bytes, repeated."""
     stream = hello(517) * 100
     part = b"".join(line(b">", stream[at : at + 100]) for at in range(0, len(stream), 100))
     return part * (TOTAL // len(part))
@@ -75,7 +75,8 @@ INPUTS = {
 
 
 def write(path, make):
-    """Writes what `make` makes, in a process of its own: a child's peak memory begins with that of its parent."""
+    """Writes the result of `make` in a separate process, since a child's peak memory begins with its
+    parent's."""
     child = os.fork()
     if child == 0:
         with open(path, "wb") as out:
@@ -85,7 +86,7 @@ def write(path, make):
 
 
 def run(program, path, shown):
-    """The processor time in seconds, the peak in bytes, and the status."""
+    """Returns CPU seconds, peak bytes and the status."""
     with open(path, "rb") as source, open(shown, "wb") as sink:
         child = subprocess.Popen([program], stdin=source, stdout=sink)
         _, status, usage = os.wait4(child.pid, 0)

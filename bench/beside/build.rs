@@ -1,5 +1,5 @@
-//! Links the static libraries of the measured calls, which `bench/run` builds, and the toolchain's three functions over
-//! `malloc` that it calls. Where requests for memory are counted, `src/memory.rs` has these functions.
+//! Links the static libraries of the measured calls, which `bench/run` builds, and the toolchain's
+//! three allocation functions. In the build that counts allocations, `src/memory.rs` has them.
 
 fn main() {
     let crates = std::env::var("OURS").expect("OURS: the folder of the crates of the measured calls");

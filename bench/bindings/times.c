@@ -1,5 +1,5 @@
-/* The time of the host's name of a record, from C beside Rattle's own calls: times FILE.. prints rows of Markdown, and
- * times SIDE ROUNDS FILE makes the calls of one side alone, whose instructions callgrind counts. */
+/* Times extracting the host name of a record, from C beside Rattle's own calls. `times FILE..` prints
+ * rows of Markdown; `times SIDE ROUNDS FILE` makes the calls of one side alone, for callgrind. */
 #define _POSIX_C_SOURCE 199309L
 #include "wispuddera.h"
 
@@ -11,7 +11,7 @@
 uint64_t rattle_names(const uint8_t *bytes, size_t count, size_t rounds);
 uint64_t rattle_places(const uint8_t *bytes, size_t count, size_t rounds);
 
-/* As bench/bindings/rounds.rt.in: one of two copies in turn, and a number of each answer. */
+/* As in bench/bindings/rounds.rt.in: one of two copies in turn, and a number for each answer. */
 __attribute__((noinline)) uint64_t c_names(const uint8_t *bytes, size_t count, size_t rounds) {
     uint64_t sum = 0;
     size_t half = count / 2, round;
@@ -28,7 +28,7 @@ __attribute__((noinline)) uint64_t c_names(const uint8_t *bytes, size_t count, s
 static const side sides[] = {c_names, rattle_names, rattle_places};
 enum { SIDES = sizeof sides / sizeof *sides };
 
-/* A row: the medians of the times, and of the ratios of C's to those of Rattle's with their quartiles. */
+/* Prints a row: the median times, and the median and quartiles of the ratios of C to Rattle. */
 static void show(const char *path, const uint8_t *bytes, size_t count) {
     static double times[SIDES][BATCHES], ratios[SIDES][BATCHES];
     const char *name = strrchr(path, '/');

@@ -1,4 +1,7 @@
-"""The time of the host's name of a record, by the Python module beside dpkt: times.py FILE.. prints rows of Markdown."""
+"""Times extracting the host name of a record, by the Python module beside dpkt.
+
+`times.py FILE..` prints rows of Markdown.
+"""
 
 import statistics
 import sys
@@ -20,7 +23,8 @@ def ours(record):
 
 
 def by_dpkt(record):
-    """As dpkt's own documents read a hello: the records, the handshake, the extensions as pairs, and the name in the first server_name."""
+    """The host name as dpkt's documentation reads it: records, handshake, extensions as pairs, and
+    the name in the first server_name."""
     records, _ = dpkt.ssl.tls_multi_factory(record)
     hello = dpkt.ssl.TLSHandshake(records[0].data).data
     for kind, content in hello.extensions:

@@ -1,4 +1,5 @@
-/* The time of a certificate's fields, read in place, beside openssl's d2i_X509 and X509_free: times FILE.. prints rows of Markdown. */
+/* Times reading a certificate's fields in place, beside openssl's d2i_X509 and X509_free.
+ * `times FILE..` prints rows of Markdown. */
 #define _POSIX_C_SOURCE 199309L
 #include <openssl/x509.h>
 
@@ -10,7 +11,7 @@
 uint64_t rattle_certificates(const uint8_t *bytes, size_t count, size_t rounds);
 uint64_t rattle_parsed(const uint8_t *bytes, size_t count, size_t rounds);
 
-/* As bench/certificates/rounds.rt.in: one of two copies in turn. Nothing of what is decoded is read. */
+/* As in bench/certificates/rounds.rt.in: one of two copies in turn. No decoded field is read. */
 static uint64_t openssl_certificates(const uint8_t *bytes, size_t count, size_t rounds) {
     uint64_t sum = 0;
     size_t half = count / 2, round;
@@ -26,7 +27,8 @@ static uint64_t openssl_certificates(const uint8_t *bytes, size_t count, size_t 
 static const side sides[] = {openssl_certificates, rattle_certificates, rattle_parsed};
 enum { SIDES = sizeof sides / sizeof *sides };
 
-/* A row: the medians of the times, and of the ratios of openssl's to ours of all fields, with their quartiles. */
+/* Prints a row: the median times, and the median and quartiles of the ratios of openssl to ours
+ * with all fields. */
 static void show(const char *path, const uint8_t *bytes, size_t count) {
     double times[SIDES][BATCHES], ratios[BATCHES];
     const char *name = strrchr(path, '/');

@@ -1,4 +1,4 @@
-"""The time of a certificate by Python's cryptography, by its own loop: times.py FILE.. prints rows of Markdown."""
+"""Times reading a certificate by Python's cryptography: `times.py FILE..` prints rows of Markdown."""
 
 import statistics
 import sys
@@ -16,7 +16,7 @@ BATCHES = 40
 
 
 def read(der):
-    """All fields that `rounds.rt.in` reads too."""
+    """Reads the fields that `rounds.rt.in` reads."""
     one = x509.load_der_x509_certificate(der)
     fields = [
         one.version,
@@ -31,7 +31,7 @@ def read(der):
 
 
 def load(der):
-    """It alone: no field is asked for."""
+    """Only parses; no field is read."""
     return x509.load_der_x509_certificate(der)
 
 
@@ -51,7 +51,7 @@ def told(call, der):
     try:
         return f"{median(call, der):.0f}"
     except Exception:
-        # It refuses some: a version 1, a string of another kind.
+        # It rejects some certificates: of version 1, or with other kinds of strings.
         return "refused"
 
 

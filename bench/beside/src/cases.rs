@@ -1,9 +1,9 @@
-//! What is measured: for each case a call on our side and one on Rust's, made so many times on the same bytes.
+//! The cases: each has a call of ours and one of Rust's, repeated on the same bytes.
 
 use crate::{inputs, ours, rust, view};
 use std::hint::black_box;
 
-/// Makes a call so many times; the number of its answers.
+/// Makes a call this many times. Returns the number of its answers.
 type Calls = Box<dyn Fn(usize) -> u64>;
 
 pub struct Case {
@@ -14,7 +14,7 @@ pub struct Case {
 }
 
 type Repeated = extern "C" fn(*const u8, usize, usize) -> u64;
-/// A call on a stream, with the size of its pieces, or on datagrams, with theirs.
+/// A call on a stream or on datagrams, with the size of the pieces or datagrams.
 pub type InPieces = extern "C" fn(*const u8, usize, usize) -> u64;
 type Sided = extern "C" fn(*const u8, usize, *const u8, usize, usize) -> u64;
 
@@ -28,7 +28,7 @@ fn sided(call: Sided, bytes: &'static [u8], sides: &'static [u8]) -> Calls {
     })
 }
 
-/// A call on all of the bytes, so many times a round.
+/// A call on all bytes, repeated this many times per round.
 fn in_pieces(call: InPieces, bytes: &'static [u8], piece: usize, each: usize) -> Calls {
     Box::new(move |times| {
         let call = black_box(call);
@@ -40,7 +40,7 @@ fn leak(bytes: Vec<u8>) -> &'static [u8] {
     Vec::leak(bytes)
 }
 
-/// The list of cases, as it grows.
+/// Collects the cases.
 struct Cases(Vec<Case>);
 
 impl Cases {
@@ -118,7 +118,8 @@ fn extensions(all: &mut Cases) {
     all.extensions("20 short ones", inputs::extensions_short());
 }
 
-/// Reading in place, beside Rust's lists and beside those of its calls that allocate least.
+/// Reading in place, compared with Rust's calls that return lists and with those that allocate
+/// least.
 fn in_place(all: &mut Cases) {
     let hello: [Repeated; 3] = [ours::ours_view_hello, view::rust_view_hello, view::best_view_hello];
     let name: [Repeated; 3] = [ours::ours_view_name, view::rust_view_name, view::best_view_name];
@@ -170,7 +171,7 @@ fn writer(all: &mut Cases) {
     all.add("writer", name, ours, repeated(rust::rust_gen_extensions, bytes));
 }
 
-/// Conversations: what they are, their records, and the side that each comes from.
+/// Conversations: a name, the records, and which of them go to the server.
 fn conversations() -> [(&'static str, &'static [u8], &'static [u8]); 2] {
     [("handshake", false), ("with a client's certificate", true)].map(|(what, with_certificate)| {
         let (bytes, sides) = inputs::conversation(with_certificate);
@@ -192,7 +193,7 @@ fn states(all: &mut Cases) {
     }
 }
 
-/// Peers' handshakes have nothing beside them in Rust: they stand beside our `update`.
+/// Handshakes of both peers. Rust has no such call, so they are compared with our `update`.
 fn flows(all: &mut Cases) {
     let calls: [(&str, Sided); 2] = [("made of messages", ours::ours_flows), ("made before", ours::ours_events)];
     for (what, bytes, sides) in conversations() {
@@ -203,10 +204,10 @@ fn flows(all: &mut Cases) {
     }
 }
 
-/// The size of the pieces that a stream comes in: a packet's.
+/// The size of a stream's pieces: a packet's payload.
 const PIECE: usize = 1460;
 
-/// Streams of handshake messages: what they are, the bytes of a message and those of a record.
+/// Streams of handshake messages: a name, the bytes of a message, the bytes of a record.
 const MESSAGES: [(&str, usize, usize); 5] = [
     ("messages of 100 bytes, 160 in a record", 100, 16000),
     ("messages of 1,000 bytes, a record each", 1000, 1000),
@@ -215,8 +216,8 @@ const MESSAGES: [(&str, usize, usize); 5] = [
     ("messages of 100,000 bytes, over seven records each", 100000, 16384),
 ];
 
-/// Messages that are joined have nothing beside them in Rust: they stand beside our records alone, and those of DTLS beside the same
-/// in order, or beside ten of a tenth.
+/// Reassembled messages. Rust has no such call, so TLS is compared with our cutting of its records,
+/// and DTLS with the same fragments in order, or with ten messages of a tenth of the size.
 fn joined(all: &mut Cases) {
     for (what, message, payload) in MESSAGES {
         let bytes = leak(inputs::messages(1 << 18, message, payload));
@@ -238,7 +239,7 @@ fn joined(all: &mut Cases) {
     }
 }
 
-/// The cases of calls that the Rust crate has, too.
+/// The calls that the Rust crate has too.
 fn of_both() -> Vec<Case> {
     let mut all = Cases(Vec::new());
     records(&mut all);
@@ -251,7 +252,7 @@ fn of_both() -> Vec<Case> {
     all.0
 }
 
-/// The cases of calls that it hasn't.
+/// The calls that the Rust crate lacks.
 fn of_ours() -> Vec<Case> {
     let mut all = Cases(Vec::new());
     in_place(&mut all);
@@ -260,25 +261,25 @@ fn of_ours() -> Vec<Case> {
     all.0
 }
 
-/// All cases that are called in batches, in two parts.
+/// All cases that run in batches, in two parts.
 pub const PARTS: [fn() -> Vec<Case>; 2] = [of_both, of_ours];
 
 pub fn all() -> Vec<Case> {
     PARTS.iter().flat_map(|part| part()).collect()
 }
 
-/// A stream, the size of its pieces, and the calls that cut it: ours and what stands beside it.
+/// A stream, the size of its pieces, our call that cuts it, and the call it is compared with.
 pub struct Stream {
     pub name: String,
     pub bytes: Vec<u8>,
     pub piece: usize,
     pub ours: InPieces,
     pub beside: InPieces,
-    /// One that takes off each record by moving what is behind it.
+    /// A call that removes each record by moving the bytes behind it.
     pub each: Option<InPieces>,
 }
 
-/// Streams of so many bytes.
+/// Streams of this many bytes.
 pub fn streams(total: usize) -> Vec<Stream> {
     let mut all = Vec::new();
     for payload in [5, 500, 16000] {
@@ -300,7 +301,7 @@ pub fn streams(total: usize) -> Vec<Stream> {
     all
 }
 
-/// The records whose texts are compared.
+/// The records whose printed texts are compared.
 pub fn written() -> Vec<Vec<u8>> {
     vec![inputs::hello_least(), inputs::hello_517(), inputs::hello_post_quantum(), inputs::server_hello_record()]
 }

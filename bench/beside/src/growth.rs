@@ -1,16 +1,17 @@
-//! How a call of ours grows with the input that is the worst for it: as many items as its bytes can hold.
+//! How our calls' time and memory grow with their worst inputs: as many items as the bytes can
+//! hold.
 
 use crate::{inputs, ours};
 use std::hint::black_box;
 
 type Repeated = extern "C" fn(*const u8, usize, usize) -> u64;
 
-/// A call, and its input of about so many bytes.
+/// A call, and what makes its input of about a given size.
 struct Growing {
     name: &'static str,
     call: Repeated,
     input: fn(usize) -> Vec<u8>,
-    /// The most bytes that the layout lets it have.
+    /// The most bytes that the layout allows.
     most: usize,
 }
 
@@ -45,17 +46,17 @@ fn timestamps(size: usize) -> Vec<u8> {
     bytes
 }
 
-/// Of its two copies it takes one.
+/// Takes one of the two copies of the input.
 extern "C" fn stream_of_bytes(bytes: *const u8, len: usize, times: usize) -> u64 {
     (0..times).map(|_| ours::ours_stream(bytes, len / 2, 1)).sum()
 }
 
-/// The same of datagrams, whose size is known.
+/// A case on datagrams of a known size.
 extern "C" fn of_datagrams(bytes: *const u8, len: usize, times: usize) -> u64 {
     (0..times).map(|_| ours::ours_datagrams(bytes, len / 2, inputs::DATAGRAM)).sum()
 }
 
-/// The same of a stream of messages in pieces.
+/// A case on a stream of messages in pieces.
 extern "C" fn of_messages(bytes: *const u8, len: usize, times: usize) -> u64 {
     (0..times).map(|_| ours::ours_messages(bytes, len / 2, 1460)).sum()
 }
@@ -80,12 +81,12 @@ fn all() -> [Growing; 14] {
     ]
 }
 
-/// Sizes that double up to the most.
+/// Sizes that double up to the largest.
 fn sizes(most: usize) -> [usize; 3] {
     [most / 4, most / 2, most]
 }
 
-/// Of each call on three inputs that double: what is measured of it.
+/// Measures each call on three inputs of doubling size.
 pub fn table(measured: &dyn Fn(&dyn Fn() -> u64, usize) -> String) {
     for Growing { name, call, input, most } in all() {
         let cells = sizes(most).map(|size| {

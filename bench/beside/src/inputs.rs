@@ -1,6 +1,6 @@
 //! The bytes that are measured, built field by field from the layouts of the RFCs.
 
-/// Bytes after their length in `size` bytes.
+/// A length prefix of `size` bytes and the bytes.
 pub fn counted(size: usize, bytes: &[u8]) -> Vec<u8> {
     let mut out = (bytes.len() as u64).to_be_bytes()[8 - size..].to_vec();
     out.extend_from_slice(bytes);
@@ -11,7 +11,7 @@ fn numbers(list: &[u16]) -> Vec<u8> {
     list.iter().flat_map(|n| n.to_be_bytes()).collect()
 }
 
-/// Bytes that look like none in particular, the same at each run.
+/// Pseudorandom bytes, the same in each run.
 fn filler(len: usize) -> Vec<u8> {
     (0..len).map(|i| (i.wrapping_mul(167).wrapping_add(i / 7) % 251) as u8).collect()
 }
@@ -65,7 +65,7 @@ pub fn extensions_tls12() -> Vec<u8> {
     .concat()
 }
 
-/// The extensions of a ClientHello of TLS 1.3, as a browser sends them, with key shares of these sizes.
+/// The extensions of a browser's TLS 1.3 ClientHello, with key shares of these sizes.
 pub fn extensions_tls13(shares: &[(u16, usize)], padding: usize) -> Vec<u8> {
     let list: Vec<u8> = shares
         .iter()
@@ -101,7 +101,7 @@ pub fn extensions_server() -> Vec<u8> {
     [extension(51, &share), extension(43, &[3, 4])].concat()
 }
 
-/// Twenty extensions of a byte or none.
+/// Twenty extensions with at most one byte of data.
 pub fn extensions_short() -> Vec<u8> {
     let kinds = [22, 23, 35, 49, 22, 23, 35, 49, 22, 23, 35, 49, 22, 23, 35, 49, 22, 23, 35, 49];
     kinds.iter().flat_map(|kind| extension(*kind, &[])).collect()
@@ -128,7 +128,7 @@ const SUITES: [u16; 16] = [
     0x009c, 0x009d, 0x002f, 0x0035,
 ];
 
-/// The ClientHello of 54 bytes, with its record's header.
+/// A ClientHello of 54 bytes, with its record's header.
 pub fn hello_least() -> Vec<u8> {
     record(22, &handshake(1, &client_body(0, &SUITES[..2], Some(&[]))))
 }
@@ -175,7 +175,7 @@ pub fn server_hello_record() -> Vec<u8> {
     record(22, &server_hello(&extensions_server()))
 }
 
-/// A ServerHello of TLS 1.2, by its extensions too.
+/// A ServerHello of TLS 1.2 with these extensions.
 fn server_hello_tls12() -> Vec<u8> {
     server_hello(&[extension(0xff01, &[0]), extension(11, &[1, 0]), extension(35, &[])].concat())
 }
@@ -257,7 +257,7 @@ fn dtls_record(kind: u8, fragment: &[u8]) -> Vec<u8> {
     [&[kind, 0xfe, 0xfd, 0, 0, 0, 0, 0, 0, 0, 7][..], &counted(2, fragment)].concat()
 }
 
-/// A DTLS handshake message (RFC 6347, section 4.2.2), of which this fragment begins at `offset`.
+/// The fragment at `offset` of a DTLS handshake message (RFC 6347, section 4.2.2).
 fn dtls_handshake(kind: u8, length: usize, offset: usize, fragment: &[u8]) -> Vec<u8> {
     let mut out = vec![kind];
     out.extend(&(length as u32).to_be_bytes()[1..]);
@@ -307,8 +307,8 @@ pub fn dtls_records() -> Vec<u8> {
     [dtls_server_hello(), dtls_fragment(), dtls_verify(), dtls_change(), dtls_alert()].concat()
 }
 
-/// A whole handshake, a record a message, and which of them go to the server: of eight messages, or of eleven where the
-/// client has a certificate too.
+/// A whole handshake with one record per message, and which of them go to the server: eight
+/// messages, or eleven with a client certificate.
 pub fn conversation(with_client_certificate: bool) -> (Vec<u8>, Vec<u8>) {
     let mut messages = vec![
         (hello_tls12(), 1),
@@ -333,17 +333,18 @@ pub fn conversation(with_client_certificate: bool) -> (Vec<u8>, Vec<u8>) {
     (messages.into_iter().flat_map(|(bytes, _)| bytes).collect(), sides)
 }
 
-/// A stream of handshake messages of `message` bytes each, their headers counted, which are joined and cut into records of at most
-/// `payload` bytes; at least `total` bytes of them.
+/// A stream of at least `total` bytes: records of application data with `payload` bytes each.
+/// joined and cut into records of at most `payload` bytes.
 pub fn messages(total: usize, message: usize, payload: usize) -> Vec<u8> {
     let joined = handshake(11, &filler(message - 4)).repeat(total.div_ceil(message));
     joined.chunks(payload).flat_map(|part| record(22, part)).collect()
 }
 
-/// How many bytes a datagram of one fragment has, of a body of 1,200 bytes.
+/// The bytes of a datagram with one fragment of 1,200 bytes.
 pub const DATAGRAM: usize = 13 + 12 + 1200;
 
-/// Datagrams with the fragments of one message, whose body has so many bytes. All are of `DATAGRAM` bytes but the last.
+/// Datagrams with the fragments of one message, whose body has this many bytes. All but the last
+/// have `DATAGRAM` bytes.
 pub fn datagrams(length: usize, is_reversed: bool) -> Vec<u8> {
     let body = filler(length);
     let one = |place: (usize, usize)| {
@@ -360,7 +361,7 @@ pub fn datagrams(length: usize, is_reversed: bool) -> Vec<u8> {
     }
 }
 
-/// A stream of at least `total` bytes, of records of application data of `payload` bytes each.
+/// A stream of at least `total` bytes: records of application data with `payload` bytes each.
 pub fn stream(total: usize, payload: usize) -> Vec<u8> {
     let one = record(23, &filler(payload));
     let count = total.div_ceil(one.len());

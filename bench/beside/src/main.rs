@@ -1,11 +1,13 @@
-//! Measures this repository's calls beside those of the Rust crate tls-parser, in one process. `bench/run` builds and runs it.
+//! Compares this repository's calls with those of the Rust crate tls-parser, in one process.
+//! `bench/run` builds and runs it.
 //!
-//! - `times`: for each case the two sides are called in turn, in batches of about 2 ms; the median of the ratios of
-//!   neighbouring batches, with their quartiles.
-//! - `counted`: requests for memory and the peak, in a build with the feature `count`.
-//! - `instructions`: each side a few times, with a mark between, to be run by callgrind.
-//! - `streams`: 64 MiB of records, cut and taken off the front.
-//! - `growth`: our calls on inputs that are the worst for them, of doubling length: time, and in the other build memory.
+//! - `times`: for each case the two sides run in turn, in batches of about 2 ms. Prints the median
+//!   and the quartiles of the ratios of neighboring batches.
+//! - `counted`: allocations and peak memory, in a build with the feature `count`.
+//! - `instructions`: each side a few times with a mark between, to be run by callgrind.
+//! - `streams`: cuts 64 MiB into records.
+//! - `growth`: our calls on their worst inputs, of doubling size: time, or in the other build
+//! memory.
 
 mod cases;
 mod growth;
@@ -20,13 +22,13 @@ mod view;
 use cases::{Case, InPieces, Stream};
 use std::hint::black_box;
 
-/// Batches of a case on each side.
+/// Batches per case and side.
 const BATCHES: usize = 60;
 
-/// How often a whole stream is cut on each side.
+/// How often each side cuts a whole stream.
 const STREAM_ROUNDS: usize = 15;
 
-/// The seconds that a batch is to take.
+/// The length of a batch in seconds.
 const BATCH_SECONDS: f64 = 0.002;
 
 #[repr(C)]
@@ -39,7 +41,7 @@ unsafe extern "C" {
     fn clock_gettime(clock: i32, time: *mut Timespec) -> i32;
 }
 
-/// The processor's time of this process so far, in seconds: what others do on the core isn't in it.
+/// The CPU time of this process in seconds, so that other processes on the core don't count.
 fn processor_time() -> f64 {
     const PROCESS: i32 = 2;
     let mut time = Timespec { seconds: 0, nanoseconds: 0 };
@@ -54,13 +56,13 @@ fn seconds(calls: &dyn Fn(usize) -> u64, times: usize) -> f64 {
     processor_time() - begin
 }
 
-/// The first quartile, the median and the third.
+/// The first quartile, the median and the third quartile.
 fn quartiles(mut list: Vec<f64>) -> [f64; 3] {
     list.sort_by(f64::total_cmp);
     [1, 2, 3].map(|quarter| list[list.len() * quarter / 4])
 }
 
-/// How many calls a batch has.
+/// How many calls make a batch.
 fn batch_size(case: &Case) -> usize {
     let mut times = 1;
     while seconds(&case.ours, times).max(seconds(&case.rust, times)) < BATCH_SECONDS && times < 1 << 24 {
@@ -69,18 +71,18 @@ fn batch_size(case: &Case) -> usize {
     times
 }
 
-/// Whether a case is among the wanted ones, by a part of its group and name.
+/// Whether a wanted word is part of the case's group and name.
 fn is_wanted(wanted: &[String], group: &str, name: &str) -> bool {
     let whole = format!("{group}: {name}");
     wanted.is_empty() || wanted.iter().any(|part| whole.contains(part.as_str()))
 }
 
-/// Whether both sides answer the same.
+/// Whether both sides return the same.
 fn agrees(case: &Case) -> bool {
     (case.ours)(3) == (case.rust)(3)
 }
 
-/// The wanted ones of these cases, without those of which the answers differ.
+/// The wanted cases on which both sides return the same.
 fn measured(mut list: Vec<Case>, wanted: &[String]) -> Vec<Case> {
     list.retain(|case| is_wanted(wanted, case.group, &case.name) && agrees(case));
     list
@@ -119,7 +121,7 @@ fn times(wanted: &[String]) {
     println!("\nGeometric mean of the ratios of these {count} cases: {:.3}", (logs / f64::from(count)).exp());
 }
 
-/// The answers of both sides: whether all are the same.
+/// Compares the answers of both sides; returns whether all are equal.
 fn is_same(wanted: &[String]) -> bool {
     let mut is_same = true;
     for case in cases::all() {
@@ -147,15 +149,16 @@ fn is_same(wanted: &[String]) -> bool {
     is_same
 }
 
-/// Where callgrind writes what it has counted.
+/// Makes callgrind write its counts.
 #[unsafe(no_mangle)]
 #[inline(never)]
 pub extern "C" fn bench_mark() {
     black_box(());
 }
 
-/// Each side of each case: twice to warm up, once, and eleven times, with a mark after each. A part is counted before the next is made:
-/// what a request for memory costs depends on what was let go of before.
+/// Runs each side of each case twice to warm up, once, and eleven times, with a mark after each. A
+/// part is counted before the next is made, since the cost of an allocation depends on what was
+/// freed before.
 fn instructions(wanted: &[String]) {
     for case in cases::PARTS.iter().flat_map(|part| measured(part(), wanted)) {
         println!("{}\t{}", case.group, case.name);
@@ -168,7 +171,7 @@ fn instructions(wanted: &[String]) {
     }
 }
 
-/// The streams of so many MiB: bytes a second.
+/// Streams of this many MiB: bytes per second.
 fn streams(wanted: &[String], total: usize) {
     println!("| stream | MB/s, ours | MB/s, beside | ratio of times | quartiles | MB/s, Rust that drains each record |");
     println!("|---|---|---|---|---|---|");
@@ -235,7 +238,7 @@ fn counted(wanted: &[String], total: usize) {
     }
 }
 
-/// Nanoseconds a byte of input, the least of three runs.
+/// Nanoseconds per byte of input, the least of three runs.
 #[cfg(not(feature = "count"))]
 fn growth() {
     println!("| call, and its input | bytes at most | ns a byte, a quarter | a half | all |\n|---|---|---|---|---|");
@@ -245,7 +248,7 @@ fn growth() {
     });
 }
 
-/// Bytes of memory a byte of input, at the peak.
+/// Peak bytes of memory per byte of input.
 #[cfg(feature = "count")]
 fn growth() {
     println!("| call, and its input | bytes at most | bytes a byte, a quarter | a half | all |\n|---|---|---|---|---|");

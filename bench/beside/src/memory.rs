@@ -1,5 +1,6 @@
-//! Requests for memory, counted on both sides: Rust's by its global allocator, the others by the three functions that the
-//! static library calls. They are counted in a build of its own (feature `count`), so that no time has it in it.
+//! Counts allocations of both sides: Rust's in its global allocator, ours in the three functions
+//! that the static library calls. Only the build with the feature `count` has this, so that
+//! counting costs no measured time.
 
 use std::alloc::{GlobalAlloc, Layout, System};
 use std::ffi::c_void;
@@ -11,7 +12,7 @@ unsafe extern "C" {
     fn malloc_usable_size(p: *mut c_void) -> usize;
 }
 
-/// What was asked for since it was set to nothing.
+/// The allocations since the last reset.
 #[derive(Clone, Copy, Default)]
 pub struct Asked {
     pub requests: usize,
@@ -21,7 +22,7 @@ pub struct Asked {
 
 static mut ASKED: Asked = Asked { requests: 0, live: 0, peak: 0 };
 
-/// Begins to count anew.
+/// Resets the counts.
 pub fn begin() {
     unsafe { ASKED = Asked::default() }
 }
@@ -96,7 +97,7 @@ unsafe impl GlobalAlloc for Counted {
 #[global_allocator]
 static COUNTED: Counted = Counted;
 
-/// As the toolchain's own: whether there is memory, and where.
+/// As the toolchain's function: whether there is memory, and where.
 #[repr(C)]
 pub struct Tried {
     ok: u8,

@@ -1,16 +1,16 @@
-//! Numbers made of answers, as `bench/calls/number.rt.in` makes them on the other side.
+//! Hashes answers to numbers, as `bench/calls/number.rt.in` does on the other side.
 
 use tls_parser::nom::error::{Error, ErrorKind};
 use tls_parser::nom::{Err, Needed};
 use tls_parser::*;
 
-/// One number of two.
+/// Combines two numbers.
 #[inline(always)]
 pub fn then(h: u64, x: u64) -> u64 {
     h.wrapping_mul(31).wrapping_add(x)
 }
 
-/// What a number is made of.
+/// A type that can be hashed to a number.
 pub trait Told {
     fn told(&self) -> u64;
 }
@@ -53,7 +53,7 @@ fn length_of(block: Option<&[u8]>) -> u64 {
 }
 
 impl<T: Told> Told for Vec<T> {
-    /// Of the first and the last.
+    /// Combines the first and the last item.
     fn told(&self) -> u64 {
         let count = self.len();
         match self.as_slice() {

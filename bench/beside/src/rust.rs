@@ -1,11 +1,11 @@
-//! The calls of the Rust crate, each beside the export of the same name in `bench/calls`.
+//! The calls of the Rust crate, each under the name of its counterpart in `bench/calls`.
 
 use crate::number::{answer, then};
 use cookie_factory::gen_simple;
 use tls_parser::*;
 
-/// A call, made so many times in a loop, in turn on the two copies of an input that lie one behind the other, so that no round can
-/// be left out.
+/// Makes a call this many times, in turn on the two adjacent copies of an input, so that no
+/// compiler can drop a round.
 macro_rules! parses {
     ($($name:ident: $call:path;)*) => {
         $(
@@ -77,7 +77,7 @@ fn generated_extensions(extensions: &[TlsExtension]) -> u64 {
     }
 }
 
-/// Reads a value once, and writes it so many times.
+/// Reads a value once and writes it this many times.
 macro_rules! writes {
     ($($name:ident: $read:path, $write:path;)*) => {
         $(
@@ -102,13 +102,14 @@ writes! {
     rust_gen_extensions: parse_tls_extensions, generated_extensions;
 }
 
-/// The text of a record, to be compared.
+/// The text of a record, for comparison.
 pub fn text_of(bytes: &[u8]) -> Option<Vec<u8>> {
     let (_, record) = parse_tls_plaintext(bytes).ok()?;
     record.serialize().ok()
 }
 
-/// It stands apart, since the other side's has more than one caller: a call for each message on both sides.
+/// Not inlined, since the other side's has more than one caller: both sides make one call per
+/// message.
 #[inline(never)]
 fn transition(
     state: TlsState,
@@ -130,7 +131,7 @@ fn transitions(messages: &[(TlsMessage, bool)], round: u64) -> u64 {
     then(round, state as u64)
 }
 
-/// Reads records, each of one message and with the side that it comes from, and follows them so many times.
+/// Reads records of one message each, with their direction, and follows them this many times.
 #[unsafe(no_mangle)]
 #[inline(never)]
 pub extern "C" fn rust_transitions(
@@ -157,7 +158,7 @@ pub extern "C" fn rust_transitions(
     number
 }
 
-/// The records of a stream that comes in pieces: what is held is drained once a piece.
+/// Cuts a stream in pieces; the buffer is drained once per piece.
 #[unsafe(no_mangle)]
 #[inline(never)]
 pub extern "C" fn rust_stream(bytes: *const u8, len: usize, piece: usize) -> u64 {
@@ -176,7 +177,7 @@ pub extern "C" fn rust_stream(bytes: *const u8, len: usize, piece: usize) -> u64
     then(number, held.len() as u64)
 }
 
-/// The same, drained once a record.
+/// Cuts a stream in pieces; the buffer is drained once per record.
 #[unsafe(no_mangle)]
 #[inline(never)]
 pub extern "C" fn rust_stream_each(bytes: *const u8, len: usize, piece: usize) -> u64 {

@@ -1,5 +1,5 @@
-//! The jobs of `bench/calls/view.rt.in` by the Rust crate: by the calls that its documents show, and by those that allocate least
-//! (`best`).
+//! The jobs of `bench/calls/view.rt.in` with the Rust crate: by the calls that its documentation
+//! shows, and by those that allocate least (`best`).
 
 use crate::number::then;
 use tls_parser::*;
@@ -82,7 +82,7 @@ fn sni(i: &[u8]) -> u64 {
 }
 #[inline(always)]
 fn best_first_name(mut ext: &[u8]) -> u64 {
-    // Each extension undivided, and of server_name the content by its own call; that of one name makes no list.
+    // Extensions stay unparsed except server_name. For a single name no list is built.
     while let Ok((rest, TlsExtension::Unknown(kind, content))) = parse_tls_extension_unknown(ext) {
         if kind == TlsExtensionType::ServerName {
             if content.len() < 2 { return 1 }
@@ -120,7 +120,7 @@ fn walk(i: &[u8]) -> u64 {
     let Ok((_, r)) = parse_tls_plaintext(i) else { return 1 };
     r.msg.iter().fold(7, |n, m| then(n, kind_of(m)))
 }
-/// One message after the other, by the call for one: no list of messages.
+/// Reads message by message, without a list of messages.
 #[inline(always)]
 fn each(i: &[u8], mut told: impl FnMut(&TlsMessage)) {
     let Ok((_, r)) = parse_tls_raw_record(i) else { return };
