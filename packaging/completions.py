@@ -4,7 +4,7 @@ import re
 import shlex
 from dataclasses import dataclass
 
-# The line of an option, and the notes that clap puts behind its help.
+# The line of an option, and the notes that clap puts after its help.
 OPTION = re.compile(r"^ +(?:(-\w), )?(--[\w-]+)(?: <([^>]+)>)?(?: {2,}(.*))?$")
 CHOICES = re.compile(r"\[possible values: ([^]]*)\]")
 NOTES = re.compile(r" *\[(?:possible values|default): [^]]*\]")

@@ -9,7 +9,7 @@ from pathlib import Path
 
 TOP = Path(__file__).resolve().parent.parent
 VERSION = (TOP / "VERSION").read_text().strip()
-# The version of the Debian packages; the number behind the hyphen counts the packagings of a
+# The version of the Debian packages; the number after the hyphen counts the packagings of a
 # version.
 DEBIAN_VERSION = f"{VERSION}-1"
 SOURCE = "wispuddera"

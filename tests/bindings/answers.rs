@@ -34,7 +34,7 @@ fn numbers(name: &str, values: impl Iterator<Item = u16>) -> String {
     format!("[{}]", values.join(", "))
 }
 
-/// Those in front of one that isn't read, where a list of the library ends.
+/// Those before one that isn't read, where a list of the library ends.
 fn whole<'a, T: Read<'a>>(items: Items<'a, T>, show: impl Fn(T) -> String) -> String {
     let items: Vec<_> = items.map_while(Result::ok).map(show).collect();
     format!("[{}]", items.join(", "))
@@ -155,7 +155,7 @@ fn names_of_protocols(bytes: &[u8]) -> Answer {
     ))
 }
 
-/// The length of the rest behind a value that the rows decode further than the crate does.
+/// The length of the rest after a value that the rows decode further than the crate does.
 fn rest_of<'a, T: Read<'a>>(bytes: &'a [u8]) -> Answer {
     let (_, rest) = T::read(bytes)?;
     Ok((rest.len().to_string(), String::new()))
@@ -280,7 +280,7 @@ fn in_record(block: &[u8]) -> Vec<u8> {
     [&front.concat()[..], &body].concat()
 }
 
-/// So many extensions, one after the other.
+/// So many extensions, one after another.
 fn some_extensions(block: &[u8], count: usize) -> Answer {
     let mut items = extensions(block);
     for item in items.by_ref().take(count) {
@@ -379,7 +379,7 @@ fn listed_x509_names(bytes: &[u8]) -> Answer {
     Ok(("_".to_owned(), names))
 }
 
-/// What is asked with a number behind the call's name.
+/// What is asked with a number after the call's name.
 fn numbered(call: &str, number: u16, bytes: &[u8]) -> Answer {
     match call {
         "find_extension" => name(find_extension(bytes, number)?),

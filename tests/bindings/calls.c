@@ -37,7 +37,7 @@ static const uint8_t record[] = {
 
 enum { WHOLE = 102, BODY = 9, BODY_LENGTH = 93, BLOCK = 58, BLOCK_LENGTH = 44 };
 
-/* Where each field of a struct begins, and behind them its size. */
+/* Where each field of a struct begins, and after them its size. */
 static void is_laid_out(int line, size_t index, const size_t *offsets, size_t fields, size_t size) {
     size_t i;
     for (i = 0; i < fields; i++) {
@@ -438,7 +438,7 @@ static void test_stream(void) {
     PLACE(messages, 97, 1);
 }
 
-/* The outcome of a list of events, and of each front of it, is the one behind steps. */
+/* A list of events, and each prefix of it, has the same outcome as single steps. */
 static uint32_t outcome_of(const wispuddera_event *events, size_t count) {
     wispuddera_flow flow = WISPUDDERA_EMPTY;
     size_t i;
@@ -559,7 +559,7 @@ static void test_conversation(void) {
     IS(wispuddera_conversation_established(&it), true);
     IS(wispuddera_conversation_resumed(&it), true);
     IS(wispuddera_conversation_stop(&it, &stop), WISPUDDERA_NONE);
-    /* The buffer is full again, behind the last event. */
+    /* The buffer is full again, after the last event. */
     IS(wispuddera_conversation_feed(server_buffer, sizeof server_buffer, &it, false, server_records + SERVER_HELLO_END, 7), WISPUDDERA_READ);
     IS(wispuddera_conversation_next(server_buffer, sizeof server_buffer, &it, false, &said), WISPUDDERA_READ);
     is_said(__LINE__, server_buffer, &said, WISPUDDERA_SAID_ENCRYPTED, WISPUDDERA_EVENT_ENCRYPTED, server_records + SERVER_HELLO_END, 7);
@@ -567,7 +567,7 @@ static void test_conversation(void) {
     IS(wispuddera_conversation_resumed(&it), true);
 }
 
-/* Bytes behind a ClientHello that stop the conversation, and why. */
+/* Bytes after a ClientHello that stop the conversation, and why. */
 static void test_conversation_stops(void) {
     static const struct {
         const char *bytes;
@@ -616,7 +616,7 @@ static void test_conversation_stops(void) {
             IS(memcmp(server_buffer + said.content.offset, bytes, tries[i].count), 0);
         }
         IS(wispuddera_conversation_next(server_buffer, sizeof server_buffer, &it, false, &said), WISPUDDERA_NONE);
-        /* Behind a fault nothing is held. */
+        /* After a fault nothing is held. */
         IS(wispuddera_conversation_feed(server_buffer, sizeof server_buffer, &it, false, record, WHOLE),
            said.form == WISPUDDERA_SAID_FAULT ? WISPUDDERA_READ : WISPUDDERA_NO_ROOM);
         IS(wispuddera_conversation_outcome(&it), outcomes[i]);
@@ -647,7 +647,7 @@ static void test_refusals_of_finds(void) {
     IS(f.missing, 3);
     IS(wispuddera_find_server_name_in_extensions(NULL, 0, &f), WISPUDDERA_NONE);
     IS(f.missing, 0);
-    /* An extension that isn't whole is seen where nothing was found in front of it. */
+    /* An incomplete extension is noticed if nothing was found before it. */
     IS(wispuddera_find_extension(BYTES("\x00\x17\x00\x00\x00\x0a\x00"), 10, &f), WISPUDDERA_INCOMPLETE);
     IS(f.missing, 1);
     IS(wispuddera_find_extension(BYTES("\x00\x17\x00\x00\x00\x0a\x00"), 23, &f), WISPUDDERA_READ);
@@ -698,7 +698,7 @@ static void test_refusals_of_numbers(void) {
     wispuddera_number n = WISPUDDERA_EMPTY;
     IS(wispuddera_number_at(BYTES("\x13\x01\x13"), 1, &n), WISPUDDERA_NONE);
     IS(n.count, 1);
-    /* No bytes, an odd number behind the first, one version, and a first byte that isn't looked at. */
+    /* No bytes, an odd number after the first, one version, and a first byte that isn't looked at. */
     IS(wispuddera_version_at(NULL, 0, 0, &n), WISPUDDERA_INCOMPLETE);
     IS(n.missing, 1);
     IS(wispuddera_version_at(BYTES("\x03"), 0, &n), WISPUDDERA_NONE);

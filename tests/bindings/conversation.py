@@ -102,7 +102,7 @@ def test_faults():
     assert ended("client", "140301 0001 02") == [("UNKNOWN", "Verify")]
     assert ended("client", "160301 0004 01 000065") == [("UNKNOWN", "TooLarge")]
     assert ended("client", "160301 0002 0100", "150301 0002 0228") == [("UNKNOWN", "Interrupted")]
-    # Nothing is read behind a fault; an alert that is none is encrypted; and all is, behind a
+    # Nothing is read after a fault; an alert that is none is encrypted; and all is, after a
     # ChangeCipherSpec.
     assert ended("client", "474554202f", "150301 0002 0228") == [("UNKNOWN", "Switch")]
     assert ended("server", "150301 0002 0328") == [("ENCRYPTED", None)]

@@ -51,7 +51,7 @@ static void follows(size_t count, size_t next) {
     lies(count, rest);
 }
 
-/* `missing` is read behind the call. */
+/* `missing` is read after the call. */
 static int is_read(uint32_t status, const size_t *missing) {
     calls += is_mutated && status != WISPUDDERA_OUTSIDE;
     if (status > WISPUDDERA_NO_ROOM || (status == WISPUDDERA_INCOMPLETE) != (*missing > 0)) {

@@ -291,7 +291,7 @@ def test_certificates():
         assert certificate.next == len(text) and w.read_x509(bytearray(text + b"x")).next == len(
             text
         )
-        # Cut at each byte it is incomplete: behind the first four bytes, which have tag and length,
+        # Cut at each byte it is incomplete: after the first four bytes, which have tag and length,
         # by all that is missing.
         for count in range(len(text)):
             kind, missing = refusal_of(w.read_x509, text[:count])

@@ -1,4 +1,4 @@
-/* What the program of bindings/README.md, which is included in front of this file, makes of a conversation of two sockets: relay CLIENT SERVER
+/* What the program of bindings/README.md, which is included before this file, makes of a conversation of two sockets: relay CLIENT SERVER
  *
  * It prints the outcome, whether it is established and whether a session was taken up. */
 #include <stdio.h>

@@ -1,5 +1,5 @@
 
-/// Prints what the program of bindings/README.md, which is put in front of this, reads from two sockets: relay CLIENT SERVER
+/// Prints what the program of bindings/README.md, which is put before this, reads from two sockets: relay CLIENT SERVER
 fn main() -> io::Result<()> {
     use std::os::fd::{FromRawFd, OwnedFd, RawFd};
     let ends: Vec<UnixStream> = std::env::args()

@@ -158,7 +158,7 @@ def test_other_formats():
 
 
 def test_distinct():
-    """Beside an exact count: right up to the limit, and near behind it. The room is given back."""
+    """Beside an exact count: right up to the limit, close beyond it. The room is returned."""
     room = distinct.Room(30000)
     for count in (0, 1, 5000, distinct.EXACT, distinct.EXACT + 1, 30000, 300000):
         counter = distinct.Distinct(room)

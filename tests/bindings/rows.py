@@ -11,7 +11,7 @@ The answer that a row wants is compared with the module's:
 - If the call decodes more than the module, the rest and the number of missing bytes.
 - The row of an extension, or of a list of them, is also read as a block (names, versions, groups,
   contents), and in a hello and a record around that block.
-- The row of a number and bytes behind their length is also read as a key share.
+- The row of a number and bytes after their length is also read as a key share.
 
 Each row is read from `bytes`, a `bytearray` and a `memoryview` of either.
 """
@@ -62,7 +62,7 @@ def bytes_of(text, names):
 
 
 def expanded(text):
-    """The digits of words; a word that ends in `*` and a number is repeated so many times."""
+    """The digits of words; a word that ends in `*` and a number is repeated this many times."""
     words = (word.partition("*") for word in text.split())
     return "".join(digits * int(count or 1) for digits, _, count in words)
 
@@ -150,7 +150,7 @@ def unknown(data):
 
 
 def whole(items):
-    """Those in front of one that isn't whole, where a list of the library ends."""
+    """Those before one that isn't whole, where a list of the library ends."""
     found = []
     try:
         found.extend(items)
@@ -236,7 +236,7 @@ def found_body(kind, fragment):
 
 
 def some_extensions(count, block):
-    """So many extensions, one after the other: the end of the last."""
+    """So many extensions, one after another: the end of the last."""
     end = 0
     for _, it in zip(range(count), w.extensions(block)):
         end = it.next
@@ -397,7 +397,7 @@ EXTENSIONS = {
     )
 }
 OWN_VERSION, MOST_IN_HELLO = 0x0303, 16_000
-# What is asked beside these, with a number behind the name, or of rows of another call.
+# What is asked beside these, with a number after the name, or of rows of another call.
 BESIDE = {
     "find_extension": found_extension,
     "find_body": found_body,
@@ -581,7 +581,7 @@ def ask_extensions(data, clauses, where):
 
 
 def ask_framed(data, clauses, where):
-    """Compares the row of a number and bytes behind their length, read as a key share (RFC 8446,
+    """Compares the row of a number and bytes after their length, read as a key share (RFC 8446,
     section 4.2.8)."""
     for clause, text in clauses:
         if clause == "=>":

@@ -1,4 +1,4 @@
-"""Packets with broken headers, in front of the capture that they come from.
+"""Packets with broken headers, before the capture that they come from.
 
 In tunnels and in fragments, cut at each byte, with other lengths, and in too many tunnels.
 """
@@ -11,7 +11,7 @@ from tests.support import fragmenting, packets
 from tests.support.packets import ETHER, LINK, LINK_HEADER, Segment
 
 V4_HEADER, V6_HEADER, UDP_HEADER = 20, 40, 8
-# Where a tunnel's own header has lengths, behind the header of IP, or of a user datagram in it.
+# Where a tunnel's own header has lengths, after the header of IP, or of a user datagram in it.
 LENGTHS = {
     "GENEVE": [0],
     "GENEVE with options": [0],
@@ -31,7 +31,7 @@ Told = dict[bool, tuple[list[str], list[int]]]
 
 
 def cut(frame: bytes, end: int) -> list[bytes]:
-    """The frame cut at each byte in front of this one."""
+    """The frame cut at each byte before this one."""
     return [frame[:at] for at in range(end)]
 
 
@@ -90,7 +90,7 @@ def deep(frame: bytes) -> Iterator[bytes]:
 
 
 def captures(segments: list[Segment]) -> Iterator[tuple[str, bytes, int, Told]]:
-    """The capture in each kind of tunnel, and cut into fragments, behind broken copies of its
+    """The capture in each kind of tunnel, and cut into fragments, after broken copies of its
     longest packet: the name, the capture, how many packets it has more, and the tunnels."""
     longest = max(segments, key=lambda s: len(s.payload))
     begin = segments[0].time

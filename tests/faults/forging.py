@@ -1,6 +1,6 @@
 """Forged packets that their receiver drops, put into captures.
 
-The rules are of RFC 9293, section 3.10.7.4, RFC 5961, RFC 7323 and RFC 768. A place is in front of
+The rules are of RFC 9293, section 3.10.7.4, RFC 5961, RFC 7323 and RFC 768. A place is before
 a packet of the capture. What was captured before it, of both ends of a connection, decides which
 kinds of forged packets the receiver drops there, whatever they carry.
 """
@@ -22,10 +22,10 @@ ACK, URG = 16, 32
 TCP, TCP_HEADER = 6, 20
 ALL = 2**32
 QUARTER = 2**30
-# What a host dropped and begins so far in front of the number behind all that was sent goes on with
+# What a host dropped and begins so far before the number after all that was sent goes on with
 # it, or repeats it.
 NEAR = 65536
-# A connection ends after so many seconds without packets.
+# A connection ends after this many seconds without packets.
 IDLE = 299 * 1_000_000
 # The default maximum segment size, if an end sends no MSS option (RFC 9293, section 3.7.1).
 DEFAULT_SIZE = 536
@@ -33,7 +33,7 @@ RIGHT, PARTIAL, WRONG, NONE = "right", "partial", "wrong", "none"
 
 
 def words(data: bytes) -> int:
-    """The sum of the words of 16 bits, or a number that leaves the same behind when divided by
+    """The sum of the words of 16 bits, or a number that leaves the same after when divided by
     65,535."""
     return (int.from_bytes(data, "big") << (len(data) % 2 * 8)) % 65535
 
@@ -129,12 +129,12 @@ class End:
     as they show."""
 
     packet: Packet = None  # Its last one, whose headers a forged one has.
-    first: int = None  # The number behind its SYN.
-    next: int = None  # The number behind all that it sent, or that the other end acknowledged.
-    reached: int = None  # The number behind all that it sent in a row.
+    first: int = None  # The number after its SYN.
+    next: int = None  # The number after all that it sent, or that the other end acknowledged.
+    reached: int = None  # The number after all that it sent in a row.
     ahead: tuple = ()  # Where what it sent further ahead begins and ends.
     acknowledged: int = None
-    edge: int = None  # The number behind its window.
+    edge: int = None  # The number after its window.
     scale: int = None
     has_clock: bool = False
     clock: int = None  # Its last timestamp.
@@ -153,7 +153,7 @@ def later(number: int | None, other: int) -> int:
 
 
 def reached_by(end: End, packet: Packet) -> tuple[int, tuple[tuple[int, int], ...]]:
-    """The number behind all in-order data, and the ranges of out-of-order data."""
+    """The number after all in-order data, and the ranges of out-of-order data."""
     reached = packet.first if end.reached is None else end.reached
     pieces = sorted(
         [*end.ahead, (packet.first, packet.behind)], key=lambda piece: ahead(piece[0], reached)
@@ -168,7 +168,7 @@ def reached_by(end: End, packet: Packet) -> tuple[int, tuple[tuple[int, int], ..
 
 
 def sent(end: End, other: End, packet: Packet) -> End:
-    """What is known of an end behind a segment of it that the other one took."""
+    """What is known of an end after a segment of it that the other one took."""
     options, flags = packet.options(), packet.flags
     reached, further = reached_by(end, packet)
     fin = packet.behind if flags & FIN else end.fin
@@ -182,7 +182,7 @@ def sent(end: End, other: End, packet: Packet) -> End:
     shift = 0 if flags & SYN or end.scale is None or other.scale is None else end.scale
     clock = options.get(8, end.clock)
     is_noted = other.acknowledged is None or ahead(packet.first, other.acknowledged) <= 0
-    # (nothing is noted of a SYN that comes again, nor of what ends in front of what the other
+    # (nothing is noted of a SYN that comes again, nor of what ends before what the other
     # acknowledged)
     is_noted &= not (flags & SYN and end.first == packet.first)
     is_noted &= (
@@ -216,7 +216,7 @@ def checksums(end: End, packet: Packet) -> dict[str, Any]:
 
 
 def heard(other: End, packet: Packet) -> End:
-    """What is known of the other end behind a segment that it took: it sent what that
+    """What is known of the other end after a segment that it took: it sent what that
     acknowledges."""
     if not packet.flags & ACK or other.next is None:
         return other
@@ -267,7 +267,7 @@ class Connection:
             self.ends[source] = replace(end, next=later(end.next, number))
 
     def note_dropped(self, packet: Packet) -> None:
-        """What goes on behind what was sent, or repeats it, was sent too: it may be
+        """What goes on after what was sent, or repeats it, was sent too: it may be
         acknowledged."""
         end = self.ends.get(packet.source)
         if (
@@ -355,7 +355,7 @@ class Draft:
         self.sequence = number % ALL
 
     def end_at(self, number: int) -> None:
-        """Places the last byte, or the FIN, just in front of the number."""
+        """Places the last byte, or the FIN, just before the number."""
         self.sequence = (number - len(self.payload) - bool(self.flags & FIN)) % ALL
 
     def maybe(self, flag: int) -> None:
@@ -583,7 +583,7 @@ UDP_PAYLOADS = (
 
 
 def front_of(sender: End, identifier: int, length: int, is_right: bool) -> bytes:
-    """The headers of the link and of IP in front of so many bytes."""
+    """The headers of the link and of IP before this many bytes."""
     front, ip = sender.packet.front, LINK_HEADER
     if sender.packet.is_v6:
         return front[: ip + 4] + length.to_bytes(2, "big") + front[ip + 6 :]
@@ -681,7 +681,7 @@ class Capture:
         self.slots = [slot.in_the_end() for slot in list(self.slots_of(taken, left_out))]
 
     def slots_of(self, taken: list[Packet | None], left_out: list[Packet | None]) -> Iterator[Slot]:
-        """Behind the opening of each connection, and in front of its end and its last packet."""
+        """After the opening of each connection, and before its end and its last packet."""
         connections, last = {}, {}
         for place, packet in enumerate(taken):
             if packet:

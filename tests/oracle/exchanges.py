@@ -22,7 +22,7 @@ from tests.oracle import exchange_fields
 
 PORTS = "1024-65535"
 SERVER_KEY_EXCHANGE, CERTIFICATE_VERIFY, CLIENT_KEY_EXCHANGE = 12, 15, 16
-# tshark's names behind those of the protocol, and those of RFC 5246, 8422, 4279 and 8446.
+# tshark's names after those of the protocol, and those of RFC 5246, 8422, 4279 and 8446.
 OF_EXCHANGES = {
     "handshake.server_curve_type": "curve_type",
     "handshake.server_named_curve": "namedcurve",

@@ -79,7 +79,7 @@ def messages(capture: str, layer: str, prefix: str) -> Iterator[str]:
                 if had < int(length):
                     continue
             yield f"{front} {kind} {length}"
-        # Behind a ChangeCipherSpec of its side tshark may take what is encrypted for an alert.
+        # After a ChangeCipherSpec of its side tshark may take what is encrypted for an alert.
         if (stream, port) not in changed and "20" not in contents:
             for level, code in zip(levels, codes):
                 yield f"{front} alert {level} {code}"

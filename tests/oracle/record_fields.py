@@ -22,7 +22,7 @@ def rows(file: Path | str, options: Sequence[str], is_udp: bool) -> list[list[st
     printed = subprocess.run(words, capture_output=True, text=True, check=True).stdout
     found = [dict(zip(FIELDS, line.split(";"))) for line in printed.splitlines()]
     for row in found:
-        # tshark puts the ports of an outer datagram in front of the inner ones.
+        # tshark puts the ports of an outer datagram before the inner ones.
         row["tcp.srcport"] = row["tcp.srcport"].split(",")[-1]
         row["udp.srcport"] = row["udp.srcport"].split(",")[-1] if is_udp else ""
     return [list(row.values()) for row in found]

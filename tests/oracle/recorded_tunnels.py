@@ -24,7 +24,7 @@ PORT = "4433"
 
 
 class Tunnel(NamedTuple):
-    """The fields of a tunnel, and the length of its headers behind the IPv4 header."""
+    """The fields of a tunnel, and the length of its headers after the IPv4 header."""
 
     name: str
     number: int

@@ -69,7 +69,7 @@ def of_lines(judge: Judge, file: Path, folder: Path, udp: bool) -> str:
 
 
 def of_certificates(judge: Judge, file: Path) -> str:
-    """The connections in front of the certificates of each capture."""
+    """The connections before the certificates of each capture."""
     found = json.loads(file.read_text())
     for name, lines in found.items():
         right = {key(line): line for line in wanted.lines(file.parent / name)}

@@ -4,7 +4,7 @@ tests/oracle/compare tunnels CAPTURE..
 
 The tunnels are those of tests/support/packets.py. It compares the fields of records
 and handshakes, in order, and the innermost ports. Options of tshark set 8472 as a port of VXLAN,
-and the MPLS label that has frames behind a control word.
+and the MPLS label that has frames after a control word.
 """
 
 from __future__ import annotations
@@ -17,7 +17,7 @@ from tests.oracle import record_fields
 from tests.support import packets
 
 PLAIN = ["-d", "udp.port==8472,vxlan"]
-# tshark recognizes datagrams behind labels by their first half byte, but not frames.
+# tshark recognizes datagrams after labels by their first half byte, but not frames.
 FRAMES = [*PLAIN, "-d", "mpls.label==32,pwethcw"]
 
 

@@ -185,7 +185,7 @@ class Sent:
                 self.fin = begin + count
 
     def note_segment(self, begin: int, count: int) -> None:
-        """By the numbers of its bytes, in the circle of 2^32. Behind a FIN, which has a number of
+        """By the numbers of its bytes, in the circle of 2^32. After a FIN, which has a number of
         its own, there are none."""
         self.behind = begin if self.behind is None else self.behind
         end = begin + count
@@ -261,7 +261,7 @@ class Analyzer:
             self.own[side] = chain[0] if chain else None
 
     def note_end(self, row: Row, side: bool) -> None:
-        """An RST ends both sides, and an acknowledgement behind the other side's FIN that side."""
+        """An RST ends both sides, and an acknowledgement after the other side's FIN that side."""
         if is_set(row, "tcp.flags.reset"):
             self.closed |= {True, False}
         fin = self.sent[not side].fin
@@ -295,7 +295,7 @@ class Analyzer:
             self.history += letter.upper() if side else letter
 
     def note_record(self, kind: int, side: bool) -> None:
-        """Counts a ChangeCipherSpec, and each record behind it, which is encrypted."""
+        """Counts a ChangeCipherSpec, and each record after it, which is encrypted."""
         if kind == CHANGE or (side in self.changed and not self.is_13):
             self.messages += 1
         if kind == CHANGE:

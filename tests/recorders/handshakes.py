@@ -134,7 +134,7 @@ class Relay(threading.Thread):
 
 
 def converse(work: Path, client: str, wait: float) -> None:
-    """Runs a client to its end, which comes a while behind its standard input's."""
+    """Runs a client to its end, which comes a while after its standard input's."""
     process = subprocess.Popen(
         client,
         shell=True,

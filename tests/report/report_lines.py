@@ -108,7 +108,7 @@ def _spoken(lines: list[Line]) -> list[list[Line]]:
 
 
 def made(count: int, is_distinct: bool = False) -> Iterator[Line]:
-    """So many lines, made of the stored ones. They are the same at each run."""
+    """This many lines, made of the stored ones. They are the same at each run."""
     chance = random.Random(SEED)
     spoken = _spoken(stored())
     weights = [1 / (place + 1) for place in range(len(HOSTS))]

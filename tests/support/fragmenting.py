@@ -1,6 +1,6 @@
 """Datagrams cut into fragments (RFC 791, section 3.2; RFC 8200, section 4.5).
 
-In any order, doubled, overlapping, disagreeing, behind tags and in tunnels; and fragments that have
+In any order, doubled, overlapping, disagreeing, after tags and in tunnels; and fragments that have
 to be refused.
 """
 
@@ -24,7 +24,7 @@ MAX_DATAGRAM = 65_535
 
 def parts_of(frame: bytes) -> tuple[bytes, bytes, int, bytes]:
     """Splits an Ethernet frame into the link header, the IP header with its options, the protocol
-    behind it, and the rest of the datagram."""
+    after it, and the rest of the datagram."""
     link, ip = frame[:LINK_HEADER], frame[LINK_HEADER:]
     if ip[0] >> 4 == 6:
         return (
@@ -45,7 +45,7 @@ def fragment(
     payload: bytes,
     in_front: bytes = b"",
 ) -> bytes:
-    """The frame with that fragment in the place of its datagram; in IPv6 behind these headers."""
+    """The frame with that fragment in the place of its datagram; in IPv6 after these headers."""
     link, header, protocol, _ = parts_of(frame)
     if header[0] >> 4 == 6:
         said = struct.pack(">BBHI", protocol, 0, offset | has_more, identification)
@@ -67,7 +67,7 @@ def fragment(
 def cut(
     frame: bytes, size: int, identification: int, in_front: bytes = b"", overlap: int = 0
 ) -> list[bytes]:
-    """The fragments of the frame's datagram, each of so many bytes, which is a multiple of 8, and
+    """The fragments of the frame's datagram, each of this many bytes, which is a multiple of 8, and
     of so many of the next one's."""
     _, _, _, payload = parts_of(frame)
     made = []
@@ -83,7 +83,7 @@ def cut(
 def changed(
     frame: bytes, identification: int, made: list[bytes], size: int
 ) -> tuple[list[bytes], int]:
-    """The same fragments, and behind the first of each two a copy of which every second byte is
+    """The same fragments, and after the first of each two a copy of which every second byte is
     another; and how many that are."""
     _, _, _, payload = parts_of(frame)
     count, out = 0, []
@@ -100,7 +100,7 @@ def changed(
 
 
 def doubled(made: list[bytes]) -> list[bytes]:
-    """All but the last of them twice: what came behind the last would begin another datagram."""
+    """All but the last of them twice: what came after the last would begin another datagram."""
     return made[:-1] + made[:-1] + made[-1:]
 
 

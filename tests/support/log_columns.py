@@ -35,7 +35,7 @@ class Column(NamedTuple):
 
 
 def said(name: str, lines: list[str]) -> dict[str, str]:
-    """Returns the texts of the comment in front of a row."""
+    """Returns the texts of the comment before a row."""
     if lines == [ABOVE]:
         return {}
     told, label = {"is": []}, "is"

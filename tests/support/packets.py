@@ -16,7 +16,7 @@ TCP, UDP = 6, 17
 End = tuple[bytes, bytes]
 # A frame, with its time in microseconds.
 Timed = tuple[int, bytes]
-# Wraps a frame in tunnels: returns the bytes behind the outer link's type, the names of the
+# Wraps a frame in tunnels: returns the bytes after the outer link's type, the names of the
 # tunnels, and the number of each.
 Wrap = Callable[[bytes], tuple[bytes, list[str], list[int]]]
 
@@ -186,7 +186,7 @@ def pcapng(
     offset: int = 0,
 ) -> bytes:
     """A capture in blocks (draft-ietf-opsawg-pcapng), with a block of names that nobody reads. With
-    an offset of its interface, all times are so many seconds after those in its packets."""
+    an offset of its interface, all times are this many seconds after those in its packets."""
     options = struct.pack(order + "HHBxxx", 9, 1, 9) if nano else b""
     options += struct.pack(order + "HHq", 14, 8, offset) if offset else b""
     options += struct.pack(order + "HH", 0, 0) if options else b""
@@ -285,7 +285,7 @@ def udp(source: int, destination: int, payload: bytes) -> bytes:
 
 
 def wrappings() -> Iterator[tuple[str, Wrap, bytes | None]]:
-    """What wraps a packet, by name: makes of an Ethernet frame the bytes behind the outer link's
+    """What wraps a packet, by name: makes of an Ethernet frame the bytes after the outer link's
     type, that type, and which tunnels these are, with the number of each (0 where it has none). The
     headers are those of the RFCs that crates/tunnels names."""
 
@@ -300,7 +300,7 @@ def wrappings() -> Iterator[tuple[str, Wrap, bytes | None]]:
         name: str | None = None,
         number: int = 0,
     ) -> Wrap:
-        """The datagram itself in one of IP, behind a header."""
+        """The datagram itself in one of IP, after a header."""
 
         def wrap(frame: bytes) -> tuple[bytes, list[str], list[int]]:
             inner, version = datagram(frame)
@@ -369,7 +369,7 @@ def wrappings() -> Iterator[tuple[str, Wrap, bytes | None]]:
         return wrap
 
     def authenticated(outer: Callable[[int, bytes], bytes]) -> Wrap:
-        """An Authentication Header is no tunnel; what it is in front of may be."""
+        """An Authentication Header is no tunnel; what follows it may be."""
 
         def wrap(frame: bytes) -> tuple[bytes, list[str], list[int]]:
             inner, version = datagram(frame)

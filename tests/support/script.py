@@ -19,7 +19,7 @@ def run_subcommand(
     text: str | None, commands: Mapping[str, Callable[[list[str]], int | None]]
 ) -> NoReturn:
     """Calls the subcommand that the first argument names with the other arguments, and ends the
-    script with the status that it returns. `text` is the script's description; `--help` behind a
+    script with the status that it returns. `text` is the script's description; `--help` after a
     subcommand prints the description of its module."""
     name, words = (sys.argv[1:] or [""])[0], sys.argv[2:]
     if name in commands:

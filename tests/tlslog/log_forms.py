@@ -490,7 +490,7 @@ def with_compression(s: packets.Segment, number: int) -> packets.Segment:
 def others(
     ask: Ask, file: Path, room: Path, change: Callable[[packets.Segment, int], packets.Segment]
 ) -> list[Line]:
-    """The lines of a capture of one connection that is changed by each of so many numbers, twice in
+    """The lines of a capture of one connection that is changed by each of this many numbers, twice in
     one run."""
     made = []
     for number in range(MANY):

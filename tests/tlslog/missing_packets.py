@@ -32,7 +32,7 @@ def in_text_both(ends: frozenset[packets.End]) -> frozenset[tuple[str, int]]:
 
 
 def ahead(number: int, other: int) -> int:
-    """Returns how far a number is behind another; less than 0 if it is in front."""
+    """Returns how far a number is after another; less than 0 if it is in front."""
     return (number - other + HALF) % 2**32 - HALF
 
 
@@ -60,7 +60,7 @@ class Sender:
         return end
 
     def has_more(self, end: int, kinds: Callable[[packets.Segment], bool] = lambda s: True) -> bool:
-        """Whether there is data further behind."""
+        """Whether there is data further after."""
         return any(place + len(s.payload) > end for s, place in self.segments if kinds(s))
 
     def bytes(self) -> bytes:
@@ -71,7 +71,7 @@ class Sender:
 
 
 def clear(stream: bytes) -> int:
-    """Returns how many bytes are in front of the first record of a side that may be encrypted. They
+    """Returns how many bytes are before the first record of a side that may be encrypted. They
     are read, whatever else came."""
     at, has_changed = 0, False
     while at + HEADER <= len(stream):
@@ -121,7 +121,7 @@ class Whole:
                     end, lambda s: not s.says_nothing()
                 ):
                     is_missing.add(source)
-            # A packet behind its sender's FIN is one number further than the last byte. If the FIN
+            # A packet after its sender's FIN is one number further than the last byte. If the FIN
             # is missing, it counts as a missing byte.
             if not sender.has_more(end):
                 is_whole.add(source)
@@ -185,7 +185,7 @@ def senders(segments: list[packets.Segment]) -> dict[packets.End, Sender]:
 def choices(
     chance: random.Random, segments: list[packets.Segment], orders: int
 ) -> Iterator[set[int]]:
-    """Sets of the indices of packets to drop: each alone, and so many times a few and about half of
+    """Sets of the indices of packets to drop: each alone, and this many times a few and about half of
     all."""
     yield from ({index} for index in range(len(segments)))
     for _ in range(orders):
@@ -197,7 +197,7 @@ def choices(
 def acknowledgements(
     chance: random.Random, segments: list[packets.Segment], orders: int
 ) -> Iterator[set[int]]:
-    """The same of packets that only acknowledge: all, and some of them. Those behind their sender's
+    """The same of packets that only acknowledge: all, and some of them. Those after their sender's
     FIN stay."""
     ended, indices = set(), []
     for index, s in enumerate(segments):

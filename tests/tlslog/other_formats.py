@@ -217,7 +217,7 @@ def hostile_captures(capture: Path, room: Path) -> list[Path]:
 
 
 def hostile(ask: Ask, capture: Path, room: Path) -> int:
-    """Each name, also in a list, and in front of its line, is read as the text that JSON has."""
+    """Each name, also in a list, and before its line, is read as the text that JSON has."""
     files = hostile_captures(capture, room)
     for words in (
         [],
@@ -276,7 +276,7 @@ def forward(name: str | None) -> str | None:
     if not name:
         return name
     parts = re.split(r"((?<!\\)(?:\\\\)*[,+])", name)
-    # (backslashes in front of a separator are of the attribute there)
+    # (backslashes before a separator are of the attribute there)
     attributes = [part + behind[:-1] for part, behind in zip(parts[::2], [*parts[1::2], ","])]
     signs = [behind[-1] for behind in parts[1::2]]
     text = attributes[-1]

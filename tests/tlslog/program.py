@@ -12,7 +12,7 @@ from typing import Any, NoReturn
 from tests.support.shapes import Line
 
 FAULTS = Path(__file__).resolve().parents[1] / "faults"
-# Libraries that are loaded in front of the C library, and refuse memory, reads and writes.
+# Libraries that are loaded before the C library, and refuse memory, reads and writes.
 HEAP, IO = FAULTS / "refusing_heap.c", FAULTS / "refusing_io.c"
 # So many files are given to one run.
 BATCH = 400
@@ -80,7 +80,7 @@ class Program:
         arguments: Collection[str] = (),
     ) -> list[list[Line]]:
         """Runs it on these captures, many in one run; returns the lines of each. A capture's report
-        on standard error comes behind its lines, and shows where they end."""
+        on standard error comes after its lines, and shows where they end."""
         found = []
         for at in range(0, len(captures), BATCH):
             files = []

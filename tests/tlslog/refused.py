@@ -19,10 +19,10 @@ REFUSED = ["mixed", "openssl_tls13_resumed", "openssl_rsa"]
 AS_MESSAGES = ["openssl_client_certificate_rsa", "openssl_dtls12_client_certificate"]
 # What standard error has of connections that were closed to free memory.
 ENDS = re.compile(r"left out: (\d+) ends? of connections, since memory ran short")
-# `tests/faults/many full` makes so many connections with full buffers, more than three times the
+# `tests/faults/many full` makes this many connections with full buffers, more than three times the
 # limit.
 FULL, LIMIT = 400, 64 * 2**20
-# `tests/faults/many chains` makes so many connections with long chains.
+# `tests/faults/many chains` makes this many connections with long chains.
 CHAINED = 1200
 
 
@@ -102,7 +102,7 @@ def others_stay(whole: str, text: str, report: str, has_connections: bool) -> bo
 
 def bounded(program: Program, captures: list[Stored]) -> None:
     """Of connections with full buffers, the longest-idle ones end early, and the memory stays below
-    the limit. The others, and those of a stored capture behind them, have the lines that they have
+    the limit. The others, and those of a stored capture after them, have the lines that they have
     without a limit."""
     capture = next(capture for capture in captures if capture.name == "openssl_rsa")
     front, file = program.room / "front.pcap", program.room / "full.pcap"

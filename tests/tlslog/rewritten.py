@@ -84,7 +84,7 @@ def deepest(capture: Stored) -> Iterator[tuple[packets.Segment, bytes]]:
 
 
 def broken_headers(program: Program, captures: list[Stored]) -> None:
-    """The stored lines of captures behind packets with broken headers: in each kind of tunnel and
+    """The stored lines of captures after packets with broken headers: in each kind of tunnel and
     as fragments, cut at each byte before the payload, with each length changed, in 100 tunnels."""
     count = 0
     for capture in captures:

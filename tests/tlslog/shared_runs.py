@@ -32,7 +32,7 @@ def part_of(line: Line, count: int) -> int:
 
 
 def rotated(segments: list[packets.Segment], count: int) -> Iterator[bytes]:
-    """Returns so many captures, one behind the other, each with its header: pcap and pcapng in
+    """Returns so many captures, one after another, each with its header: pcap and pcapng in
     turn."""
     step = -(-len(segments) // count)
     for number, at in enumerate(range(0, len(segments), step)):

@@ -53,7 +53,7 @@ def found_in(lines: list[Line]) -> str:
 
 
 def report_of(name: object, lines: list[Line], count: int, *left_out: str) -> str:
-    """Returns the text on standard error for a capture with so many packets, some left out."""
+    """Returns the text on standard error for a capture with this many packets, some left out."""
     gaps = sum("gap" in line for line in lines)
     left_out = (*left_out, counted(gaps, "connections", "with lost bytes")) if gaps else left_out
     words = [f"{found_in(lines)}, {counted(count, 'packets')}"]
@@ -82,7 +82,7 @@ class Stored:
         self.lines = [line for line in lines if line["ts"] in times]
 
     def ended(self) -> Iterator[int]:
-        """Behind each packet, how many connections have ended: by an RST, or by acknowledgements of
+        """After each packet, how many connections have ended: by an RST, or by acknowledgements of
         both FINs. No packet of a stored capture is out of order."""
         fins, over, count = {}, set(), 0
         for s in self.segments:

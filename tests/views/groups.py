@@ -19,7 +19,7 @@ LISTS = """parse_tls_extensions parse_tls_client_hello_extensions parse_tls_serv
 DTLS_RECORDS = "parse_dtls_plaintext_record parse_dtls_plaintext_records parse_dtls_record_header"
 DTLS_MESSAGES = "parse_dtls_message_handshake"
 ONE_TIMESTAMP = "parse_ct_signed_certificate_timestamp"
-# Groups of one structure behind a length of so many bytes.
+# Groups of one structure after a length of this many bytes.
 COUNTED = {
     "parts::certificate": ("certificates", 3),
     "parts::cipher_suites": ("suites", 2),
@@ -27,7 +27,7 @@ COUNTED = {
     "parse_tls_handshake_certificaterequest": ("requests", 1),
     "parse_ct_signed_certificate_timestamp_list": ("timestamps", 2),
 }
-# Bodies of messages, each behind this front of its call's name, and their types.
+# Bodies of messages, each after this front of its call's name, and their types.
 BODY = "parse_tls_handshake_msg_"
 BODIES = {
     "hello_request": 0,
@@ -65,7 +65,7 @@ WIDTHS = {0: 2, 10: 2, 11: 1, 13: 2, 16: 2, 43: 1, 45: 1, 48: 2, 51: 2}
 
 
 def front(kind: int) -> bytes:
-    """The bytes in front of the length of a TLS 1.2 record."""
+    """The bytes before the length of a TLS 1.2 record."""
     return bytes([kind, 3, 3])
 
 

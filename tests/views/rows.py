@@ -13,11 +13,11 @@ from pathlib import Path
 from typing import NamedTuple
 
 DATA = Path(__file__).resolve().parent.parent.parent / "tests/rows/data"
-# Inputs up to so many bytes are cut at every place.
+# Inputs up to this many bytes are cut at every place.
 SHORT = 600
-# On each side of the ends of a longer one, and of its repeated parts, it is cut at so many places.
+# On each side of the ends of a longer one, and of its repeated parts, it is cut at this many places.
 NEAR = 2
-# From so many bytes on, repeated bytes are written as one part and a count.
+# From this many bytes on, repeated bytes are written as one part and a count.
 REPEATED = 64
 # No part that is read in place is longer.
 MOST = 1 << 17
@@ -42,20 +42,20 @@ class Input(NamedTuple):
     kind: int = 0
 
     def behind(self, count: int, end: int | None = None) -> Input:
-        """The bytes behind so many, up to `end`."""
+        """The bytes after this many, up to `end`."""
         moved = [w.moved(-count) for w in self.within if end is None or w.end <= end]
         kept = tuple(w for w in moved if min((*w.places, w.start)) >= 0)
         return self._replace(data=self.data[count:end], within=kept)
 
     def framed(self, head: bytes, width: int) -> Input:
-        """The bytes behind a head and their length, of so many bytes."""
+        """The bytes after a head and their length, of this many bytes."""
         front = head + len(self.data).to_bytes(width, "big")
         return self._replace(
             data=front + self.data, within=tuple(w.moved(len(front)) for w in self.within)
         )
 
     def counted(self, width: int, start: int = 0) -> Input:
-        """Adds cuts within the length of so many bytes at `start`, if it is a length."""
+        """Adds cuts within the length of this many bytes at `start`, if it is a length."""
         behind = start + width
         end = behind + number(self.data, start, width)
         if not behind < end <= len(self.data):
@@ -68,7 +68,7 @@ def number(data: bytes, start: int, width: int) -> int:
 
 
 def bytes_of(words: list[str], names: dict[str, bytes]) -> bytes:
-    """The bytes in front of the first mark that begins a piece."""
+    """The bytes before the first mark that begins a piece."""
     data, group = bytearray(), 0
     for word in words:
         if word[0] in "/<>+-?=":
@@ -172,7 +172,7 @@ def is_long(one: Input) -> bool:
 
 def count_of(inputs: list[Input]) -> int:
     """How many inputs are compared: each whole, its fronts, and those with a length that is cut,
-    with and without what is behind."""
+    with and without what is after."""
     count = 0
     for one in inputs:
         count += 1 + (len(places(one.data)) if is_long(one) else len(one.data))

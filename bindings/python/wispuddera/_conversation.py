@@ -13,7 +13,7 @@ from . import _library as _c
 if TYPE_CHECKING:
     from . import Data, EventKind, Outcome
 
-# The length of the header in front of an event's content, by form: that of a message or of a
+# The length of the header before an event's content, by form: that of a message or of a
 # record.
 _MESSAGE, _FAULT = 0, 6
 _HEADERS = {_MESSAGE: 4, 1: 5, 3: 5, 4: 5}

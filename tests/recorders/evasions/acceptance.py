@@ -1,4 +1,4 @@
-"""Packets in front of a real ClientHello that the host drops: of flags, acknowledgements, places
+"""Packets before a real ClientHello that the host drops: of flags, acknowledgements, places
 and timestamps that it doesn't take."""
 
 from __future__ import annotations

@@ -1,4 +1,4 @@
-"""Packets that the host's client drops, in front of the server's real messages; and its responses
+"""Packets that the host's client drops, before the server's real messages; and its responses
 to answers to its SYN."""
 
 from __future__ import annotations

@@ -1,4 +1,4 @@
-"""How a connection ends, and how it doesn't: RSTs and FINs, and what comes behind them."""
+"""How a connection ends, and how it doesn't: RSTs and FINs, and what comes after them."""
 
 from __future__ import annotations
 
@@ -81,7 +81,7 @@ def up_to_the_server(room: Room) -> tuple[End, Analyzer, bytes]:
 def closed_by(
     room: Room, end: End, answer: bytes, what: str, unknown: tuple[str, ...] = (), **how: Any
 ) -> None:
-    """An RST that closes the connection. What comes behind it belongs to none."""
+    """An RST that closes the connection. What comes after it belongs to none."""
     length, heard = end.next - end.first - 1, (end.expected - end.its_first - 1) % 2**32
     room.try_packet(end, what, **how)
     expect(room.state(end.port) is None, "the host still has the connection")

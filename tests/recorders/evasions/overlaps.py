@@ -20,7 +20,7 @@ def begin_both(room: Room) -> tuple[End, Analyzer, bytes, bytes, int, int]:
 
 
 def wait(room: Room, end: End, what: str, hello: bytes, begin_at: int, end_at: int) -> None:
-    """A part that waits for the bytes in front of it, and is kept."""
+    """A part that waits for the bytes before it, and is kept."""
     number = end.next
     take(room, end, what, hello[begin_at:end_at], number=number + begin_at, upto=number)
 

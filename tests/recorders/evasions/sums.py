@@ -282,7 +282,7 @@ class Relay:
         return data
 
     def from_host(self, wait: float) -> wire.Packet | None:
-        """Its next datagram, or nothing if none comes within so many seconds."""
+        """Its next datagram, or nothing if none comes within this many seconds."""
         while (packet := self.room.wire.receive(wait)) and packet.protocol != wire.UDP:
             pass
         return packet

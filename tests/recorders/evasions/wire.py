@@ -70,7 +70,7 @@ class Packet:
 
     @property
     def end(self) -> int:
-        """The number behind it."""
+        """The number after it."""
         return (
             self.number + len(self.payload) + bool(self.flags & SYN) + bool(self.flags & FIN)
         ) % 2**32
@@ -250,7 +250,7 @@ class Wire:
         return place
 
     def receive(self, wait: float) -> Packet | None:
-        """The host's next packet, or nothing if none comes within so many seconds."""
+        """The host's next packet, or nothing if none comes within this many seconds."""
         limit = time.monotonic() + wait
         while True:
             self.drain()

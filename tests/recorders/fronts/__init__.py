@@ -1,1 +1,1 @@
-"""TLS behind other bytes, of live peers."""
+"""TLS after other bytes, of live peers."""

@@ -1,5 +1,5 @@
 """A server that speaks plain text first and then TLS (Python's ssl), on the same connection; it
-counts the bytes in front of TLS."""
+counts the bytes before TLS."""
 
 from __future__ import annotations
 
@@ -29,7 +29,7 @@ class Plain:
         return found
 
     def until(self, end: bytes, begin: bytes = b"") -> bytes:
-        """The bytes up to an end, behind a beginning."""
+        """The bytes up to an end, after a beginning."""
         found = b""
         while begin not in found or not found[found.index(begin) :].endswith(end):
             found += self.take(1)
@@ -44,7 +44,7 @@ class Plain:
 
 
 class Server(threading.Thread):
-    """Serves one connection. `seen` is what it saw. Where `highest` is None there is no TLS behind
+    """Serves one connection. `seen` is what it saw. Where `highest` is None there is no TLS after
     the plain text."""
 
     def __init__(

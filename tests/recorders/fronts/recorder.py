@@ -1,4 +1,4 @@
-"""Captures of TLS behind other bytes, from live peers, with their expected lines in wanted.json.
+"""Captures of TLS after other bytes, from live peers, with their expected lines in wanted.json.
 
 It needs `openssl`, `gnutls-cli`, `gnutls-serv`, `curl`, `psql`, `chromium`, `tcpdump`, `tshark`,
 `unshare`, `stdbuf` and `ip`.

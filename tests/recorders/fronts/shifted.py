@@ -1,4 +1,4 @@
-"""Captures made of others: connections whose beginning wasn't captured, DTLS behind CAPWAP's
+"""Captures made of others: connections whose beginning wasn't captured, DTLS after CAPWAP's
 header; and DTLS of the version 0x0100."""
 
 from __future__ import annotations
@@ -84,7 +84,7 @@ def cut(folder: Path, name: str) -> list[Line]:
 
 
 def capwap(folder: Path, name: str) -> list[Line]:
-    """Puts the header in front of each datagram of a stored capture, and gives the server the port
+    """Puts the header before each datagram of a stored capture, and gives the server the port
     of CAPWAP."""
     file = folder / f"{name}.pcap"
 

@@ -1,4 +1,4 @@
-"""The plain text in front of TLS on a connection, by the protocol (STARTTLS and its like). A talk
+"""The plain text before TLS on a connection, by the protocol (STARTTLS and its like). A talk
 reads and writes it on the server's side, and returns when the client's next byte is TLS."""
 
 from __future__ import annotations
@@ -106,7 +106,7 @@ def postgres(plain: Plain) -> None:
 
 
 def mysql(plain: Plain) -> None:
-    """The SSLRequest of MySQL's protocol: a packet of 32 bytes behind a header of 4, by which the
+    """The SSLRequest of MySQL's protocol: a packet of 32 bytes after a header of 4, by which the
     greeting is answered."""
     plain.say(len(MYSQL_GREETING).to_bytes(3, "little") + b"\0" + MYSQL_GREETING)
     plain.take(int.from_bytes(plain.take(4)[:3], "little"))
@@ -147,7 +147,7 @@ def socks5(plain: Plain) -> None:
 
 
 def socks4a(plain: Plain) -> None:
-    """SOCKS 4A (its description, beside SOCKS 4): a name behind the address 0.0.0.x."""
+    """SOCKS 4A (its description, beside SOCKS 4): a name after the address 0.0.0.x."""
     plain.take(8)
     plain.until(b"\0")
     plain.until(b"\0")

@@ -13,7 +13,7 @@ from . import suites, text
 # Longer lines are skipped. Those of tlslog are shorter: a hello's lists have lengths of 2 bytes,
 # and a byte takes at most 5 as text.
 LONGEST_LINE = 4 << 20
-# Connections are counted once so many bytes of lines are read. Counting each line takes a tenth
+# Connections are counted once this many bytes of lines are read. Counting each line takes a tenth
 # longer.
 BATCH = 256 << 10
 

@@ -34,7 +34,7 @@ class Fault(NamedTuple):
     reference: str
 
 
-# The key exchange is the first word behind TLS_. Nothing else precedes _WITH_.
+# The key exchange is the first word after TLS_. Nothing else precedes _WITH_.
 _STATIC = r"^TLS_(RSA|RSA_PSK|DH_DSS|DH_RSA|ECDH_ECDSA|ECDH_RSA|PSK|KRB5)(_EXPORT(1024)?)?_WITH_"
 FAULTS = (
     Fault(

@@ -18,7 +18,7 @@ SOON = 30
 _NO_ADDRESS = "no address"
 _LAST_SEEN = Column("Last seen (UTC)")
 _FINGERPRINT = Column("SHA-256")
-# A line may break after so many digits of a fingerprint.
+# A line may break after this many digits of a fingerprint.
 _DIGITS = 16
 
 
