@@ -97,7 +97,8 @@ fn digit(n: u8) -> char
 
 /// Appends the lowest digit of a number in base 62.
 fn add_digit(text: &mut String, n: u64) -> Result<(), AllocError>
-    ensures { OnOk result (string_bytes text.new ≡ string_bytes text.old ++ digit_of (n % 62) ∷ []) }
+    ensures { OnOk result
+        (string_bytes text.new ≡ string_bytes text.old ++ digit_of (n % 62) ∷ []) }
 {
     text.push(digit((n % 62) as u8))
 }

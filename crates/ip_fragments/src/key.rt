@@ -39,7 +39,8 @@ impl Key {
 
 // Whole words hash fastest.
 impl Hash for Key {
-    ghost hash_input = { λ k. address_fed k.source ++ (address_fed k.destination ++ fed.u64 (number_of k)) };
+    ghost hash_input = { λ k. address_fed k.source
+        ++ (address_fed k.destination ++ fed.u64 (number_of k)) };
 
     ghost respects_eq = { Prim.search (hashing, rules) };
 

@@ -60,7 +60,8 @@ impl Model for Waiting {
       since = w.since;
     } };
 
-    ghost invariant = { λ w. (w.segments.first ≡ 0) × (w.segments.taken ≡ 0) × (w.disagreeing ≤ w.weight) };
+    ghost invariant = { λ w. (w.segments.first ≡ 0) × (w.segments.taken ≡ 0)
+        × (w.disagreeing ≤ w.weight) };
 }
 
 /// Returns the memory that a fragment counts, in bytes.

@@ -103,7 +103,8 @@ with_leaves (Err e) more b l h = le_refl _
 with_leaves {A} (Ok x) more b l h = test (ltb (length x.1) (length b))
   where
     test : (t : Bool)
-        → length (cond {A = List A × Bytes} t (x.0 ∷ (more x.1).0, (more x.1).1) ([], b)).1 ≤ length b
+        → length (cond {A = List A × Bytes} t (x.0 ∷ (more x.1).0, (more x.1).1) ([], b)).1 ≤ length
+        b
     test true = omega (arith, h x.1)
     test false = le_refl _
 

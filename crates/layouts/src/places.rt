@@ -18,7 +18,8 @@ impl Place {
     #[tactic(auto, using(crate::proofs::PlaceLemmas::place_is))]
     #[inline(always)]
     pub fn before(whole: &[u8], part: &[u8], rest: &[u8]) -> Place
-        ensures place { EndsWith whole.now (part.now ++ rest.now) → bytes_at whole.now result ≡ part.now }
+        ensures place { EndsWith whole.now (part.now ++ rest.now)
+            → bytes_at whole.now result ≡ part.now }
         ensures size { result.length ≡ length part.now }
     {
         Place {

@@ -119,7 +119,8 @@ impl<W: Write> Output<W> {
 
     /// Writes a line with a line break, by one write if that accepts all.
     pub fn write_line(&mut self, line: Vec<u8>) -> Result<(), LineError>
-        ensures written { OnOk result (Appends (W.contents self.old.writer) (W.contents self.new.writer)
+        ensures written { OnOk result
+            (Appends (W.contents self.old.writer) (W.contents self.new.writer)
             (line.items ++ 10 ∷ [])) }
         ensures told { Tells self.old.has_failed self.new.has_failed result }
     {

@@ -145,7 +145,8 @@ later a t (n ∷ ns) g b c is =
     elim (Contains-cons (n, number_of n t) (numbered (with_packet n t) ns) b c) [
       | inl x ↦ subst (λ p. IsSame p.0 a.0) x
           (gives n t (lookup (is_network n) t.held) refl a g (ap (λ p. p.1) x ∙ is))
-      | inr i ↦ later a (with_packet n t) ns (keeps n t (lookup (is_network n) t.held) refl a g) b i is
+      | inr i ↦ later a (with_packet n t) ns
+          (keeps n t (lookup (is_network n) t.held) refl a g) b i is
     ]
 
 from : (t : Numbering) (ns : List Network) → Valid t → (a b : Numbered) → Contains (numbered t ns) a

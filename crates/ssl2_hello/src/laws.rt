@@ -27,7 +27,8 @@ pub fn what_begins_is_not_refused()
 #[tactic(auto, using(crate::proofs::HelloLemmas::begins_long, crate::proofs::HelloLemmas::begins_still))]
 pub fn first_11_bytes_tell()
     ensures long { (b : Bytes) → IsTrue (begins_ssl2_hello_in b) → 11 ≤ length b }
-    ensures still { (b s : Bytes) → 11 ≤ length b → begins_ssl2_hello_in (b ++ s) ≡ begins_ssl2_hello_in b }
+    ensures still { (b s : Bytes) → 11 ≤ length b
+        → begins_ssl2_hello_in (b ++ s) ≡ begins_ssl2_hello_in b }
 {}
 
 /// A hello consumes all bytes of its record. It has at least one CipherSpec, a session ID of at

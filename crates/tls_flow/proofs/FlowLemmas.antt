@@ -127,7 +127,8 @@ failed_at_once f e es h t =
     let s : (follow f e).stop ≡ Some (record { event = e; place = f.events }) =
     ap (λ x. x.stop) m ∙ stop_is (outcome_at (step f.state e.symbol)) f e t in
     let w : is_waiting (outcome_at (follow f e).state) ≡ false =
-    ap (λ x. is_waiting (outcome_at x)) q ∙ (failed_not (outcome_at (step f.state e.symbol)) t).0 in (
+    ap (λ x. is_waiting (outcome_at x)) q
+    ∙ (failed_not (outcome_at (step f.state e.symbol)) t).0 in (
       [],
       es,
       e,

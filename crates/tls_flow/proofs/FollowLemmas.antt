@@ -77,10 +77,13 @@ road state.VerifiedHello =
 road state.ChangedHello = after_hello (symbol kind.ChangeCipherSpec ToServer ∷ [])
 road state.EarlyHello = after_hello (symbol kind.Encrypted ToServer ∷ [])
 road state.Retry = after_hello (symbol kind.HelloRetryRequest FromServer ∷ [])
-road state.EarlyRetry = after_hello (symbol kind.HelloRetryRequest FromServer ∷ symbol kind.Encrypted ToServer ∷ [])
-road state.SecondHello = after_hello (symbol kind.HelloRetryRequest FromServer ∷ symbol kind.ClientHello ToServer ∷ [])
+road state.EarlyRetry =
+    after_hello (symbol kind.HelloRetryRequest FromServer ∷ symbol kind.Encrypted ToServer ∷ [])
+road state.SecondHello =
+    after_hello (symbol kind.HelloRetryRequest FromServer ∷ symbol kind.ClientHello ToServer ∷ [])
 road state.EarlySecondHello = after_hello
-    (symbol kind.HelloRetryRequest FromServer ∷ symbol kind.Encrypted ToServer ∷ symbol kind.ClientHello ToServer ∷ [])
+    (symbol kind.HelloRetryRequest FromServer ∷ symbol kind.Encrypted ToServer
+    ∷ symbol kind.ClientHello ToServer ∷ [])
 road state.ServerHello = after_server_hello []
 road state.Certificate = after_certificate []
 road state.CertificateStatus = after_certificate (symbol kind.CertificateStatus FromServer ∷ [])
@@ -88,7 +91,8 @@ road state.CertifiedKeys = after_certificate (symbol kind.ServerKeyExchange From
 road state.Keys = after_server_hello (symbol kind.ServerKeyExchange FromServer ∷ [])
 road state.Request = after_request []
 road state.RequestDone = after_request (symbol kind.ServerDone FromServer ∷ [])
-road state.ClientCertificate = after_request (symbol kind.ServerDone FromServer ∷ symbol kind.Certificate ToServer ∷ [])
+road state.ClientCertificate =
+    after_request (symbol kind.ServerDone FromServer ∷ symbol kind.Certificate ToServer ∷ [])
 road state.ClientKeys =
     after_request (symbol kind.ServerDone FromServer ∷ symbol kind.Certificate ToServer
     ∷ symbol kind.ClientKeyExchange ToServer ∷ [])
@@ -101,14 +105,17 @@ road state.ResumedTicket = after_server_hello (symbol kind.NewSessionTicket From
 road state.ServerChange = after_server_hello (symbol kind.ChangeCipherSpec FromServer ∷ [])
 road state.Full = after_change (symbol kind.ChangeCipherSpec FromServer ∷ [])
 road state.Resumed =
-    after_server_hello (symbol kind.ChangeCipherSpec FromServer ∷ symbol kind.ChangeCipherSpec ToServer ∷ [])
+    after_server_hello
+    (symbol kind.ChangeCipherSpec FromServer ∷ symbol kind.ChangeCipherSpec ToServer ∷ [])
 road state.Tls13 = after_hello (symbol kind.ServerHello13 FromServer ∷ [])
-road state.EarlyTls13 = after_hello (symbol kind.Encrypted ToServer ∷ symbol kind.ServerHello13 FromServer ∷ [])
+road state.EarlyTls13 =
+    after_hello (symbol kind.Encrypted ToServer ∷ symbol kind.ServerHello13 FromServer ∷ [])
 road state.RetriedTls13 =
     after_hello (symbol kind.HelloRetryRequest FromServer ∷ symbol kind.ClientHello ToServer
     ∷ symbol kind.ServerHello13 FromServer ∷ [])
 road state.EarlyRetriedTls13 = after_hello
-    (symbol kind.HelloRetryRequest FromServer ∷ symbol kind.Encrypted ToServer ∷ symbol kind.ClientHello ToServer
+    (symbol kind.HelloRetryRequest FromServer ∷ symbol kind.Encrypted ToServer
+    ∷ symbol kind.ClientHello ToServer
     ∷ symbol kind.ServerHello13 FromServer ∷ [])
 road state.BrokenOff = symbol kind.Other ToServer ∷ []
 road state.Unknown = symbol kind.Other ToServer ∷ []
@@ -130,7 +137,8 @@ same_pattern = Pattern-discrete same_symbol
 -- A test that all rows pass for each form: the row leads to what its state waits for after the
 -- row's symbol.
 abbrev row_test : Pattern Symbol → Row → Bool
-row_test p r = is_yes (same_pattern (waits p r.next) (behind same_symbol (waits p r.state) (symbol r.kind r.direction)))
+row_test p r = is_yes (same_pattern (waits p r.next)
+    (behind same_symbol (waits p r.state) (symbol r.kind r.direction)))
 
 abbrev RowsPass : Outcome → Type 0
 RowsPass o = list_all (row_test (pattern_of o)) ROWS ≡ true
@@ -142,7 +150,8 @@ tls13_rows false true = refl
 tls13_rows false false = refl
 
 rows_pass : (o : Outcome) → RowsPass o
-rows_pass = elim [ outcome.Tls13 retried early ↦ tls13_rows retried early | outcome.Full ↦ refl | _ ↦ refl ]
+rows_pass =
+    elim [ outcome.Tls13 retried early ↦ tls13_rows retried early | outcome.Full ↦ refl | _ ↦ refl ]
 
 -- Equality of two tests.
 abbrev same_bool : Bool → Bool → Bool
@@ -170,11 +179,13 @@ is_flat all = true
 is_flat _ = false
 
 abbrev begins_well : State → Pattern Symbol → Bool
-begins_well q x = if is_waiting (outcome_at q) then begins_by (has_symbol (rows_of q)) x else is_flat x
+begins_well q x =
+    if is_waiting (outcome_at q) then begins_by (has_symbol (rows_of q)) x else is_flat x
 
 abbrev pattern_test : Outcome → State → Pattern Symbol → Bool
 pattern_test o q x =
-    begins_well q x && (same_bool (has_empty x) (is_it o (outcome_at q)) && (not (has_word x) || is_alive (outcome_at q)))
+    begins_well q x && (same_bool (has_empty x) (is_it o (outcome_at q))
+    && (not (has_word x) || is_alive (outcome_at q)))
 
 abbrev state_test : Outcome → State → Bool
 state_test o q = pattern_test o q (waits (pattern_of o) q)
@@ -190,7 +201,8 @@ states_pass = elim [ outcome.Tls13 retried early ↦ tls13_states retried early 
 
 -- After a failure nothing can come.
 tls13_fails : (retried early : Bool)
-    → behind_all same_symbol (chain (tls13 retried early) all) (symbol kind.Other ToServer ∷ []) ≡ none
+    → behind_all same_symbol (chain (tls13 retried early) all) (symbol kind.Other ToServer ∷ [])
+    ≡ none
 tls13_fails true true = refl
 tls13_fails true false = refl
 tls13_fails false true = refl
@@ -200,8 +212,10 @@ form_fails : (o : Outcome)
     → behind_all same_symbol (chain (pattern_of o) all) (symbol kind.Other ToServer ∷ []) ≡ none
 form_fails = elim [ outcome.Tls13 retried early ↦ tls13_fails retried early | outcome.Full ↦ refl | _ ↦ refl ]
 
-fails_for_good : (o : Outcome) (q : State) (k : Kind) → waits (pattern_of o) (unended_rule q k false) ≡ none
-fails_for_good o q = elim [ kind.Fatal ↦ form_fails o | kind.Unknown ↦ form_fails o | _ ↦ form_fails o ]
+fails_for_good : (o : Outcome) (q : State) (k : Kind)
+    → waits (pattern_of o) (unended_rule q k false) ≡ none
+fails_for_good o q =
+    elim [ kind.Fatal ↦ form_fails o | kind.Unknown ↦ form_fails o | _ ↦ form_fails o ]
 
 module _ (o : Outcome) (q : State) where
   parts : (begins_well q (waits (pattern_of o) q) ≡ true)
@@ -213,7 +227,8 @@ module _ (o : Outcome) (q : State) where
   begins_at = parts.0
 
   pub front_at : has_empty (waits (pattern_of o) q) ≡ is_it o (outcome_at q)
-  front_at = both_same _ _ (both_and (same_bool (has_empty (waits (pattern_of o) q)) (is_it o (outcome_at q)))
+  front_at = both_same _ _
+      (both_and (same_bool (has_empty (waits (pattern_of o) q)) (is_it o (outcome_at q)))
       (not (has_word (waits (pattern_of o) q)) || is_alive (outcome_at q)) parts.1).0
 
   pub alive_at : (not (has_word (waits (pattern_of o) q)) || is_alive (outcome_at q)) ≡ true
@@ -230,7 +245,8 @@ module _ (o : Outcome) (q : State) (l : Symbol) where
   by_row : GoesByRow q l → Follows (step q l)
   by_row r =
       ap (waits (pattern_of o)) r.1
-      ∙ yes_is (same_pattern (waits (pattern_of o) r.0) (behind same_symbol (waits (pattern_of o) q) l))
+      ∙ yes_is (same_pattern (waits (pattern_of o) r.0)
+      (behind same_symbol (waits (pattern_of o) q) l))
       (r.3 (row_test (pattern_of o)) (rows_pass o))
       ∙ ap (λ t. cond t (waits (pattern_of o) q) (behind same_symbol (waits (pattern_of o) q) l))
       (sym (row_speaks q l r))
@@ -255,13 +271,15 @@ module _ (o : Outcome) (q : State) (l : Symbol) where
   by_rule : is_waiting (outcome_at q) ≡ true → GoesByRule q l → Follows (step q l)
   by_rule h r =
       ap (waits (pattern_of o)) (r.0 ∙ rule_waiting q l h)
-      ∙ by_noise (is_noise l) (none_behind same_symbol (has_symbol (rows_of q)) l r.1 (waits (pattern_of o) q)
+      ∙ by_noise (is_noise l)
+      (none_behind same_symbol (has_symbol (rows_of q)) l r.1 (waits (pattern_of o) q)
       (begins_waiting (is_waiting (outcome_at q)) (waits (pattern_of o) q) h (begins_at o q)))
 
   flat_behind : (x : Pattern Symbol) → is_flat x ≡ true → x ≡ behind same_symbol x l
   flat_behind = elim [ none ↦ λ h. refl | all ↦ λ h. refl | _ ↦ λ h. cc ]
 
-  flat_stays : (n : Bool) (x : Pattern Symbol) → is_flat x ≡ true → x ≡ cond n x (behind same_symbol x l)
+  flat_stays : (n : Bool) (x : Pattern Symbol) → is_flat x ≡ true
+      → x ≡ cond n x (behind same_symbol x l)
   flat_stays true x h = refl
   flat_stays false x h = flat_behind x h
 

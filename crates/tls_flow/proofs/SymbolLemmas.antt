@@ -18,12 +18,14 @@ same_kind a b = decided kinds_type tt a b (eqb (kind_number a) (kind_number b)) 
 
 abbrev pub same_direction : (a b : Direction) → Dec (a ≡ b)
 same_direction a b =
-    decided directions_type tt a b (eqb (direction_number a) (direction_number b)) (same_directions a b)
+    decided directions_type tt a b (eqb (direction_number a) (direction_number b))
+    (same_directions a b)
 
 pub symbol_is : (a b : Symbol) → a.kind ≡ b.kind → a.direction ≡ b.direction → a ≡ b
 symbol_is a b p q = subst (λ x. a ≡ symbol x b.direction) p (ap (λ y. symbol a.kind y) q)
 
-abbrev pub of_parts : (a b : Symbol) → Dec (a.kind ≡ b.kind) → Dec (a.direction ≡ b.direction) → Dec (a ≡ b)
+abbrev pub of_parts : (a b : Symbol) → Dec (a.kind ≡ b.kind) → Dec (a.direction ≡ b.direction)
+    → Dec (a ≡ b)
 of_parts a b (yes p) (yes q) = yes (symbol_is a b p q)
 of_parts a b (no p) q = no (λ e. p (ap (λ l. l.kind) e))
 of_parts a b p (no q) = no (λ e. q (ap (λ l. l.direction) e))
@@ -33,10 +35,14 @@ same_symbol a b = of_parts a b (same_kind a.kind b.kind) (same_direction a.direc
 
 abbrev kinds : List Kind
 kinds =
-    kind.HelloRequest ∷ kind.ClientHello ∷ kind.HelloVerifyRequest ∷ kind.ServerHello ∷ kind.HelloRetryRequest ∷
-    kind.ServerHello13 ∷ kind.NewSessionTicket ∷ kind.Certificate ∷ kind.ServerKeyExchange ∷ kind.CertificateRequest ∷
-    kind.ServerDone ∷ kind.CertificateVerify ∷ kind.ClientKeyExchange ∷ kind.CertificateStatus ∷ kind.ChangeCipherSpec ∷
-    kind.Encrypted ∷ kind.Warning ∷ kind.NoCertificate ∷ kind.Fatal ∷ kind.Heartbeat ∷ kind.Unknown ∷ kind.Other ∷ []
+    kind.HelloRequest ∷ kind.ClientHello ∷ kind.HelloVerifyRequest ∷ kind.ServerHello
+    ∷ kind.HelloRetryRequest ∷
+    kind.ServerHello13 ∷ kind.NewSessionTicket ∷ kind.Certificate ∷ kind.ServerKeyExchange
+    ∷ kind.CertificateRequest ∷
+    kind.ServerDone ∷ kind.CertificateVerify ∷ kind.ClientKeyExchange ∷ kind.CertificateStatus
+    ∷ kind.ChangeCipherSpec ∷
+    kind.Encrypted ∷ kind.Warning ∷ kind.NoCertificate ∷ kind.Fatal ∷ kind.Heartbeat ∷ kind.Unknown
+    ∷ kind.Other ∷ []
 
 abbrev pub symbols : List Symbol
 symbols = map (λ k. symbol k ToServer) kinds ++ map (λ k. symbol k FromServer) kinds

@@ -91,7 +91,7 @@ impl Flow {
     /// Empty unless the outcome is [`Outcome::Waiting`].
     pub fn awaited(&self) -> &'static [Symbol]
         ensures rows { result.now ≡ awaited_in ROWS self.now.state }
-        ensures told { (events : List FlowEvent) → self.now ≡ run_of follow silence events
+        ensures by_grammar { (events : List FlowEvent) → self.now ≡ run_of follow silence events
             → (l : Symbol)
             → Contains result.now l ↔ IsAwaited l (symbols_of events) }
     {
@@ -131,7 +131,7 @@ impl Flow {
     /// [`Flow::stop`] is the event that made it one of the last three, and how many came before it.
     pub fn run(&mut self, events: &[FlowEvent])
         ensures by_steps { self.new ≡ run_of follow self.old events.now }
-        ensures told { self.old ≡ silence → (o : Outcome) → (outcome_at self.new.state ≡ o)
+        ensures by_grammar { self.old ≡ silence → (o : Outcome) → (outcome_at self.new.state ≡ o)
             ↔ IsOutcome o (symbols_of events.now) }
         ensures stopped { self.old ≡ silence → IsStop self.new.stop events.now }
     {
@@ -143,7 +143,7 @@ impl Flow {
 
 /// The outcome of a whole conversation. Exactly one outcome holds for each.
 pub fn outcome_of(events: &[FlowEvent]) -> Outcome
-    ensures told { IsOutcome result (symbols_of events.now) }
+    ensures by_grammar { IsOutcome result (symbols_of events.now) }
     ensures alone { (o : Outcome) → IsOutcome o (symbols_of events.now) → o ≡ result }
 {
     let mut flow = Flow::new();

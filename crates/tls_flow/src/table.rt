@@ -330,7 +330,8 @@ macro_rules! symbols {
             $(State::$state =>
                 &[$(Symbol { kind: Kind::$kind, direction: Direction::$direction }),*],)*
             State::Full | State::Resumed | State::Tls13 | State::EarlyTls13 | State::RetriedTls13
-            | State::EarlyRetriedTls13 | State::BrokenOff | State::Unknown | State::NoHandshake => &[],
+            | State::EarlyRetriedTls13 | State::BrokenOff | State::Unknown
+            | State::NoHandshake => &[],
         }
     };
 }

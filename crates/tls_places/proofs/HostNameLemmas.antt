@@ -46,17 +46,17 @@ none_held b None s = no_name
 none_held b (Some x) s = absurd s
 
 module _ (b r : Bytes) (v : ClientHello) (read : reading client_hello b ≡ Ok (v, r)) where
-  pub none_told : MayStand b None v.extensions
+  pub none_found : MayStand b None v.extensions
       → Tells {X = Option Place} (option_map (bytes_at b))
       (name_in_hello (reading client_hello b)) (Ok None)
-  none_told s =
+  none_found s =
       record { answers = tt; is = sym (ap name_in_hello read ∙ none_held b v.extensions s) }
 
-  pub name_told : (p : Place) (x : Bytes) (f : Found) → MayStand b (Some p) v.extensions
+  pub name_found : (p : Place) (x : Bytes) (f : Found) → MayStand b (Some p) v.extensions
       → x ≡ bytes_at b p
       → Tells (option_map (bytes_at x)) (host_name x) f
       → Tells (option_map (bytes_at (bytes_at b p))) (name_in_hello (reading client_hello b)) f
-  name_told p x f s is t =
+  name_found p x f s is t =
       let here : Tells (option_map (bytes_at (bytes_at b p))) (host_name (bytes_at b p)) f =
       subst (λ y. Tells (option_map (bytes_at y)) (host_name y) f) is t in
       subst (λ a. Tells (option_map (bytes_at (bytes_at b p))) a f)
@@ -67,12 +67,12 @@ is_true true e = refl
 is_true false e = absurd cc
 
 -- a record of handshake messages answers as its fragment does
-pub handshake_told : (i r : Bytes) (p : Place) (v : RawRecord) (f : Found)
+pub handshake_found : (i r : Bytes) (p : Place) (v : RawRecord) (f : Found)
     → reading raw_record i ≡ Ok (v, r)
     → false ≡ not (v.header.content_type == 22) → bytes_at i p ≡ v.fragment
     → Tells (option_map (bytes_at v.fragment)) (name_in_body (body_of_type 1 v.fragment)) f
     → Tells (option_map (bytes_at (bytes_at i p))) (host_name_of_record i) f
-handshake_told i r p v f read kind is t =
+handshake_found i r p v f read kind is t =
     let here : Tells (option_map (bytes_at (bytes_at i p)))
     (name_in_body (body_of_type 1 v.fragment)) f =
     subst (λ y. Tells (option_map (bytes_at y)) (name_in_body (body_of_type 1 v.fragment)) f)

@@ -24,12 +24,12 @@ module _ (b : Bytes) (p q s : Place)
   some_within found is out here =
       (there out (subst (λ f. IsWithin (bytes_at b p) f) is here)).within
 
-  pub some_told : (found : Found) → found ≡ Ok (Some q)
+  pub some_found : (found : Found) → found ≡ Ok (Some q)
       → (a : Result (Option Bytes) Refusal) → Lies b p
       → IsWithin (bytes_at b p) found
       → Tells (option_map (bytes_at (bytes_at b p))) a found
       → Tells (option_map (bytes_at b)) a (Ok (Some s))
-  some_told found is a out here t =
+  some_found found is a out here t =
       let at : Tells (option_map (bytes_at (bytes_at b p))) a (Ok (Some q)) =
       subst (λ f. Tells (option_map (bytes_at (bytes_at b p))) a f) is t in
       record {

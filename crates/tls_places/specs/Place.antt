@@ -57,8 +57,8 @@ Found = Result (Option Place) (Failed (Error (Bor (List ℕ))))
 
 -- A place in the part of b at p becomes one in b: it has the same bytes, or the call the same
 -- refusal.
-abbrev pub TellsTheSame : Bytes → Place → Found → Found → Type 0
-TellsTheSame b p found result = (a : Result (Option Bytes) Refusal) → Lies b p
+abbrev pub FindsTheSame : Bytes → Place → Found → Found → Type 0
+FindsTheSame b p found result = (a : Result (Option Bytes) Refusal) → Lies b p
     → IsWithin (bytes_at b p) found
     → Tells (option_map (bytes_at (bytes_at b p))) a found
     → Tells (option_map (bytes_at b)) a result

@@ -30,7 +30,8 @@ pub trait Frame<'a>: InPlace<'a> {
 #[inline(always)]
 pub fn frame_at<'a, T: Frame<'a>>(whole: &[u8], i: &'a [u8]) -> IResult<&'a [u8], (T::Read, Place)>
     ensures gives { Gives (λ x. T.view x.0) T.layout i.now result }
-    ensures stands { EndsWith whole.now i.now → IfOk result (λ x. Stands whole.now x.1.1 (T.content x.1.0)) }
+    ensures stands { EndsWith whole.now i.now
+        → IfOk result (λ x. Stands whole.now x.1.1 (T.content x.1.0)) }
     ensures ends { EndsWith whole.now i.now → IfOk result (λ x. EndsWith whole.now x.0.now) }
 {
     let (rest, item) = T::read(i)?;
@@ -79,7 +80,8 @@ impl<'a, T: Frame<'a>> Iterator for Placed<'a, T> {
 
     type Item = (T::Read, Place);
 
-    ghost next_gives = { YieldsPlaced T.view T.content (λ s. s.whole.now) (λ s. items_in T.layout s.rest.now) };
+    ghost next_gives = { YieldsPlaced T.view T.content (λ s. s.whole.now)
+        (λ s. items_in T.layout s.rest.now) };
 
     ghost remaining = { item_count (λ s. items_in T.layout s.rest.now) };
 

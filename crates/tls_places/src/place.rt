@@ -4,7 +4,7 @@ ghost use Rattle.layouts.specs.Bytes.{Bytes};
 ghost use Rattle.std.specs.Option.{option_map};
 ghost use Rattle.layouts.specs.Meaning.{EndsWith};
 ghost use Rattle.layouts.specs.Place.{bytes_at as bytes_there};
-ghost use Rattle.tls_places.specs.Place.{EndsIn, IsWithin, Lies, MayBeginAt, MayStand, Stands, TellsTheSame};
+ghost use Rattle.tls_places.specs.Place.{EndsIn, IsWithin, Lies, MayBeginAt, MayStand, Stands, FindsTheSame};
 
 use layouts::{Err, Error, Place};
 
@@ -76,14 +76,14 @@ pub(crate) fn held_from(whole: &[u8], offset: usize, part: Option<&[u8]>) -> Opt
 }
 
 /// A place found in the bytes at `outer` of `whole`, as a place in `whole`.
-#[tactic(auto, using(crate::proofs::OutwardLemmas::some_told, crate::proofs::OutwardLemmas::some_within))]
+#[tactic(auto, using(crate::proofs::OutwardLemmas::some_found, crate::proofs::OutwardLemmas::some_within))]
 #[inline(always)]
 pub(crate) fn outward<'a>(
     whole: &[u8],
     outer: Place,
     found: Result<Option<Place>, Err<Error<&'a [u8]>>>,
 ) -> Result<Option<Place>, Err<Error<&'a [u8]>>>
-    ensures tells { TellsTheSame whole.now outer found.entry result }
+    ensures finds { FindsTheSame whole.now outer found.entry result }
     ensures within { Lies whole.now outer → IsWithin (bytes_there whole.now outer) found.entry
         → IsWithin whole.now result }
 {

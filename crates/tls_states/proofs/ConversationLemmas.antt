@@ -169,5 +169,6 @@ module _ (w : Word) (start end : TlsState) (ends : end ≡ run start w)
   pub invalid_where : (end ≡ state.Invalid)
       ↔ (¬ HasHandshake w × ¬ MayBecomeHandshake w × ¬ IsBrokenOff w)
   invalid_where =
-      subst (λ q. (q ≡ state.Invalid) ↔ (¬ HasHandshake w × ¬ MayBecomeHandshake w × ¬ IsBrokenOff w))
+      subst (λ q. (q ≡ state.Invalid)
+      ↔ (¬ HasHandshake w × ¬ MayBecomeHandshake w × ¬ IsBrokenOff w))
       (sym from_none) (invalid_to w, invalid_from w)

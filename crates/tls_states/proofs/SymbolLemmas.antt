@@ -45,7 +45,8 @@ kind_is p = cc
 pub direction_is : {k j : Kind} {d e : Direction} → symbol k d ≡ symbol j e → d ≡ e
 direction_is p = cc
 
-abbrev of_parts : {k j : Kind} {d e : Direction} → Dec (k ≡ j) → Dec (d ≡ e) → Dec (symbol k d ≡ symbol j e)
+abbrev of_parts : {k j : Kind} {d e : Direction} → Dec (k ≡ j) → Dec (d ≡ e)
+    → Dec (symbol k d ≡ symbol j e)
 of_parts (yes p) (yes q) = yes (symbol_is p q)
 of_parts (no p) q = no (λ e. p (kind_is e))
 of_parts p (no q) = no (λ e. q (direction_is e))
@@ -55,9 +56,11 @@ same_symbol (symbol k d) (symbol j e) = of_parts (same_kind k j) (same_direction
 
 abbrev kinds : List Kind
 kinds =
-    HelloRequest ∷ ClientHello ∷ ClientHelloWithId ∷ ServerHello ∷ ServerHelloV13Draft18 ∷ NewSessionTicket ∷
+    HelloRequest ∷ ClientHello ∷ ClientHelloWithId ∷ ServerHello ∷ ServerHelloV13Draft18
+    ∷ NewSessionTicket ∷
     Certificate
-    ∷ ServerKeyExchange ∷ CertificateRequest ∷ ServerDone ∷ CertificateVerify ∷ ClientKeyExchange ∷ CertificateStatus
+    ∷ ServerKeyExchange ∷ CertificateRequest ∷ ServerDone ∷ CertificateVerify ∷ ClientKeyExchange
+    ∷ CertificateStatus
     ∷ ChangeCipherSpec ∷ Warning ∷ Fatal ∷ Other ∷ []
 
 abbrev pub symbols : List Symbol
@@ -73,6 +76,7 @@ pub passes : (f : Symbol → Bool) (l : Symbol) → list_all f symbols ≡ true 
 passes f l t = passes_in same_symbol f symbols l t (listed l)
 
 -- A view of an optional value is present if the value is.
-pub viewed_is_some : {A B : Type 0} (f : A → B) (o : Option A) → is_some (option_map f o) ≡ is_some o
+pub viewed_is_some : {A B : Type 0} (f : A → B) (o : Option A)
+    → is_some (option_map f o) ≡ is_some o
 viewed_is_some f None = refl
 viewed_is_some f (Some x) = refl

@@ -49,8 +49,10 @@ impl ParseContext {
         ensures step { IsUpdate (step self.old (symbol_of msg.now to_server)) self.new result }
         ensures encrypted_kept { self.old ≡ state.SessionEncrypted
             → (self.new ≡ state.SessionEncrypted) × (result ≡ Ok tt) }
-        ensures invalid_kept { self.old ≡ state.Invalid → (self.new ≡ state.Invalid) × (result ≡ Ok tt) }
-        ensures nothing_follows { self.old ≡ state.Finished → (self.new ≡ state.Invalid) × (result ≡ Ok tt) }
+        ensures invalid_kept { self.old ≡ state.Invalid
+            → (self.new ≡ state.Invalid) × (result ≡ Ok tt) }
+        ensures nothing_follows { self.old ≡ state.Finished
+            → (self.new ≡ state.Invalid) × (result ≡ Ok tt) }
     {
         match tls_state_transition(self.state, msg, to_server) {
             Ok(state) => {

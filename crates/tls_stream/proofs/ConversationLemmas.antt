@@ -45,17 +45,17 @@ use Rattle.tls_flow.specs.declared.symbol.Direction.{Direction as Side}
 use Rattle.tls_flow.specs.declared.symbol.Direction.TheVariants.{ToServer, FromServer}
 use Rattle.tls_flow.proofs.FlowLemmas.{told_of_flow}
 use Rattle.tls_stream.specs.Conversations.{
-  Hears,
+  FollowsPieces,
   IsBegun,
   IsBehind,
   IsEventOf,
   IsFedBy,
   IsFollowed,
-  IsHeard,
+  IsPieceFollowed,
   IsOutcomeOf,
   IsTakenBy,
   IsToldIf,
-  Says,
+  Drains,
   ear,
   other,
   tells,
@@ -67,28 +67,28 @@ use Rattle.tls_stream.specs.declared.conversation.Conversation.{Conversation}
 use Rattle.tls_stream.specs.declared.side_reader.SideReader.{SideReader}
 
 -- The flow follows what a side says.
-flow_said : (c d : Conversation) (s : Side) (vs : List Said) → Says c s vs d
+flow_of_events : (c d : Conversation) (s : Side) (vs : List Said) → Drains c s vs d
     → d.flow ≡ run follow c.flow (map (event_of s) vs)
-flow_said c d s [] h = ap (λ (x : Conversation). x.flow) h.1
-flow_said c d s (v ∷ vs) h =
-    flow_said h.0 d s vs h.2 ∙ ap (λ f. run follow f (map (event_of s) vs)) h.1.flow
+flow_of_events c d s [] h = ap (λ (x : Conversation). x.flow) h.1
+flow_of_events c d s (v ∷ vs) h =
+    flow_of_events h.0 d s vs h.2 ∙ ap (λ f. run follow f (map (event_of s) vs)) h.1.flow
 
 pub flow_heard : (c d : Conversation) (ps : List (Side × Bytes)) (es : List FlowEvent)
-    → Hears c ps es d
+    → FollowsPieces c ps es d
     → d.flow ≡ run follow c.flow es
 flow_heard c d [] es h = ap (λ (x : Conversation). x.flow) h.1 ∙ ap (run follow c.flow) (sym h.0)
 flow_heard c d (p ∷ ps) es h =
     flow_heard h.1 d ps h.3 h.7
     ∙ ap (λ f. run follow f h.3)
-    (flow_said h.0 h.1 p.0 h.2 h.6 ∙ ap (λ f. run follow f (map (event_of p.0) h.2)) h.5.flow)
+    (flow_of_events h.0 h.1 p.0 h.2 h.6 ∙ ap (λ f. run follow f (map (event_of p.0) h.2)) h.5.flow)
     ∙ sym (run_on follow c.flow (map (event_of p.0) h.2) h.3)
     ∙ ap (run follow c.flow) (sym h.4)
 
 -- One more piece.
 pub one_more : (c d e : Conversation) (ps : List (Side × Bytes)) (es : List FlowEvent) (s : Side)
     (p : Bytes)
-    → Hears c ps es d → IsHeard d s p e
-    → (fs : List FlowEvent) × Hears c (ps ++ (s, p) ∷ []) fs e
+    → FollowsPieces c ps es d → IsPieceFollowed d s p e
+    → (fs : List FlowEvent) × FollowsPieces c (ps ++ (s, p) ∷ []) fs e
 one_more c d e [] es s p h last = (
   map (event_of s) last.1 ++ [],
   (last.0, e, last.1, [], refl, subst (λ x. IsFedBy x s p last.0) h.1 last.2, last.3, (refl, refl)),
@@ -99,7 +99,7 @@ one_more c d e (q ∷ ps) es s p h last =
 
 pub outcome_is : (c d : Conversation) (limit : ℕ) (ps : List (Side × Bytes)) (es : List FlowEvent)
     → IsBegun limit c
-    → Hears c ps es d
+    → FollowsPieces c ps es d
     → IsOutcomeOf (outcome_at d.flow.state) limit ps
 outcome_is c d limit ps es begun h = (
   es,
@@ -233,7 +233,8 @@ server_silent c m s t n at is off none =
 -- A side's events are taken one by one: what it says after them, it said before them too.
 pub record IsOn (c : Conversation) (s : Side) (m : Conversation) : Type 0 where
   pub ready : IsReady (ear m s)
-  pub on : (vs : List Said) (d : Conversation) → Says m s vs d → (us : List Said) × Says c s us d
+  pub on : (vs : List Said) (d : Conversation) → Drains m s vs d
+      → (us : List Said) × Drains c s us d
 
 pub on_first : (c : Conversation) (s : Side) → IsReady (ear c s) → IsOn c s c
 on_first c s ready = record { ready = ready; on = λ vs d h. (vs, h) }
@@ -254,11 +255,11 @@ on_more c m n s t on took taken ready = go (front_of (ear m s)) taken
 
 pub on_done : (c m n : Conversation) (s : Side) (t : Bool) → IsOn c s m → t ≡ false
     → IsTakenBy (front_of (ear m s)) m s t n
-    → (vs : List Said) × Says c s vs n
+    → (vs : List Said) × Drains c s vs n
 on_done c m n s t on none taken = go (front_of (ear m s)) refl taken
   where
     go : (o : Option Said) → front_of (ear m s) ≡ o → IsTakenBy o m s t n
-        → (vs : List Said) × Says c s vs n
+        → (vs : List Said) × Drains c s vs n
     go None is taken =
         on.on [] n (none_first (says (ear m s) []) (on.ready ∙ is), taken.1)
     go (Some v) is taken = let e : true ≡ false = sym taken.0 ∙ none in absurd cc
@@ -287,16 +288,16 @@ fewer m n s t told took taken = go (front_of (ear m s)) taken
         omega (arith, ap length one, ap length same)
 
 -- Before that, taking an event leaves one fewer, or it chooses TLS 1.3.
-abbrev pub left_untold : Conversation → Side → ℕ
-left_untold c s = cond c.is_tls13 0 (suc (length (says (ear c s) [])))
+abbrev pub left_tls12 : Conversation → Side → ℕ
+left_tls12 c s = cond c.is_tls13 0 (suc (length (says (ear c s) [])))
 
-pub fewer_untold : (m n : Conversation) (s : Side) (t : Bool) → m.is_tls13 ≡ false → t ≡ true
+pub fewer_tls12 : (m n : Conversation) (s : Side) (t : Bool) → m.is_tls13 ≡ false → t ≡ true
     → IsTakenBy (front_of (ear m s)) m s t n
-    → left_untold n s < left_untold m s
-fewer_untold m n s t untold took taken = go (front_of (ear m s)) taken
+    → left_tls12 n s < left_tls12 m s
+fewer_tls12 m n s t untold took taken = go (front_of (ear m s)) taken
   where
     by : (v : Said) (b : Bool) → tells m (event_of s v) ≡ b → IsBehind m s v n
-        → left_untold n s < suc (length (says (ear m s) []))
+        → left_tls12 n s < suc (length (says (ear m s) []))
     by v true at behind =
         let told : n.is_tls13 ≡ true = behind.is_tls13 ∙ ap (λ b. m.is_tls13 || b) at
         ∙ ap (λ b. b || true) untold in
@@ -314,10 +315,10 @@ fewer_untold m n s t untold took taken = go (front_of (ear m s)) taken
         (sym still)
         (omega (arith, ap length one, ap length same))
 
-    go : (o : Option Said) → IsTakenBy o m s t n → left_untold n s < left_untold m s
+    go : (o : Option Said) → IsTakenBy o m s t n → left_tls12 n s < left_tls12 m s
     go None taken = let e : true ≡ false = sym took ∙ taken.0 in absurd cc
     go (Some v) taken =
-        subst (λ b. left_untold n s < cond b 0 (suc (length (says (ear m s) [])))) (sym untold)
+        subst (λ b. left_tls12 n s < cond b 0 (suc (length (says (ear m s) [])))) (sym untold)
         (by v (tells m (event_of s v)) refl taken.1)
 
 still_by : (o : Option Said) (m n : Conversation) (s : Side) (t : Bool) → m.is_tls13 ≡ true
@@ -326,25 +327,26 @@ still_by : (o : Option Said) (m n : Conversation) (s : Side) (t : Bool) → m.is
 still_by None m n s t told taken = ap (λ (x : Conversation). x.is_tls13) taken.1 ∙ told
 still_by (Some v) m n s t told taken = taken.1.is_tls13 ∙ ap (λ b. b || tells m (event_of s v)) told
 
-pub still_told : (m n : Conversation) (s : Side) (t : Bool) → m.is_tls13 ≡ true
+pub still_tls13 : (m n : Conversation) (s : Side) (t : Bool) → m.is_tls13 ≡ true
     → IsTakenBy (front_of (ear m s)) m s t n
     → n.is_tls13 ≡ true
-still_told m n s t told taken = still_by (front_of (ear m s)) m n s t told taken
+still_tls13 m n s t told taken = still_by (front_of (ear m s)) m n s t told taken
 
 -- These pieces arrived from the beginning.
-abbrev pub AreHeard : ℕ → List (Side × Bytes) → Conversation → Type 0
-AreHeard limit ps d = (c : Conversation) × (es : List FlowEvent) × IsBegun limit c × Hears c ps es d
+abbrev pub AreFollowed : ℕ → List (Side × Bytes) → Conversation → Type 0
+AreFollowed limit ps d =
+    (c : Conversation) × (es : List FlowEvent) × IsBegun limit c × FollowsPieces c ps es d
 
-pub none_heard : (limit : ℕ) (c : Conversation) → IsBegun limit c → AreHeard limit [] c
+pub none_heard : (limit : ℕ) (c : Conversation) → IsBegun limit c → AreFollowed limit [] c
 none_heard limit c begun = (c, [], begun, (refl, refl))
 
-pub piece_heard : (limit : ℕ) (pieces : List (Side × Bor (List ℕ))) (i : ℕ)
+pub piece_followed : (limit : ℕ) (pieces : List (Side × Bor (List ℕ))) (i : ℕ)
     (q : Side × Bor (List ℕ))
     (d e : Conversation) → i < length pieces
-    → AreHeard limit (views (take i pieces)) d
-    → IsHeard d (get_or pieces i q).0 (get_or pieces i q).1.now e
-    → AreHeard limit (views (take (i + 1) pieces)) e
-piece_heard limit pieces i q d e within heard last =
+    → AreFollowed limit (views (take i pieces)) d
+    → IsPieceFollowed d (get_or pieces i q).0 (get_or pieces i q).1.now e
+    → AreFollowed limit (views (take (i + 1) pieces)) e
+piece_followed limit pieces i q d e within heard last =
     let k = one_more heard.0 d e (views (take i pieces)) heard.1 (get_or pieces i q).0
     (get_or pieces i q).1.now heard.3
     last in
@@ -354,12 +356,12 @@ piece_heard limit pieces i q d e within heard last =
     = ap (λ k. views (take k pieces)) one ∙ ap views (take-suc pieces i q within)
     ∙ map-append (λ (p : Side × Bor (List ℕ)). (p.0, p.1.now)) (take i pieces)
     (get_or pieces i q ∷ []) in
-    (heard.0, k.0, heard.2, subst (λ ps. Hears heard.0 ps k.0 e) (sym next) k.1)
+    (heard.0, k.0, heard.2, subst (λ ps. FollowsPieces heard.0 ps k.0 e) (sym next) k.1)
 
-pub all_heard : (limit : ℕ) (pieces : List (Side × Bor (List ℕ))) (i : ℕ) (d : Conversation)
+pub all_followed : (limit : ℕ) (pieces : List (Side × Bor (List ℕ))) (i : ℕ) (d : Conversation)
     → length pieces ≤ i
-    → AreHeard limit (views (take i pieces)) d
+    → AreFollowed limit (views (take i pieces)) d
     → IsOutcomeOf (outcome_at d.flow.state) limit (views pieces)
-all_heard limit pieces i d all heard =
+all_followed limit pieces i d all heard =
     subst (λ ps. IsOutcomeOf (outcome_at d.flow.state) limit (views ps)) (take_all i pieces all)
     (outcome_is heard.0 d limit (views (take i pieces)) heard.1 heard.2 heard.3)

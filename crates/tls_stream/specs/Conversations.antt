@@ -63,9 +63,9 @@ pub record IsFedBy (c : Conversation) (s : Side) (p : Bytes) (d : Conversation) 
   pub flow : d.flow ≡ c.flow
 
 -- A side says these, in order, and then nothing for now.
-abbrev pub Says : Conversation → Side → List Said → Conversation → Type 0
-Says c s [] d = (says (ear c s) [] ≡ []) × (d ≡ c)
-Says c s (v ∷ vs) d = (m : Conversation) × IsBehind c s v m × Says m s vs d
+abbrev pub Drains : Conversation → Side → List Said → Conversation → Type 0
+Drains c s [] d = (says (ear c s) [] ≡ []) × (d ≡ c)
+Drains c s (v ∷ vs) d = (m : Conversation) × IsBehind c s v m × Drains m s vs d
 
 -- A side said these, the latest first in the list; d is the conversation after them.
 abbrev pub IsPast : Conversation → Side → List Said → Conversation → Type 0
@@ -73,20 +73,21 @@ IsPast c s [] d = d ≡ c
 IsPast c s (v ∷ vs) d = (m : Conversation) × IsPast c s vs m × IsBehind m s v d
 
 -- A side got another piece, and all its events were taken.
-abbrev pub IsHeard : Conversation → Side → Bytes → Conversation → Type 0
-IsHeard c s p d = (m : Conversation) × (vs : List Said) × IsFedBy c s p m × Says m s vs d
+abbrev pub IsPieceFollowed : Conversation → Side → Bytes → Conversation → Type 0
+IsPieceFollowed c s p d = (m : Conversation) × (vs : List Said) × IsFedBy c s p m × Drains m s vs d
 
 -- The pieces arrive in order, and es are the events that the sides say.
-abbrev pub Hears : Conversation → List (Side × Bytes) → List FlowEvent → Conversation → Type 0
-Hears c [] es d = (es ≡ []) × (d ≡ c)
-Hears c (p ∷ ps) es d =
+abbrev pub FollowsPieces : Conversation → List (Side × Bytes) → List FlowEvent → Conversation
+    → Type 0
+FollowsPieces c [] es d = (es ≡ []) × (d ≡ c)
+FollowsPieces c (p ∷ ps) es d =
     (m n : Conversation) × (vs : List Said) × (fs : List FlowEvent)
     × (es ≡ map (event_of p.0) vs ++ fs)
-    × IsFedBy c p.0 p.1 m × Says m p.0 vs n × Hears n ps fs d
+    × IsFedBy c p.0 p.1 m × Drains m p.0 vs n × FollowsPieces n ps fs d
 
 -- The events of a conversation whose pieces arrive in this order.
 abbrev pub AreEvents : ℕ → List (Side × Bytes) → List FlowEvent → Type 0
-AreEvents limit ps es = (c d : Conversation) × IsBegun limit c × Hears c ps es d
+AreEvents limit ps es = (c d : Conversation) × IsBegun limit c × FollowsPieces c ps es d
 
 abbrev pub views : List (Side × Bor (List ℕ)) → List (Side × Bytes)
 views ps = map (λ p. (p.0, p.1.now)) ps

@@ -1,9 +1,9 @@
 //! Both sides of a TLS conversation, joined.
 ghost use Rattle.std.specs.Prelude.{◌≡◌, List, IfOk, IsErr, OnOk};
 ghost use Rattle.std.specs.Option.{option_map};
-ghost use Rattle.tls_stream.specs.Item.{Event as Saying};
+ghost use Rattle.tls_stream.specs.Item.{Event as EventSpec};
 ghost use Rattle.tls_flow.specs.Table.{outcome_at};
-ghost use Rattle.tls_stream.specs.Conversations.{IsBegun, IsEventOf, IsFedBy, IsFollowed, IsHeard, IsOutcomeOf, IsTakenBy, Says, ear as ear_of, views};
+ghost use Rattle.tls_stream.specs.Conversations.{IsBegun, IsEventOf, IsFedBy, IsFollowed, IsPieceFollowed, IsOutcomeOf, IsTakenBy, Drains, ear as ear_of, views};
 ghost use Rattle.tls_stream.specs.Ears.{IsReady, front_of};
 ghost use Rattle.tls_stream.specs.FlowEvents.{view_said};
 
@@ -135,21 +135,21 @@ impl Conversation {
     /// Removes and follows every event that the side has.
     fn take_all(&mut self, side: Direction)
         requires { IsReady (ear_of self.old side) }
-        ensures { (vs : List Saying) × Says self.old side vs self.new }
+        ensures { (vs : List EventSpec) × Drains self.old side vs self.new }
     {
-        'untold: while !self.is_tls13 {
+        'tls12: while !self.is_tls13 {
             if !self.take_front(side) {
                 return;
             }
         }
-        'told: while self.take_front(side) {}
+        'tls13: while self.take_front(side) {}
     }
 
     /// Appends a piece of that direction, then removes and follows every event that the side has.
     ///
     /// `OutOfMemory` if there is no memory for the piece: then nothing changes.
     pub fn follow_piece(&mut self, side: Direction, piece: &[u8]) -> Result<(), OutOfMemory>
-        ensures heard { OnOk result (IsHeard self.old side piece.now self.new) }
+        ensures followed { OnOk result (IsPieceFollowed self.old side piece.now self.new) }
         ensures memory { IsErr result → self.new ≡ self.old }
     {
         self.feed(side, piece)?;

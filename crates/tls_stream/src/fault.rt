@@ -20,7 +20,7 @@ impl fmt::Display for Fault {
         match self {
             Fault::Refused(_) => write!(f, "a record is refused"),
             Fault::TooLarge => write!(f, "the length of a handshake message is above the limit"),
-            Fault::Interrupted => write!(f, "another record stands between two parts of a message"),
+            Fault::Interrupted => write!(f, "another record interrupts the message"),
         }
     }
 }

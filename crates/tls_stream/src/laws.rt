@@ -43,14 +43,16 @@ pub fn no_frame_is_left()
 pub fn frames_with_further_bytes()
     ensures more { (f : Shape) (b s : Bytes) → 0 < f.header
         → frames f (b ++ s) ≡ frames f b ++ frames f (left f b ++ s) }
-    ensures rest { (f : Shape) (b s : Bytes) → 0 < f.header → left f (b ++ s) ≡ left f (left f b ++ s) }
+    ensures rest { (f : Shape) (b s : Bytes) → 0 < f.header
+        → left f (b ++ s) ≡ left f (left f b ++ s) }
 {}
 
 /// Bytes start with a frame exactly if it is whole and its length isn't too large. More bytes don't
 /// change that, nor a length that is too large.
 #[tactic(auto, using(crate::proofs::FrontLemmas::some_front, crate::proofs::FrontLemmas::front_stays, crate::proofs::FrontLemmas::large_longer))]
 pub fn what_stands_in_front()
-    ensures there { (f : Shape) (b : Bytes) → IsSome (front f b) ↔ (IsWhole f b × (IsTooLarge f b → ⊥)) }
+    ensures there { (f : Shape) (b : Bytes) → IsSome (front f b)
+        ↔ (IsWhole f b × (IsTooLarge f b → ⊥)) }
     ensures stays { (f : Shape) (b s y r : Bytes) → front f b ≡ Some (y, r)
         → front f (b ++ s) ≡ Some (y, r ++ s) }
     ensures too_large { (f : Shape) (b s : Bytes) → IsTooLarge f b → IsTooLarge f (b ++ s) }
@@ -108,7 +110,8 @@ pub fn pieces_count_as_they_are_joined()
 /// are the same. Two streams of such records have the same events too.
 #[tactic(auto, using(crate::proofs::EventLemmas::same_joined, crate::proofs::DirectionLemmas::same_streams))]
 pub fn fragments_count_as_they_are_joined()
-    ensures items { (limit kind : ℕ) (part : Bytes) (is js : List Item) → joined_items is ≡ joined_items js
+    ensures items { (limit kind : ℕ) (part : Bytes) (is js : List Item)
+        → joined_items is ≡ joined_items js
         → events_of limit kind part is ≡ events_of limit kind part js }
     ensures streams { (d : EventReader) (x y : Bytes)
         → joined_items (items_with d x) ≡ joined_items (items_with d y)

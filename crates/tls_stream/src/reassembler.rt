@@ -157,7 +157,8 @@ impl<F: Frame, const LIMIT: usize> Frames<F, LIMIT> {
     /// - `OutOfMemory` if there is no memory for the piece. The buffered bytes stay.
     #[tactic(auto, using(crate::proofs::FrameLemmas::more_fed))]
     pub fn feed(&mut self, piece: &[u8]) -> Result<(), FeedError>
-        ensures too_large { (result ≡ Err feed_error.TooLarge) ↔ IsTooLarge (up_to F.kind LIMIT) self.old }
+        ensures too_large { (result ≡ Err feed_error.TooLarge)
+            ↔ IsTooLarge (up_to F.kind LIMIT) self.old }
         ensures held { self.new ≡ (if is_ok result then self.old ++ piece.now else self.old) }
         ensures frames { let f = up_to F.kind LIMIT in
             OnOk result (frames f self.new ≡ frames f self.old ++ frames f
@@ -184,7 +185,8 @@ impl Reassembler {
         ensures only_one { AllowsOne raw_record self.now }
         ensures too_large { IsRefusedAsTooLarge result ↔ framing.IsTooLarge 5 self.now }
         ensures incomplete { IsIncomplete result ↔ framing.NeedsMore 5 self.now }
-        ensures whole { IsOk result ↔ (framing.IsWhole 5 self.now × (framing.IsTooLarge 5 self.now → ⊥)) }
+        ensures whole { IsOk result
+            ↔ (framing.IsWhole 5 self.now × (framing.IsTooLarge 5 self.now → ⊥)) }
     {
         parse_tls_raw_record(self.held())
     }

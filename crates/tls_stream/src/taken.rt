@@ -64,7 +64,8 @@ pub fn take_messages(
     taken: &mut Vec<Vec<u8>>,
 ) -> Result<bool, OutOfMemory>
     ensures { IfOk result
-        (AreTaken (elements taken.old.items) direction.old (elements taken.new.items) direction.new) }
+        (AreTaken (elements taken.old.items) direction.old
+        (elements taken.new.items) direction.new) }
 {
     'events: loop {
         match direction.ready() {

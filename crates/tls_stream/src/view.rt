@@ -160,7 +160,8 @@ impl<'a> StreamView<'a> {
     fn next_record(&self) -> Next
         requires none { None ≡ frame_of
             (front (messages_of self.now.limit self.now.kind) self.now.held.part) }
-        requires small { IsTooLarge (messages_of self.now.limit self.now.kind) self.now.held.part → ⊥ }
+        requires small { IsTooLarge (messages_of self.now.limit self.now.kind) self.now.held.part
+            → ⊥ }
         ensures { IsNext self.now result }
     {
         let is_closed = self.is_closed();

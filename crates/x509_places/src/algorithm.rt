@@ -147,7 +147,8 @@ pub(crate) fn key_at<'a>(
     i: &'a [u8],
 ) -> IResult<&'a [u8], (SubjectPublicKeyInfo<'a>, KeyPlaces)>
     ensures gives { Gives (λ x. view_key_info x.0) subject_public_key_info i.now result }
-    ensures places { IsBefore whole.now behind i.now → IfOk result (λ x. KeyStands whole.now x.1.0 x.1.1) }
+    ensures places { IsBefore whole.now behind i.now
+        → IfOk result (λ x. KeyStands whole.now x.1.0 x.1.1) }
 {
     tagged_at::<KeyContentAt>(whole, behind, i, tag::SEQUENCE)
 }

@@ -74,7 +74,8 @@ pub fn extension_with_places<'a>(
     i: &'a [u8],
 ) -> IResult<&'a [u8], (Extension<'a>, ExtensionPlaces)>
     ensures gives { Gives (λ x. view_extension x.0) extension i.now result }
-    ensures places { EndsWith whole.now i.now → IfOk result (λ x. ExtensionStands whole.now x.1.0 x.1.1) }
+    ensures places { EndsWith whole.now i.now
+        → IfOk result (λ x. ExtensionStands whole.now x.1.0 x.1.1) }
 {
     tagged_at::<ExtensionContentAt>(whole, 0, i, tag::SEQUENCE)
 }

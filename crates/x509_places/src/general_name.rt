@@ -56,7 +56,8 @@ pub fn general_name_with_place<'a>(
 pub fn general_names_with_place<'a>(
     whole: &'a [u8],
 ) -> IResult<&'a [u8], (Items<'a, GeneralNames>, Place)>
-    ensures gives { Gives (λ x. items_in general_name x.0.bytes.now) general_names whole.now result }
+    ensures gives { Gives
+        (λ x. items_in general_name x.0.bytes.now) general_names whole.now result }
     ensures places { IfOk result (λ x. Stands whole.now x.1.1 x.1.0.bytes.now) }
 {
     tagged_at::<ItemsAt<GeneralNames>>(whole, 0, whole, tag::SEQUENCE)

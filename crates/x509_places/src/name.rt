@@ -17,7 +17,8 @@ pub(crate) fn name_at<'a>(
     behind: usize,
     i: &'a [u8],
 ) -> IResult<&'a [u8], (Name<'a>, Place)>
-    ensures gives { Gives (λ x. items_in relative_distinguished_name x.0.bytes.now) name i.now result }
+    ensures gives { Gives
+        (λ x. items_in relative_distinguished_name x.0.bytes.now) name i.now result }
     ensures places { IsBefore whole.now behind i.now
         → IfOk result
         (λ x. NameStands whole.now x.1.1 (items_in relative_distinguished_name x.1.0.bytes.now)) }

@@ -30,7 +30,8 @@ pub(crate) trait Part<'a> {
     /// follow `i`.
     fn read_at(whole: &[u8], behind: usize, i: &'a [u8]) -> IResult<&'a [u8], Self::Read>
         ensures gives { Gives view layout i.now result }
-        ensures places { IsBefore whole.now behind i.now → IfOk result (λ x. stands whole.now x.1) };
+        ensures places { IsBefore whole.now behind i.now
+            → IfOk result (λ x. stands whole.now x.1) };
 }
 
 /// Parses `T`, which must consume all bytes.

@@ -3,7 +3,7 @@ use Rattle.layouts.specs.Items.{items_in}
 use Rattle.tls_ext.specs.Content as content
 use Rattle.tls_ext.specs.Extension.{view_server_name}
 use Rattle.tls_places.specs.Place.{Stands}
-use Rattle.tls_places.proofs.FindLemmas.{stands_same, name_told}
+use Rattle.tls_places.proofs.FindLemmas.{stands_same, name_found}
 use Rattle.tls_places.proofs.find.first_name_place.Goals as goal
 
 name_stands : (c : goal.After-place_within)
@@ -15,10 +15,10 @@ name_stands c =
     c.in-Some.inner
     (c.new-walk.ensures.whole ∙ c.bytes.ensures) c.in-Some.ensures.steps.stands)
 
-pub returns-in-Some-clause-tells : goal.returns-in-Some-clause-tells
-returns-in-Some-clause-tells c = record {
+pub returns-in-Some-clause-finds : goal.returns-in-Some-clause-finds
+returns-in-Some-clause-finds c = record {
   answers = tt;
-  is = name_told c.args.i.now c.in_ok-names.names.bytes.now c.in_ok-names.field-0-0.now
+  is = name_found c.args.i.now c.in_ok-names.names.bytes.now c.in_ok-names.field-0-0.now
       (view_server_name c.in-Some.field-0-0)
       (items_in content.server_name c.next.new.self.rest.now) c.place_within.result
       c.in_ok-names.ensures.gives.read

@@ -7,7 +7,7 @@ use Rattle.tls_ext.specs.Content as content
 use Rattle.tls_ext.specs.InPlace.{in_content, names_of_protocols, picked}
 use Rattle.tls_places.specs.Place.{Stands}
 use Rattle.tls_places.proofs.PlaceLemmas.{lies_stands}
-use Rattle.tls_places.proofs.FindLemmas.{lies_there, stands_same, told_there}
+use Rattle.tls_places.proofs.FindLemmas.{lies_there, stands_same, found_there}
 use Rattle.tls_places.proofs.find.protocol_names_place.Goals as goal
 
 list_stands : (c : goal.After-place_within)
@@ -23,13 +23,13 @@ list_stands c =
     c.in_ok-inner.inner
     c.bytes_at.ensures c.in_ok-inner.ensures.stands)
 
-pub returns-clause-tells : goal.returns-clause-tells
-returns-clause-tells c = record {
+pub returns-clause-finds : goal.returns-clause-finds
+returns-clause-finds c = record {
   answers = tt;
   is = ap (λ y. Ok (Some (items_in (counted 1) y))) (list_stands c).is
       ∙ sym (ap (in_content content.application_layer_protocol_negotiation names_of_protocols)
-      (sym (told_there c.args.block.now c.in-Some.outer c.in_ok-outer.field-0 _ c.in-Some.is
-      c.in_ok-outer.ensures.tells))
+      (sym (found_there c.args.block.now c.in-Some.outer c.in_ok-outer.field-0 _ c.in-Some.is
+      c.in_ok-outer.ensures.finds))
       ∙ ap (λ x. picked names_of_protocols
       (reading content.application_layer_protocol_negotiation x))
       (sym c.bytes_at.ensures)

@@ -1,9 +1,9 @@
 -- the pieces so far were followed
 use Rattle.std.proofs.Common.{List, take}
 use Rattle.tls_flow.specs.declared.event.FlowEvent.{FlowEvent}
-use Rattle.tls_stream.specs.Conversations.{Hears, IsBegun, views}
-use Rattle.tls_stream.proofs.ConversationLemmas.{AreHeard}
+use Rattle.tls_stream.specs.Conversations.{FollowsPieces, IsBegun, views}
+use Rattle.tls_stream.proofs.ConversationLemmas.{AreFollowed}
 use Rattle.tls_stream.proofs.conversation.outcome_of.Given as goal
 
 abbrev pub invariant-loop-side : goal.invariant-loop-side
-invariant-loop-side l = AreHeard l.limit (views (take l.side-index l.pieces)) l.conversation
+invariant-loop-side l = AreFollowed l.limit (views (take l.side-index l.pieces)) l.conversation

@@ -1,6 +1,6 @@
 use Rattle.tls_flow.proofs.AwaitLemmas.{awaited_of_flow}
 use Rattle.tls_flow.proofs.flow.Flow.awaited.Goals as goal
 
-pub returns-clause-told : goal.returns-clause-told
-returns-clause-told c = λ events comes l.
+pub returns-clause-by_grammar : goal.returns-clause-by_grammar
+returns-clause-by_grammar c = λ events comes l.
     awaited_of_flow c.awaited.result.now c.args.self.now events c.awaited.ensures comes l

@@ -1,18 +1,18 @@
--- what the side says now, it said after what was taken
+-- the side's events so far were taken
 use Rattle.std.proofs.Common.{◌≡◌, [], length, true}
 use Rattle.tls_stream.specs.Conversations.{ear}
 use Rattle.tls_stream.specs.Ears.{says}
-use Rattle.tls_stream.proofs.ConversationLemmas.{IsOn, left_untold}
+use Rattle.tls_stream.proofs.ConversationLemmas.{IsOn, left_tls12}
 use Rattle.tls_stream.proofs.conversation.Conversation.take_all.Given as goal
 
-abbrev pub invariant-untold : goal.invariant-untold
-invariant-untold l = IsOn l.fn.self l.side l.self
+abbrev pub invariant-tls12 : goal.invariant-tls12
+invariant-tls12 l = IsOn l.fn.self l.side l.self
 
-abbrev pub decreases-untold : goal.decreases-untold
-decreases-untold l = left_untold l.self l.side
+abbrev pub decreases-tls12 : goal.decreases-tls12
+decreases-tls12 l = left_tls12 l.self l.side
 
-abbrev pub invariant-told : goal.invariant-told
-invariant-told l = IsOn l.fn.self l.side l.self × (l.self.is_tls13 ≡ true)
+abbrev pub invariant-tls13 : goal.invariant-tls13
+invariant-tls13 l = IsOn l.fn.self l.side l.self × (l.self.is_tls13 ≡ true)
 
-abbrev pub decreases-told : goal.decreases-told
-decreases-told l = length (says (ear l.self l.side) [])
+abbrev pub decreases-tls13 : goal.decreases-tls13
+decreases-tls13 l = length (says (ear l.self l.side) [])
