@@ -14,7 +14,6 @@ import subprocess
 from collections import Counter
 from collections.abc import Callable, Iterable
 from dataclasses import replace
-from datetime import datetime
 from pathlib import Path
 from typing import Any
 
@@ -331,43 +330,13 @@ def wanted_of_uses(lines: list[Line]) -> dict[str, list[str] | None]:
     servers = Counter(chain[:2] for chain in chains)
     said = [line.split() for line in (TOP / "captures" / "messages").read_text().splitlines()]
     return {
-        "still speaks": counted(
-            line["id.orig_h"] for line in lines if line.get("version") in ("TLSv10", "TLSv11")
-        ),
         "hosts": counted(line["server_name"] for line in lines if "server_name" in line),
-        "have expired": sorted(
-            {
-                f"{line['not_after']}\t{line['id.resp_h']}\t{line['serial']}"
-                for line in lines
-                if "not_after" in line
-                and datetime.fromisoformat(line["not_after"].replace("Z", "+00:00")).timestamp()
-                < line["ts"] + 60 * 86400
-            }
-        ),
         "changed their certificate": sorted(
             "\t".join(server) for server, count in servers.items() if count > 1
-        ),
-        "broken off": sorted(
-            plain(
-                [
-                    line.get("server_name"),
-                    line.get("last_alert"),
-                    line.get("stop", {}).get("sender"),
-                ]
-            )
-            for line in lines
-            if line["outcome"] == "broken_off"
         ),
         "cipher suites": counted(line["cipher"] for line in lines if "cipher" in line),
         "client programs": counted(only(line, "ja4", "ja3") for line in lines),
         "resumed": counted(only(line, "version", "resumed") for line in lines),
-        "would still accept": sorted(
-            {
-                line["id.orig_h"]
-                for line in lines
-                if "TLSv10" in line.get("client_supported_versions", [line.get("client_version")])
-            }
-        ),
         "asked for a certificate": sorted(
             plain([line["id.orig_h"], line["id.resp_h"], line.get("client_cert_count")])
             for line in lines
