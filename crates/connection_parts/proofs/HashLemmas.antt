@@ -1,4 +1,4 @@
--- A hash of bytes is one of the first, extended by those behind.
+-- A hash of bytes is that of the first ones, extended by the rest.
 use Rattle.std.proofs.Common.{ℕ, ◌+◌, ◌*◌, ◌/◌, ◌%◌, ◌^◌, ◌≡◌, ◌++◌, refl, ap, add_comm, [], ◌∷◌}
 use Rattle.std.specs.Prelude.{bit_xor, ◌==◌}
 use Rattle.layouts.specs.Bytes.{Bytes}

@@ -67,7 +67,7 @@ differing_over k ys cs low more =
     let behind = ap (λ m. differing m (drop n ys) cs) at in
     omega (arith, split, front, behind)
 
--- The bytes of a stream from offset 0 on, compared behind the contiguous front.
+-- The bytes of a stream from offset 0 on, compared after the contiguous front.
 pub differing_behind : (h : Held) (s : ℕ) (b : Bytes) → h.first ≡ 0 → h.taken ≡ 0
     → length (run h.cells) ≤ s → s < 2 ^ 31
     → differing_in s b h ≡ differing s b h.cells

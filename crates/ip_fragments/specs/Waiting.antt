@@ -32,7 +32,7 @@ begun time = record {
   since = time;
 }
 
--- The offset behind a fragment's last byte, and its byte at an offset.
+-- The offset after a fragment's last byte, and its byte at an offset.
 abbrev pub end_of : IpFragment → ℕ
 end_of f = f.offset + length f.payload.now
 

@@ -15,7 +15,7 @@ pub trait Opener {
     /// What a capture is read from.
     type Opened: Read + Source + Drop;
 
-    /// The name of the capture with that number, counted from 0; `None` behind the last.
+    /// The name of the capture with that number, counted from 0; `None` after the last.
     fn name(&self, number: usize) -> Option<&str>;
 
     /// Opens the capture with that number.

@@ -155,7 +155,7 @@ impl From<VisitError<LineError>> for Failure {
     }
 }
 
-/// Prints why a run ended early, after so many packets, and returns how it exits. Prints nothing
+/// Prints why a run ended early, after this many packets, and returns how it exits. Prints nothing
 /// if the output was closed.
 pub fn report<R: Runtime>(rt: &R, name: &str, failure: Failure, packets: u64) -> Exit
     ensures { ExitsBy failure result }
@@ -168,11 +168,11 @@ pub fn report<R: Runtime>(rt: &R, name: &str, failure: Failure, packets: u64) ->
             (Exit::Failed, name)
         }
     };
-    let told = match packets {
+    let written = match packets {
         0 => eprintln!(rt; "{name}: {failure}"),
         _ => eprintln!(rt; "{name}: {failure}, after {packets} packets"),
     };
-    match told {
+    match written {
         Ok(()) => exit,
         Err(_) => Exit::Failed,
     }

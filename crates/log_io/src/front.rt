@@ -35,7 +35,7 @@ pub enum CaptureFault {
     Empty,
     /// It ends in its header.
     CutHeader,
-    /// It begins with these bytes, of which so many are known, as neither pcap nor pcapng does.
+    /// It begins with these bytes (only this many are known), as neither pcap nor pcapng does.
     OtherForm([u8; KEPT], usize),
     /// It is a pcap file of another version than 2.
     OtherVersion,

@@ -83,7 +83,7 @@ abbrev Valid : Numbering → Type 0
 Valid t = (f : Numbered) → Contains t.held f → Given f t
 
 module _ (n : Network) (t : Numbering) where
-  -- The packet's number and the table behind it, by whether the network is remembered.
+  -- The packet's number and the table after it, by whether the network is remembered.
   abbrev given : Option ℕ → ℕ
   given o = unwrap_or o (t.last + 1)
 

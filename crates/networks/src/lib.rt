@@ -1,5 +1,5 @@
-//! Numbers the networks of a capture's packets, so that connections with the same addresses in
-//! several networks are told apart.
+//! Numbers the networks of a capture's packets, to distinguish connections with the same addresses
+//! in several networks.
 //!
 //! A [`Network`] is a packet's VLANs and tunnels. [`Networks`] gives each a number that no other
 //! network ever gets. It remembers at most [`MAX_NETWORKS`]; a network that was forgotten gets

@@ -1,4 +1,4 @@
--- When a hello parses, and what its first bytes say about that.
+-- When a hello parses, and what its first bytes decide.
 use Rattle.std.proofs.Common.{◌≡◌, ◌↔◌, ℕ, ◌+◌, ◌-◌, ◌<◌, ◌≤◌, ◌++◌, List, length, take, drop, Ok, Err, Bool, true, false}
 use Rattle.std.proofs.Common.{cond, ltb, refl, sym, ◌∙◌, ap, subst, arith}
 use Rattle.std.specs.Prelude.{IsTrue, IsOk, IsOkAnd, is_ok}

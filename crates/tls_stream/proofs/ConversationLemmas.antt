@@ -66,7 +66,7 @@ use Rattle.tls_stream.specs.FlowEvents.{chooses_tls13, event_of}
 use Rattle.tls_stream.specs.declared.conversation.Conversation.{Conversation}
 use Rattle.tls_stream.specs.declared.side_reader.SideReader.{SideReader}
 
--- The flow follows what a side says.
+-- The flow follows a side's events.
 flow_of_events : (c d : Conversation) (s : Side) (vs : List Said) → Drains c s vs d
     → d.flow ≡ run follow c.flow (map (event_of s) vs)
 flow_of_events c d s [] h = ap (λ (x : Conversation). x.flow) h.1
@@ -230,7 +230,7 @@ server_silent c m s t n at is off none =
     by None off = (refl, is ∙ ap (λ x. record c { server = x }) off.1)
     by (Some v) off = let bad : true ≡ false = sym off.0 ∙ none in absurd cc
 
--- A side's events are taken one by one: what it says after them, it said before them too.
+-- A side's events are taken one by one: those after the first ones were there before them too.
 pub record IsOn (c : Conversation) (s : Side) (m : Conversation) : Type 0 where
   pub ready : IsReady (ear m s)
   pub on : (vs : List Said) (d : Conversation) → Drains m s vs d

@@ -38,8 +38,8 @@ abbrev pub IsToldIf : Bool → SideReader → SideReader → Type 0
 IsToldIf true e f = SaysAs (told e) f
 IsToldIf false e f = SaysAs e f
 
--- Side s says v first, and d is the conversation after it: v was followed, and if it is the first
--- event that chooses TLS 1.3, both sides were switched.
+-- v is the next event of side s, and d is the conversation after it: v was followed, and if it is
+-- the first event that chooses TLS 1.3, both sides were switched.
 pub record IsBehind (c : Conversation) (s : Side) (v : Said) (d : Conversation) : Type 0 where
   pub side : (e : SideReader) × IsFirst (ear c s) v e
       × IsToldIf (tells c (event_of s v)) e (ear d s)
@@ -62,12 +62,12 @@ pub record IsFedBy (c : Conversation) (s : Side) (p : Bytes) (d : Conversation) 
   pub is_tls13 : d.is_tls13 ≡ c.is_tls13
   pub flow : d.flow ≡ c.flow
 
--- A side says these, in order, and then nothing for now.
+-- vs are all events that the side has now, in order, and d is the conversation after them.
 abbrev pub Drains : Conversation → Side → List Said → Conversation → Type 0
 Drains c s [] d = (says (ear c s) [] ≡ []) × (d ≡ c)
 Drains c s (v ∷ vs) d = (m : Conversation) × IsBehind c s v m × Drains m s vs d
 
--- A side said these, the latest first in the list; d is the conversation after them.
+-- vs were the side's events, the latest first; d is the conversation after them.
 abbrev pub IsPast : Conversation → Side → List Said → Conversation → Type 0
 IsPast c s [] d = d ≡ c
 IsPast c s (v ∷ vs) d = (m : Conversation) × IsPast c s vs m × IsBehind m s v d
@@ -76,7 +76,7 @@ IsPast c s (v ∷ vs) d = (m : Conversation) × IsPast c s vs m × IsBehind m s 
 abbrev pub IsPieceFollowed : Conversation → Side → Bytes → Conversation → Type 0
 IsPieceFollowed c s p d = (m : Conversation) × (vs : List Said) × IsFedBy c s p m × Drains m s vs d
 
--- The pieces arrive in order, and es are the events that the sides say.
+-- The pieces arrive in order, and es are the events of both sides.
 abbrev pub FollowsPieces : Conversation → List (Side × Bytes) → List FlowEvent → Conversation
     → Type 0
 FollowsPieces c [] es d = (es ≡ []) × (d ≡ c)

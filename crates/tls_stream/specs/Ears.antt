@@ -1,4 +1,4 @@
--- What one side of a conversation still says.
+-- The further events of one side of a conversation.
 use Rattle.std.specs.Prelude.{◌≡◌, Bool, true, false, Option, Some, None, option_map, ℕ, List, [], ◌∷◌, ◌++◌}
 use Rattle.layouts.specs.Bytes.{Bytes}
 use Rattle.tls_stream.specs.Item.{Event as Said, Failed}
@@ -8,7 +8,7 @@ use Rattle.tls_stream.specs.declared.side_reader.SideReader.{SideReader}
 use Rattle.tls_stream.specs.declared.side_reader.Standing.{Standing}
 use Rattle.tls_stream.specs.declared.side_reader.Standing.TheVariants.{Speaks, AtFault, Over}
 
--- All that a side says from here on, if these bytes follow.
+-- All further events of a side, if these bytes follow.
 abbrev pub says_by : Standing → EventReader → Bytes → List Said
 says_by Speaks d t = events (fed d t)
 says_by (AtFault f) d t = Failed f ∷ []
@@ -17,11 +17,11 @@ says_by Over d t = []
 abbrev pub says : SideReader → Bytes → List Said
 says e t = says_by e.standing e.direction t
 
--- Both say the same, whatever follows.
+-- Both sides have the same events, whatever follows.
 abbrev pub SaysAs : SideReader → SideReader → Type 0
 SaysAs e f = (t : Bytes) → says e t ≡ says f t
 
--- e says v first and then what f says, whatever follows.
+-- The events of e are v and then those of f, whatever follows.
 abbrev pub IsFirst : SideReader → Said → SideReader → Type 0
 IsFirst e v f = (t : Bytes) → says e t ≡ v ∷ says f t
 
@@ -50,7 +50,7 @@ abbrev pub first_in : List Said → Option Said
 first_in [] = None
 first_in (v ∷ vs) = Some v
 
--- The side is ready: its next event is the first that it says.
+-- The side is ready: its next event is the first of its events.
 abbrev pub IsReady : SideReader → Type 0
 IsReady e = first_in (says e []) ≡ front_of e
 

@@ -55,7 +55,7 @@ body_length f b = f.body_in (take f.header b)
 abbrev pub size : Shape → Bytes → ℕ
 size f b = f.header + body_length f b
 
--- The first frame is whole: its header, and as many bytes as that says.
+-- The first frame is whole: its header, and as many bytes as its length field gives.
 abbrev pub IsWhole : Shape → Bytes → Type 0
 IsWhole f b = size f b ≤ length b
 

@@ -35,7 +35,7 @@ pub fn stream_message<'a>(said: &SideEvent<'a>) -> Option<HandshakeMessage<'a>>
     }
 }
 
-/// The flow event of what a side says, where the caller gives the `kind` of a handshake message, so
+/// The flow event of a side's event, for a caller that has the `kind` of a handshake message, so
 /// that it is parsed only once.
 pub fn stream_event_with(said: &SideEvent<'_>, kind: Kind, side: Direction) -> FlowEvent
     ensures { result ≡ event_with side (view_said said.now) kind }
@@ -47,7 +47,7 @@ pub fn stream_event_with(said: &SideEvent<'_>, kind: Kind, side: Direction) -> F
     }
 }
 
-/// The flow event of what a side says.
+/// The flow event of a side's event.
 pub(crate) fn stream_event(said: &SideEvent<'_>, side: Direction) -> FlowEvent
     ensures { result ≡ event_of side (view_said said.now) }
 {

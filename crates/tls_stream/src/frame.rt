@@ -5,7 +5,7 @@ ghost use Rattle.std.proofs.Common.{lit<};
 ghost use Rattle.tls_stream.specs.Frames.{IsTooLarge, Kind, frame_of, front, up_to};
 ghost use Rattle.tls_stream.specs.Records.{messages, records};
 
-/// A kind of frame: a header, and as many bytes as its length field says.
+/// A kind of frame: a header, and as many bytes as its length field gives.
 pub trait Frame {
     /// The layout of the header.
     ghost kind: { Kind };

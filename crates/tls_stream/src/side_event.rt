@@ -1,8 +1,8 @@
-//! What a side of a conversation says next.
+//! The next event of one side of a conversation.
 use crate::event::Event;
 use crate::fault::Fault;
 
-/// What a side of a conversation says next.
+/// The next event of one side of a conversation.
 #[derive(Clone, Debug, PartialEq, Drop)]
 pub enum SideEvent<'a> {
     /// A handshake message, or a record that has none.

@@ -29,7 +29,7 @@ pub(crate) struct SideReader {
 }
 
 impl SideReader {
-    /// A side of which nothing was read. It doesn't allocate.
+    /// A side without any bytes read. It doesn't allocate.
     pub(crate) fn new(alloc: Global, limit: usize) -> SideReader
         ensures { IsSilent limit result }
     {
