@@ -60,8 +60,8 @@ def lengths(name: str, frame: bytes) -> list[tuple[int, range]]:
 
 
 def is_open(frame: bytes) -> bool:
-    """Whether the outer header of IPv4 has the length 0, of which all captured bytes are read: so
-    look segments that a network card is to cut."""
+    """Whether the outer IPv4 header has the length 0, as in segments that a network card will cut.
+    All captured bytes of such a datagram are read."""
     return (
         frame[LINK_HEADER - 2 : LINK_HEADER] == ETHER[4]
         and frame[LINK_HEADER + 2 : LINK_HEADER + 4] == b"\0\0"

@@ -1,8 +1,8 @@
 #!/usr/bin/env -S python3 -B
 """Lines of logs for the tests of the report: stored, made and hostile ones.
 
-tests/report/report_lines.py COUNT           prints COUNT made lines: three days of no real network
-tests/report/report_lines.py COUNT distinct  the same, with another name, address and certificate in
+tests/report/report_lines.py COUNT           prints COUNT made lines: three days of a fictional network
+tests/report/report_lines.py COUNT distinct  with another name, address and certificate in
 each second line
 """
 
@@ -78,7 +78,7 @@ def _time(chance: random.Random) -> float:
 
 
 def _certificate(name: str, number: int) -> Line:
-    """What a server sends: 90 days, of which some end soon. Some are self-signed, and some have
+    """A server's certificate, for 90 days. Some expire soon, some are self-signed, and some have
     another name."""
     left = 5 + number * 37 % 85 if number % 29 else -3
     print_of = f"{random.Random(name).getrandbits(256):064x}"

@@ -83,8 +83,8 @@ def cut(
 def changed(
     frame: bytes, identification: int, made: list[bytes], size: int
 ) -> tuple[list[bytes], int]:
-    """The same fragments, and after the first of each two a copy of which every second byte is
-    another; and how many that are."""
+    """The same fragments, and after every other one a copy in which every second byte differs; and
+    the number of these bytes."""
     _, _, _, payload = parts_of(frame)
     count, out = 0, []
     for number, piece in enumerate(made):
@@ -185,8 +185,7 @@ def captures(
 
 
 def bad(segments: list[Segment]) -> Iterator[tuple[str, bytes, dict[str, int]]]:
-    """Captures of which no datagram is whole: the name, the capture, and what is counted, by how
-    many."""
+    """Captures without a complete datagram: the name, the capture, and the expected counts."""
     s = max(segments, key=lambda s: len(s.payload))
     frame = s.frame()
     size = size_for(frame)

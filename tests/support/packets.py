@@ -470,8 +470,8 @@ InNetwork = tuple[Put, tuple[list[str], list[int]]]
 
 
 def networks() -> Iterator[tuple[str, InNetwork, InNetwork]]:
-    """Pairs of networks, by name: each puts a frame of Ethernet into its own, where the addresses
-    are the same, and has the names and the numbers of its tunnels."""
+    """Pairs of networks, by name: each puts an Ethernet frame into its network, where the
+    addresses are the same, and has the names and numbers of its tunnels."""
 
     def tagged(*vlans: int) -> Put:
         """In VLANs, from outside in. A tag's priority (IEEE 802.1Q, section 9.6) is another from

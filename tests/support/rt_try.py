@@ -17,8 +17,8 @@ MORE = "tls_parser tls_flow"
 
 
 def tree(room: Path, name: str, keeps: bool = False) -> Path:
-    """Copies the crates into the folder, with the program's sources in place of tlsview's, of which
-    those that it doesn't have stay where it keeps them."""
+    """Copies the crates into the folder, with the program's sources in place of tlsview's. With
+    `keeps`, sources of tlsview that the program lacks stay."""
     crates = room / "crates"
     crates.mkdir()
     (room / "HANDLES").write_bytes((TOP / "HANDLES").read_bytes())

@@ -51,8 +51,8 @@ def judge_cut(capture: Stored, place: int, ended: int, lines: list[Line]) -> Non
 
 
 def dropped(program: Program, captures: list[Stored]) -> None:
-    """Reads each capture without some packets. It must have lines of its own connections alone, and
-    a gap on each side that lacks bytes before others. Without bare acknowledgements it must
+    """Reads each capture without some packets. It must only have lines of its
+    connections, and a gap on each side that lacks bytes before others. Without bare acknowledgements it must
     have the stored lines, except for counts of packets and times."""
     chance, counts = random.Random(SEED), []
     for choose in (missing_packets.choices, missing_packets.acknowledgements):

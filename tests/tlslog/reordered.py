@@ -71,7 +71,7 @@ def is_plain(datagram: packets.Segment) -> bool:
 
 
 def flights(datagrams: list[packets.Segment], is_whole: bool) -> list[list[packets.Segment]]:
-    """Runs of datagrams of one side: whole flights, or the parts of them that are plain."""
+    """Runs of datagrams of one side: whole flights, or their unencrypted parts."""
     found = []
     for datagram in datagrams:
         last = found[-1][-1] if found else None

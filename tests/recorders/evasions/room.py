@@ -120,7 +120,7 @@ class Reasons:
 
 
 class Room:
-    """One capture: the wire, the programs of the host, what was sent, and what is said of it."""
+    """One capture: the wire, the programs of the host, what was sent, and its description."""
 
     def __init__(self, work: Path, reasons: Reasons, number: int, offloads: bool = False) -> None:
         self.work, self.reasons, self.number = work, reasons, number

@@ -1,5 +1,5 @@
-"""A wire between this program and the kernel of this machine: an Ethernet device (TAP) of which the
-kernel has one end and we the other.
+"""A wire between this program and the kernel of this machine: an Ethernet device (TAP), with the
+kernel at one end and this program at the other.
 
 All that crosses it is recorded. Frames are made and read here, with the checksums of IP, TCP and
 UDP.

@@ -15,8 +15,8 @@ from tests.support.shapes import Line
 
 TOP = Path(__file__).resolve().parents[3]
 STORED = TOP / "crates" / "tlslog" / "data"
-# Of which capture, and how many packets in front weren't captured: all up to the client's last
-# records of the handshake.
+# The source capture, and how many packets at its beginning are left out: all up to the client's
+# last handshake records.
 CUT = {
     "late_alerts_tls10": ("openssl_tls10", 10),
     "late_alerts_tls11": ("openssl_tls11", 10),

@@ -125,8 +125,8 @@ def proxy_header(plain: Plain) -> None:
 
 
 def proxy_header_2(plain: Plain) -> None:
-    """The PROXY header of version 2 (section 2.2): 16 bytes, the last two of which are the length
-    of what follows."""
+    """The PROXY header of version 2 (section 2.2): 16 bytes; the last two are the length of
+    what follows."""
     plain.take(int.from_bytes(plain.take(16)[14:], "big"))
 
 
