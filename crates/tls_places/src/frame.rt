@@ -13,7 +13,7 @@ use std::marker::PhantomData;
 
 /// An item that ends in a sequence of bytes: the content of an extension, the body of a message, a
 /// name after its length.
-pub trait Frame<'a>: InPlace<'a> {
+pub trait ContentItem<'a>: InPlace<'a> {
     ghost content: { Self.Read → Bytes };
 
     /// These bytes. In the parsed bytes they come right before the rest.
@@ -28,7 +28,10 @@ pub trait Frame<'a>: InPlace<'a> {
 /// It refuses what the item's parser refuses in `i`.
 #[tactic(auto, using(layouts::proofs::OneAnswerLemmas::read_allowed))]
 #[inline(always)]
-pub fn frame_at<'a, T: Frame<'a>>(whole: &[u8], i: &'a [u8]) -> IResult<&'a [u8], (T::Read, Place)>
+pub fn frame_at<'a, T: ContentItem<'a>>(
+    whole: &[u8],
+    i: &'a [u8],
+) -> IResult<&'a [u8], (T::Read, Place)>
     ensures gives { Gives (λ x. T.view x.0) T.layout i.now result }
     ensures stands { EndsWith whole.now i.now
         → IfOk result (λ x. Stands whole.now x.1.1 (T.content x.1.0)) }
@@ -75,7 +78,7 @@ impl<'a, T> Placed<'a, T> {
     }
 }
 
-impl<'a, T: Frame<'a>> Iterator for Placed<'a, T> {
+impl<'a, T: ContentItem<'a>> Iterator for Placed<'a, T> {
     ghost use Rattle.std.specs.Iterator.{item_count};
 
     type Item = (T::Read, Place);

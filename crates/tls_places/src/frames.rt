@@ -1,14 +1,14 @@
 //! The last part of each kind of item: the content of an extension, the body of a message, a name,
 //! a certificate.
 
-use crate::frame::Frame;
+use crate::frame::ContentItem;
 use layouts::{Counted1, Counted2};
 use tls_base::SNIType;
 use tls_ext::{KeyShareEntry, OidFilter, RawExtension, ServerName};
 use tls_hs::{RawCertificate, RawHandshake};
 
 /// A name of an application protocol, without its length.
-impl<'a> Frame<'a> for Counted1 {
+impl<'a> ContentItem<'a> for Counted1 {
     ghost content = { λ x. x.now };
 
     #[tactic(auto, using(crate::proofs::LastLemmas::counted_is_last))]
@@ -19,7 +19,7 @@ impl<'a> Frame<'a> for Counted1 {
 }
 
 /// The bytes after a length of 2 bytes.
-impl<'a> Frame<'a> for Counted2 {
+impl<'a> ContentItem<'a> for Counted2 {
     ghost content = { λ x. x.now };
 
     #[tactic(auto, using(crate::proofs::LastLemmas::counted_is_last))]
@@ -30,7 +30,7 @@ impl<'a> Frame<'a> for Counted2 {
 }
 
 /// The content of an extension.
-impl<'a> Frame<'a> for RawExtension<'a> {
+impl<'a> ContentItem<'a> for RawExtension<'a> {
     ghost content = { λ e. e.content.now };
 
     #[tactic(auto, using(crate::proofs::LastLemmas::frame_is_last))]
@@ -41,7 +41,7 @@ impl<'a> Frame<'a> for RawExtension<'a> {
 }
 
 /// The body of a handshake message.
-impl<'a> Frame<'a> for RawHandshake<'a> {
+impl<'a> ContentItem<'a> for RawHandshake<'a> {
     ghost content = { λ m. m.body.now };
 
     #[tactic(auto, using(crate::proofs::LastLemmas::frame_is_last))]
@@ -52,7 +52,7 @@ impl<'a> Frame<'a> for RawHandshake<'a> {
 }
 
 /// The public value of a key share.
-impl<'a> Frame<'a> for KeyShareEntry<'a> {
+impl<'a> ContentItem<'a> for KeyShareEntry<'a> {
     ghost content = { λ s. s.kx.now };
 
     #[tactic(auto, using(crate::proofs::LastLemmas::frame_is_last))]
@@ -63,7 +63,7 @@ impl<'a> Frame<'a> for KeyShareEntry<'a> {
 }
 
 /// A certificate, without its length.
-impl<'a> Frame<'a> for RawCertificate<'a> {
+impl<'a> ContentItem<'a> for RawCertificate<'a> {
     ghost content = { λ c. c.bytes.now };
 
     #[tactic(auto, using(crate::proofs::LastLemmas::counted_is_last))]
@@ -74,7 +74,7 @@ impl<'a> Frame<'a> for RawCertificate<'a> {
 }
 
 /// The host name, without its type and its length.
-impl<'a> Frame<'a> for ServerName {
+impl<'a> ContentItem<'a> for ServerName {
     ghost content = { λ n. n.1.now };
 
     #[tactic(auto, using(crate::proofs::LastLemmas::server_name_is_last))]
@@ -85,7 +85,7 @@ impl<'a> Frame<'a> for ServerName {
 }
 
 /// The values of a filter, after its OID.
-impl<'a> Frame<'a> for OidFilter<'a> {
+impl<'a> ContentItem<'a> for OidFilter<'a> {
     ghost content = { λ f. f.cert_ext_val.now };
 
     #[tactic(auto, using(crate::proofs::LastLemmas::oid_filter_is_last))]

@@ -1,8 +1,8 @@
 //! Parses records, messages and extensions with the offsets and lengths of their parts.
 //!
-//! An item whose last part is bytes is a [`Frame`]: a record and its fragment, a message and its
-//! body, an extension and its content, a name, a certificate, a key share. [`frame_at`] parses one
-//! and returns the [`layouts::Place`] of these bytes; [`Placed`] iterates over many.
+//! An item whose last part is bytes is a [`ContentItem`]: a record and its fragment, a message and
+//! its body, an extension and its content, a name, a certificate, a key share. [`frame_at`] parses
+//! one and returns the [`layouts::Place`] of these bytes; [`Placed`] iterates over many.
 //! [`place_within`] turns a place in a part into one in the whole. Nothing here allocates, and
 //! every refusal is that of the parser without places.
 //!
@@ -21,7 +21,7 @@ mod server_hello;
 
 pub use dtls_hello::{DtlsClientHelloPlaces, dtls_client_hello_with_places};
 pub use find::{content_place, host_name_place, protocol_names_place};
-pub use frame::{Frame, Placed, frame_at};
+pub use frame::{ContentItem, Placed, frame_at};
 pub use host_name::{body_place, host_name_place_of_hello, host_name_place_of_record};
 pub use place::{bytes_at, place_before, place_within};
 pub use record::{DtlsRecord, Record};

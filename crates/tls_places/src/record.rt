@@ -5,7 +5,7 @@ ghost use Rattle.layouts.specs.Answers.{Gives};
 ghost use Rattle.tls_records.specs.Record as tls;
 ghost use Rattle.tls_records.specs.DtlsRecord as dtls;
 
-use crate::frame::Frame;
+use crate::frame::ContentItem;
 use layouts::{ErrorKind, IResult, InPlace, block, refused};
 use tls_records::{
     DTLSRawHandshake, DTLSRawRecord, MAX_RECORD_LEN, TlsRawRecord, parse_dtls_record_header,
@@ -32,7 +32,7 @@ impl<'a> InPlace<'a> for Record {
 }
 
 /// The fragment of a record.
-impl<'a> Frame<'a> for Record {
+impl<'a> ContentItem<'a> for Record {
     ghost content = { λ r. r.bytes.now };
 
     #[tactic(auto, using(crate::proofs::RecordLemmas::fragment_is_last))]
@@ -71,7 +71,7 @@ impl<'a> InPlace<'a> for DtlsRecord {
 }
 
 /// The fragment of a record of DTLS.
-impl<'a> Frame<'a> for DtlsRecord {
+impl<'a> ContentItem<'a> for DtlsRecord {
     ghost content = { λ r. r.fragment.now };
 
     #[tactic(auto, using(crate::proofs::RecordLemmas::dtls_fragment_is_last))]
@@ -82,7 +82,7 @@ impl<'a> Frame<'a> for DtlsRecord {
 }
 
 /// The body of a DTLS handshake message, or the fragment's part of it.
-impl<'a> Frame<'a> for DTLSRawHandshake<'a> {
+impl<'a> ContentItem<'a> for DTLSRawHandshake<'a> {
     ghost content = { λ m. m.body.now };
 
     #[tactic(auto, using(crate::proofs::RecordLemmas::dtls_body_is_last))]
