@@ -1,3 +1,2 @@
-mod ArrivalLemmas
 mod FrontLemmas
 mod LogLemmas

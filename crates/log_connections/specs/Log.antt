@@ -1,10 +1,6 @@
--- What a packet does to the log: its connection takes it, and that connection's analysis processes
+-- What an arrival does to the log: its connection takes it, and that connection's analysis processes
 -- it.
-use Rattle.std.specs.Prelude.{◌≡◌, Bool, true, false, ◌∷◌, Option, Some, None}
-use Rattle.connection_parts.specs.Part.{falls_to}
-use Rattle.connection_parts.specs.declared.part.Part.{Part}
-use Rattle.connections.specs.declared.five_tuple.End.{End}
-use Rattle.connections.specs.declared.five_tuple.Protocol.{Protocol}
+use Rattle.std.specs.Prelude.{◌≡◌, Bool, true, false, ◌∷◌}
 use Rattle.connections.specs.Connection.{side_of}
 use Rattle.connections.specs.Datagram.{five_tuple_of_datagram}
 use Rattle.connections.specs.Segment.{five_tuple_of}
@@ -21,11 +17,6 @@ use Rattle.log_connections.specs.declared.log.Delivery.{Delivery}
 use Rattle.log_connections.specs.declared.log.Delivery.TheVariants as delivery
 use Rattle.log_connections.specs.declared.log.Reception.{Reception}
 use Rattle.log_connections.specs.declared.log.Reception.TheVariants as reception
-
--- Without a part, all connections are logged.
-abbrev pub is_logged : Option Part → Protocol → End → End → Bool
-is_logged None protocol one other = true
-is_logged (Some part) protocol one other = falls_to protocol one other part
 
 module _ {K : Type 0} where
   -- The next bytes of a side's stream are analyzed. Everything else in the connection stays, the

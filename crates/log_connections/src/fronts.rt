@@ -13,7 +13,7 @@ const PREAMBLE_LIMIT: u64 = 65_536;
 const WAITING_LEN: usize = HELLO_FRONT_LEN - 1;
 
 /// The state of a side.
-#[derive(Clone, Copy, Debug, PartialEq, Eq)]
+#[derive(Clone, Copy)]
 pub(crate) enum Standing {
     /// The beginning of TLS wasn't found yet.
     Sought,
@@ -24,7 +24,7 @@ pub(crate) enum Standing {
 }
 
 /// The search for TLS on one side.
-#[derive(Clone, Copy, Debug, PartialEq, Eq)]
+#[derive(Clone, Copy)]
 pub(crate) struct Front {
     /// How many bytes were skipped.
     passed: u64,
@@ -32,14 +32,14 @@ pub(crate) struct Front {
 }
 
 /// The search for TLS on both sides.
-#[derive(Clone, Copy, Debug, PartialEq, Eq)]
+#[derive(Clone, Copy)]
 pub(crate) struct Fronts {
     originator: Front,
     responder: Front,
 }
 
 /// Where TLS begins on a side, by its next bytes.
-#[derive(Clone, Copy, Debug, PartialEq, Eq)]
+#[derive(Clone, Copy)]
 pub(crate) enum Beginning {
     /// Too few bytes came to decide.
     Waits,

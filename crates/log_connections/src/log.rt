@@ -1,36 +1,27 @@
-//! What a capture's packets add to the log.
+//! What a capture's arrivals add to the log.
 ghost use Rattle.std.specs.Prelude.{◌≡◌, IfOk, OnOk, is_some};
 ghost use Rattle.connections.specs.Connection.{side_of};
 ghost use Rattle.log_connections.specs.Analysis.{HearsNext, HearsOn, direction_of as direction};
-ghost use Rattle.log_connections.specs.Log.{HearsFrom, HearsSide, Logs, LogsDatagram, LogsExchange, LogsOpen, is_logged};
+ghost use Rattle.log_connections.specs.Log.{HearsFrom, HearsSide, Logs, LogsDatagram, LogsExchange, LogsOpen};
 
 use crate::analysis::{PieceCollector, PieceKind, TlsAnalysis};
-use crate::arrival::{Arrival, Checksums, checksum_of, datagram_of, end, segment_of};
-use crate::counts::{Counts, add_one};
 use crate::memory::SPARE;
-use capture::{Content, TcpSegment, UdpDatagram};
-use connection_parts::Part;
+use arrivals::{Arrival, ArrivalReader, CompletedDatagram, add_one};
 use connections::{
-    Checksum, Connection, Connections, Datagram, DropReason, End, Judgement, MAX_PENDING,
-    PendingOutcome, PendingSegment, Protocol, Segment, Side, Stream, Verdict,
+    Checksum, Connection, Connections, Datagram, DropReason, Judgement, MAX_PENDING,
+    PendingOutcome, PendingSegment, Segment, Side, Stream, Verdict,
 };
-use ip_fragments::FragmentTable;
-use networks::{Network, Networks};
-use packets::Packet;
 use std::alloc::{AllocError, Global};
 use std::hash::RandomState;
 use tls_flow::Direction;
 use tls_summary::CertificateCache;
-use tunnels::{Inside, Tunnels, innermost_into, plain_segment, vlan_tags};
+use tunnels::Tunnels;
 
 /// The log of one capture, with its open connections.
 #[derive(Drop)]
 pub struct Log<K> {
     pub(crate) alloc: Global,
     pub(crate) connections: Connections<TlsAnalysis<K>>,
-    // The datagrams in reassembly, and whether the last packet held a fragment.
-    pub(crate) fragments: FragmentTable,
-    pub(crate) is_cut: bool,
     // The pieces of connections that are kept until they are taken.
     kept: Option<PieceKind>,
     // The memory limit for connections in bytes, and whether the accounted memory of the last
@@ -41,15 +32,8 @@ pub struct Log<K> {
     pub(crate) spare: Vec<u8>,
     // The latest certificates of all connections, whose digests aren't computed again.
     pub(crate) known: CertificateCache,
-    checksums: Checksums,
-    // The part whose connections are logged, if not all are.
-    part: Option<Part>,
-    // The numbers of networks, if these are told apart.
-    networks: Option<Networks>,
-    // The tunnels of the last packet.
-    pub(crate) tunnels: Tunnels,
-    /// Counts of what was read, and of what was left out.
-    pub counts: Counts,
+    /// Finds the arrival of each packet, and counts.
+    pub arrivals: ArrivalReader,
 }
 
 /// What happened to a segment.
@@ -204,176 +188,13 @@ impl<K: PieceCollector> Log<K> {
         Ok(Log {
             alloc,
             connections: Connections::new(alloc, keys)?,
-            fragments: FragmentTable::new(alloc, keys)?,
-            is_cut: false,
             kept,
             memory: usize::MAX,
             is_unsettled: false,
             spare: Vec::with_capacity(alloc, SPARE)?,
             known: CertificateCache::new(alloc),
-            checksums: Checksums::Auto,
-            part: None,
-            networks: None,
-            tunnels: Tunnels::new(),
-            counts: Counts::new(),
+            arrivals: ArrivalReader::new(alloc, keys)?,
         })
-    }
-
-    /// Sets which checksums count. The default is [`Checksums::Auto`].
-    pub fn set_checksums(&mut self, checksums: Checksums) {
-        self.checksums = checksums;
-    }
-
-    /// Logs only the connections of this part. The default is all.
-    pub fn set_part(&mut self, part: Part) {
-        self.part = Some(part);
-    }
-
-    /// Tells connections with the same ends in several networks apart. The default is not to.
-    /// `keys` keys the hashes of the table of networks.
-    pub fn separate_networks(&mut self, keys: RandomState) -> Result<(), AllocError> {
-        self.networks = Some(Networks::new(self.alloc, keys)?);
-        Ok(())
-    }
-
-    /// Returns the number of the last packet's network; 0 if networks aren't told apart.
-    #[inline(always)]
-    fn network(&mut self, packet: Packet<'_>) -> Result<u64, AllocError> {
-        if self.networks.is_none() {
-            return Ok(0);
-        }
-        self.number_of_network(packet)
-    }
-
-    /// Returns the number of the last packet's network, when networks are told apart.
-    fn number_of_network(&mut self, packet: Packet<'_>) -> Result<u64, AllocError> {
-        match &mut self.networks {
-            Some(networks) => networks.number(Network {
-                vlans: vlan_tags(packet.bytes, packet.link_type),
-                tunnels: self.tunnels,
-            }),
-            None => Ok(0),
-        }
-    }
-
-    /// Returns whether connections between these ends are logged. Counts a packet of others.
-    fn is_of_part(&mut self, protocol: Protocol, source: End, destination: End) -> bool
-        ensures { result ≡ is_logged self.old.part protocol source destination }
-    {
-        let is_logged = match &self.part {
-            Some(part) => part.has(protocol, source, destination),
-            None => true,
-        };
-        if !is_logged {
-            add_one(&mut self.counts.other_parts);
-        }
-        is_logged
-    }
-
-    /// Returns what arrives with a packet's innermost content. `None` if that is no datagram, which
-    /// is counted.
-    #[inline(always)]
-    pub(crate) fn arrival_inside<'a>(
-        &mut self,
-        packet: Packet<'_>,
-        inside: &Inside<'a>,
-    ) -> Result<Option<Arrival<'a>>, AllocError> {
-        match inside {
-            Inside::Datagram(datagram) => return self.arrival_of(packet, datagram),
-            Inside::Other => add_one(&mut self.counts.other_protocols),
-            Inside::Unread => self.counts.add_unread(packet.link_type),
-            Inside::Deeper => add_one(&mut self.counts.in_too_many_tunnels),
-        }
-        Ok(None)
-    }
-
-    /// Returns a packet's TCP segment, or counts it if it belongs to another part.
-    #[inline(always)]
-    fn segment<'a>(
-        &mut self,
-        packet: Packet<'_>,
-        datagram: &capture::IpDatagram<'a>,
-        tcp: &TcpSegment<'a>,
-    ) -> Result<Option<Arrival<'a>>, AllocError> {
-        let source = end(datagram.source, tcp.source);
-        let destination = end(datagram.destination, tcp.destination);
-        if !self.is_of_part(Protocol::Tcp, source, destination) {
-            return Ok(None);
-        }
-        let network = self.network(packet)?;
-        let checksum = checksum_of(datagram, self.checksums);
-        let segment = segment_of(packet.time, network, source, destination, tcp, checksum);
-        Ok(Some(Arrival::Segment(segment)))
-    }
-
-    /// Returns a packet's UDP datagram, or counts it if it belongs to another part.
-    fn user_datagram<'a>(
-        &mut self,
-        packet: Packet<'_>,
-        datagram: &capture::IpDatagram<'a>,
-        udp: &UdpDatagram<'a>,
-    ) -> Result<Option<Arrival<'a>>, AllocError> {
-        let source = end(datagram.source, udp.source);
-        let destination = end(datagram.destination, udp.destination);
-        if !self.is_of_part(Protocol::Udp, source, destination) {
-            return Ok(None);
-        }
-        let network = self.network(packet)?;
-        let checksum = checksum_of(datagram, self.checksums);
-        let datagram = datagram_of(packet.time, network, source, destination, udp, checksum);
-        Ok(Some(Arrival::Datagram(datagram)))
-    }
-
-    /// Returns the TCP segment or UDP datagram of a packet. `None` if it has none that can be
-    /// parsed, or one of another part, both of which are counted; or if it holds a fragment, which
-    /// goes to [`Log::join`].
-    ///
-    /// `AllocError` if networks are told apart and there is no memory for another one.
-    pub fn arrival<'a>(&mut self, packet: Packet<'a>) -> Result<Option<Arrival<'a>>, AllocError> {
-        add_one(&mut self.counts.packets);
-        let inside = innermost_into(packet.bytes, packet.link_type, &mut self.tunnels);
-        self.arrival_inside(packet, &inside)
-    }
-
-    /// Returns the TCP segment of a packet by a fast path for most packets: in no tunnel, with all
-    /// connections logged and networks not told apart. For any other packet it returns `None` and
-    /// counts nothing, and [`Log::arrival`] has the answer.
-    #[inline(always)]
-    pub fn plain_arrival<'a>(&mut self, packet: Packet<'a>) -> Option<Arrival<'a>> {
-        if self.part.is_some() || self.networks.is_some() {
-            return None;
-        }
-        let Some(datagram) = plain_segment(packet.bytes, packet.link_type, &mut self.tunnels) else {
-            return None;
-        };
-        let Content::Tcp(tcp) = datagram.content else {
-            return None;
-        };
-        add_one(&mut self.counts.packets);
-        // (field by field: the checksum reads the datagram from memory, and the segment is built
-        // from one in registers)
-        let looked_at = capture::IpDatagram { ..datagram };
-        let source = end(datagram.source, tcp.source);
-        let destination = end(datagram.destination, tcp.destination);
-        let checksum = checksum_of(&looked_at, self.checksums);
-        let segment = segment_of(packet.time, 0, source, destination, &tcp, checksum);
-        Some(Arrival::Segment(segment))
-    }
-
-    /// Returns what arrives with a packet that holds this datagram.
-    #[inline(always)]
-    fn arrival_of<'a>(
-        &mut self,
-        packet: Packet<'_>,
-        datagram: &capture::IpDatagram<'a>,
-    ) -> Result<Option<Arrival<'a>>, AllocError> {
-        match &datagram.content {
-            Content::Tcp(tcp) => return self.segment(packet, datagram, tcp),
-            Content::Udp(udp) => return self.user_datagram(packet, datagram, udp),
-            Content::Other(_, _) => add_one(&mut self.counts.other_protocols),
-            Content::Fragment => self.is_cut = true,
-        }
-        Ok(None)
     }
 
     /// Removes and returns a connection that is over before the arrival. Call it until it returns
@@ -437,7 +258,7 @@ impl<K: PieceCollector> Log<K> {
                 connection,
                 segment,
                 self.kept,
-                &self.tunnels,
+                &self.arrivals.tunnels,
                 &mut self.known,
             )?;
             self.is_unsettled = !connection.is_settled();
@@ -460,7 +281,7 @@ impl<K: PieceCollector> Log<K> {
                     connection,
                     segment,
                     self.kept,
-                    &self.tunnels,
+                    &self.arrivals.tunnels,
                     &mut self.known,
                 )?;
                 self.is_unsettled = !connection.is_settled();
@@ -479,7 +300,7 @@ impl<K: PieceCollector> Log<K> {
                 connection,
                 &segment,
                 self.kept,
-                &self.tunnels,
+                &self.arrivals.tunnels,
                 &mut self.known,
             ),
             None => Ok(()),
@@ -522,9 +343,9 @@ impl<K: PieceCollector> Log<K> {
             None => {
                 // (the last acknowledgement of a closed connection loses nothing)
                 if segment.checksum == Checksum::Refused {
-                    add_one(&mut self.counts.damaged);
+                    add_one(&mut self.arrivals.counts.damaged);
                 } else if segment.has_data() {
-                    add_one(&mut self.counts.stray_segments);
+                    add_one(&mut self.arrivals.counts.stray_segments);
                 }
                 Ok(None)
             }
@@ -568,7 +389,7 @@ impl<K: PieceCollector> Log<K> {
             connection,
             segment,
             self.kept,
-            &self.tunnels,
+            &self.arrivals.tunnels,
             &mut self.known,
         )?;
         // (without data the memory doesn't grow)
@@ -611,7 +432,7 @@ impl<K: PieceCollector> Log<K> {
         match verdict.judgement {
             Judgement::Dropped(reason) => {
                 if reason == DropReason::Checksum {
-                    add_one(&mut self.counts.damaged);
+                    add_one(&mut self.arrivals.counts.damaged);
                 }
                 self.is_unsettled = segment.begins();
                 self.connections.drop_segment(segment, reason)?;
@@ -655,7 +476,7 @@ impl<K: PieceCollector> Log<K> {
             exchange,
             datagram,
             self.kept,
-            &self.tunnels,
+            &self.arrivals.tunnels,
             &mut self.known,
         )?;
         self.is_unsettled = !exchange.is_settled();
@@ -672,7 +493,7 @@ impl<K: PieceCollector> Log<K> {
         match self.analyze_exchange(datagram)? {
             Delivery::Heard => Ok(None),
             Delivery::Damaged => {
-                add_one(&mut self.counts.damaged);
+                add_one(&mut self.arrivals.counts.damaged);
                 Ok(None)
             }
             Delivery::NoneOpen => {
@@ -690,7 +511,7 @@ impl<K: PieceCollector> Log<K> {
     /// Begins an exchange with a datagram, or counts the datagram if its checksum is wrong.
     fn begin_exchange(&mut self, datagram: &Datagram<'_>) -> Result<(), AllocError> {
         if datagram.checksum == Checksum::Refused {
-            add_one(&mut self.counts.damaged);
+            add_one(&mut self.arrivals.counts.damaged);
             return Ok(());
         }
         self.accept_datagram(datagram)
@@ -708,7 +529,7 @@ impl<K: PieceCollector> Log<K> {
                     exchange,
                     datagram,
                     self.kept,
-                    &self.tunnels,
+                    &self.arrivals.tunnels,
                     &mut self.known,
                 )?;
                 self.is_unsettled = !exchange.is_settled();
@@ -723,12 +544,27 @@ impl<K: PieceCollector> Log<K> {
         self.connections.get_mut(&arrival.between())
     }
 
+    /// Adds the count of bytes that disagreed in a datagram's fragments to the sender of an
+    /// arrival, if its connection is open. Returns whether it is.
+    pub fn note_disagreeing(&mut self, arrival: &Arrival<'_>, joined: &CompletedDatagram) -> bool {
+        let count = joined.disagreeing();
+        let source = arrival.source();
+        let Some(connection) = self.connection(arrival) else {
+            return false;
+        };
+        match connection.side_of(source) {
+            Side::Originator => connection.from_originator.add_disagreeing(count),
+            Side::Responder => connection.from_responder.add_disagreeing(count),
+        }
+        true
+    }
+
     /// Removes and returns one of the remaining connections. At the end of the capture, call it
     /// until it returns `None`.
     pub fn take_remaining(
         &mut self,
     ) -> Result<Option<Box<Connection<TlsAnalysis<K>>>>, AllocError> {
-        self.count_cut();
+        self.arrivals.count_cut();
         with_last(&mut self.known, self.connections.take_remaining())
     }
 }

@@ -1,9 +1,8 @@
 //! Evicts connections when memory runs short.
 
 use crate::analysis::{PieceCollector, TlsAnalysis};
-use crate::arrival::Arrival;
-use crate::counts::add_one;
 use crate::log::{Log, with_last};
+use arrivals::{Arrival, add_one};
 use connections::Connection;
 use std::alloc::AllocError;
 
@@ -25,7 +24,7 @@ impl<K: PieceCollector> Log<K> {
         match with_last(&mut self.known, taken)? {
             Some(mut connection) => {
                 connection.attachment.is_ended_early = true;
-                add_one(&mut self.counts.ended_early);
+                add_one(&mut self.arrivals.counts.ended_early);
                 Ok(Some(connection))
             }
             None => Ok(None),

@@ -1,8 +1,8 @@
 //! Turns the command line into what is asked for.
 use crate::memory::part_of_connections;
 use crate::program::RunOptions;
+use arrivals::Checksums;
 use clap::ArgMatches;
-use log_connections::Checksums;
 use log_lines::FORMAT_NAMES;
 use log_options::{Choices, memory_of, part_of};
 use log_writer::{Refusal, style_of};

@@ -4,9 +4,10 @@ ghost use Rattle.log_io.specs.Output.{Tells};
 ghost use Rattle.log_io.specs.Run.{EndsBy, Exits, HasFailed, HasWritten, IsAsBefore, IsNotOfCapture, StaysSound};
 
 use crate::analysis::{Analysis, CollectedPieces, summary, take_certificates, take_messages};
+use arrivals::{Arrival, Checksums, CompletedDatagram, Counts, add_one};
 use connection_parts::Part;
 use connections::{Connection, Protocol};
-use log_connections::{Arrival, Checksums, CompletedDatagram, Counts, Log, PieceKind, add_one};
+use log_connections::{Log, PieceKind, add_found};
 use log_io::{
     Exit, Failure, LineError, Opener, Output, ProgressReader, STANDARD_INPUT, STANDARD_INPUT_NAME,
     Source, report,
@@ -41,7 +42,7 @@ fn print_line<W: Write>(
         return Ok(());
     }
     let summary = summary(connection);
-    counts.add_found(summary.protocol == Protocol::Udp, summary.outcome);
+    add_found(counts, summary.protocol == Protocol::Udp, summary.outcome);
     if summary.gap().is_some() {
         add_one(&mut counts.gaps);
     }
@@ -188,7 +189,7 @@ fn log_packet<W: Write>(
 ) -> Result<(), LineError>
     ensures { Tells out.old.has_failed out.new.has_failed result }
 {
-    if let Some(arrival) = log.plain_arrival(packet) {
+    if let Some(arrival) = log.arrivals.plain_arrival(packet) {
         return log_arrival(alloc, style, log, &arrival, out);
     }
     log_other_packet(alloc, style, log, packet, out)
@@ -206,7 +207,7 @@ fn log_other_packet<W: Write>(
 ) -> Result<(), LineError>
     ensures { Tells out.old.has_failed out.new.has_failed result }
 {
-    match log.arrival(packet)? {
+    match log.arrivals.arrival(packet)? {
         Some(arrival) => log_arrival(alloc, style, log, &arrival, out),
         None => log_joined_datagram(alloc, style, log, packet, out),
     }
@@ -224,7 +225,7 @@ fn log_arrival<W: Write>(
 {
     'over: for _ in 0..u64::MAX {
         match log.take_over(arrival)? {
-            Some(connection) => print_one(alloc, style, &mut log.counts, connection, out)?,
+            Some(connection) => print_one(alloc, style, &mut log.arrivals.counts, connection, out)?,
             None => break,
         }
     }
@@ -246,7 +247,7 @@ fn analyze_arrival<W: Write>(
         Ok(Some(connection)) => print_last(
             alloc,
             style,
-            &mut log.counts,
+            &mut log.arrivals.counts,
             connection,
             arrival.time(),
             out,
@@ -268,7 +269,14 @@ fn end_crowded<W: Write>(
 {
     'crowded: for _ in 0..u64::MAX {
         match log.take_crowded()? {
-            Some(connection) => print_last(alloc, style, &mut log.counts, connection, time, out)?,
+            Some(connection) => print_last(
+                alloc,
+                style,
+                &mut log.arrivals.counts,
+                connection,
+                time,
+                out,
+            )?,
             None => break,
         }
     }
@@ -290,7 +298,7 @@ fn end_own<W: Write>(
             print_last(
                 alloc,
                 style,
-                &mut log.counts,
+                &mut log.arrivals.counts,
                 connection,
                 arrival.time(),
                 out,
@@ -313,7 +321,14 @@ fn end_oldest<W: Write>(
 {
     match log.take_oldest()? {
         Some(connection) => {
-            print_last(alloc, style, &mut log.counts, connection, time, out)?;
+            print_last(
+                alloc,
+                style,
+                &mut log.arrivals.counts,
+                connection,
+                time,
+                out,
+            )?;
             Ok(true)
         }
         None => Ok(false),
@@ -350,7 +365,7 @@ fn log_inside<W: Write>(
 ) -> Result<bool, LineError>
     ensures { Tells out.old.has_failed out.new.has_failed result }
 {
-    let Some(arrival) = log.arrival_in(packet, joined)? else {
+    let Some(arrival) = log.arrivals.arrival_in(packet, joined)? else {
         return Ok(false);
     };
     let is_noted = log.note_disagreeing(&arrival, joined);
@@ -372,7 +387,7 @@ fn log_joined_datagram<W: Write>(
 ) -> Result<(), LineError>
     ensures { Tells out.old.has_failed out.new.has_failed result }
 {
-    let mut whole = log.join(packet)?;
+    let mut whole = log.arrivals.join(packet)?;
     'inside: for _ in 0..MAX_TUNNELS + 1 {
         let Some(joined) = whole else {
             break;
@@ -380,7 +395,7 @@ fn log_joined_datagram<W: Write>(
         if log_inside(alloc, style, log, packet, &joined, out)? {
             break;
         }
-        whole = log.join_inner(&joined)?;
+        whole = log.arrivals.join_inner(&joined)?;
     }
     Ok(())
 }
@@ -429,7 +444,7 @@ fn print_left<W: Write>(
 {
     'left: for _ in 0..u64::MAX {
         match log.take_remaining()? {
-            Some(connection) => print_one(alloc, style, &mut log.counts, connection, out)?,
+            Some(connection) => print_one(alloc, style, &mut log.arrivals.counts, connection, out)?,
             None => break,
         }
     }
@@ -450,7 +465,7 @@ fn log_source<R: Runtime + AllocGlobal, I: Read + Source, W: Write>(
         Ok(()) => Exit::Clean,
         Err(failure) => {
             let failure = failure.of_source(reader.front());
-            report(rt, name, failure, logger.log.counts.packets)
+            report(rt, name, failure, logger.log.arrivals.counts.packets)
         }
     }
 }
@@ -466,7 +481,12 @@ fn log_left<R: Runtime + AllocGlobal, W: Write>(
 {
     match print_left(logger.alloc, logger.style, &mut logger.log, &mut logger.out) {
         Ok(()) => Exit::Clean,
-        Err(e) => report(rt, name, Failure::from(e), logger.log.counts.packets),
+        Err(e) => report(
+            rt,
+            name,
+            Failure::from(e),
+            logger.log.arrivals.counts.packets,
+        ),
     }
 }
 
@@ -535,13 +555,13 @@ fn log_of(
     keys: RandomState,
 ) -> Result<Log<CollectedPieces>, AllocError> {
     let mut log = Log::new(alloc, keys, kept_for(&asked.style))?;
-    log.set_checksums(asked.checksums);
+    log.arrivals.set_checksums(asked.checksums);
     log.set_memory(asked.memory);
     if let Some(part) = asked.part {
-        log.set_part(part);
+        log.arrivals.set_part(part);
     }
     if asked.is_by_network {
-        log.separate_networks(keys)?;
+        log.arrivals.separate_networks(keys)?;
     }
     Ok(log)
 }
@@ -596,7 +616,7 @@ pub fn log_input<R: Runtime + AllocGlobal + RandomSource, I: Read + Source, W: W
     };
     let exit = log_whole(rt, name, &mut logger, reader);
     let Logger { log, out, .. } = logger;
-    let exit = tell_counts(rt, name, &log.counts, exit);
+    let exit = tell_counts(rt, name, &log.arrivals.counts, exit);
     drop(log);
     (exit, out)
 }
@@ -664,7 +684,7 @@ pub fn log_joined<R: Runtime + AllocGlobal + RandomSource, O: Opener, W: Write>(
     }
     let exit = log_last(rt, exit, &mut logger);
     let Logger { log, out, .. } = logger;
-    let exit = tell_counts(rt, JOINED_NAME, &log.counts, exit);
+    let exit = tell_counts(rt, JOINED_NAME, &log.arrivals.counts, exit);
     drop(log);
     (exit, out)
 }

@@ -2,7 +2,7 @@
 use Rattle.std.proofs.Common.{◌≡◌, ℕ, ◌+◌, ◌*◌, ◌<◌, ◌≤◌, [], ◌∷◌, length, get_or, false, Some, refl, sym, ap, subst, arith}
 use Rattle.layouts.specs.Bytes.{Bytes}
 use Rattle.capture.specs.Options.{option_in, timestamp}
-use Rattle.log_connections.specs.Arrival.{is_signed}
+use Rattle.arrivals.specs.Arrival.{is_signed}
 
 -- Two bytes of padding come before a timestamp, and nothing behind it.
 only_clock : (n a b c d e f g h : ℕ) → n ≡ a * 16777216 + b * 65536 + c * 256 + d

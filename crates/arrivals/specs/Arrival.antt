@@ -1,5 +1,5 @@
 -- What a packet brings to a connection.
-use Rattle.std.specs.Prelude.{ℕ, ◌+◌, ◌*◌, ◌^◌, ◌/◌, ◌%◌, ◌==◌, Bool, ◌&&◌, ◌||◌, is_some, if◌then◌else◌, None}
+use Rattle.std.specs.Prelude.{ℕ, ◌+◌, ◌*◌, ◌^◌, ◌/◌, ◌%◌, ◌==◌, Bool, ◌&&◌, ◌||◌, Option, Some, None, is_some, if◌then◌else◌, true}
 use Rattle.std.specs.Net.Addr.{IsIpv4OfBits, IsIpv6OfBits}
 use Rattle.std.specs.declared.net.ip_addr.IpAddr.{IpAddr}
 use Rattle.std.specs.declared.net.ip_addr.IpAddr.TheVariants as ip
@@ -11,19 +11,22 @@ use Rattle.capture.specs.declared.ip.Address.{Address}
 use Rattle.capture.specs.declared.ip.Address.TheVariants as address
 use Rattle.capture.specs.declared.transport.TcpSegment.{TcpSegment}
 use Rattle.capture.specs.declared.transport.UdpDatagram.{UdpDatagram}
+use Rattle.connection_parts.specs.Part.{falls_to}
+use Rattle.connection_parts.specs.declared.part.Part.{Part}
 use Rattle.connections.specs.Datagram.{five_tuple_of_datagram}
 use Rattle.connections.specs.Segment.{five_tuple_of}
 use Rattle.connections.specs.declared.datagram.Datagram.{Datagram}
 use Rattle.connections.specs.declared.five_tuple.End.{End}
 use Rattle.connections.specs.declared.five_tuple.FiveTuple.{FiveTuple}
+use Rattle.connections.specs.declared.five_tuple.Protocol.{Protocol}
 use Rattle.connections.specs.declared.segment.Checksum.{Checksum}
 use Rattle.connections.specs.declared.segment.Checksum.TheVariants as checksum
 use Rattle.connections.specs.declared.segment.Options.{Options}
 use Rattle.connections.specs.declared.segment.Segment.{Segment}
-use Rattle.log_connections.specs.declared.arrival.Arrival.{Arrival}
-use Rattle.log_connections.specs.declared.arrival.Arrival.TheVariants as arrival
-use Rattle.log_connections.specs.declared.arrival.Checksums.{Checksums}
-use Rattle.log_connections.specs.declared.arrival.Checksums.TheVariants as checksums
+use Rattle.arrivals.specs.declared.arrival.Arrival.{Arrival}
+use Rattle.arrivals.specs.declared.arrival.Arrival.TheVariants as arrival
+use Rattle.arrivals.specs.declared.arrival.Checksums.{Checksums}
+use Rattle.arrivals.specs.declared.arrival.Checksums.TheVariants as checksums
 
 -- The capture time, the sender and the five-tuple.
 abbrev pub time_of : Arrival → ℕ
@@ -101,3 +104,8 @@ counted_as checksums.Check sum.Wrong = checksum.Refused
 counted_as checksums.Auto sum.Right = checksum.Right
 counted_as checksums.Auto sum.Partial = checksum.Partial
 counted_as checksums.Auto sum.Wrong = checksum.Wrong
+
+-- Without a part, all connections are logged.
+abbrev pub is_logged : Option Part → Protocol → End → End → Bool
+is_logged None protocol one other = true
+is_logged (Some part) protocol one other = falls_to protocol one other part

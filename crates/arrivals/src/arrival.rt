@@ -3,7 +3,7 @@ ghost use Rattle.std.specs.Prelude.{◌≡◌, false, IfSome, Some};
 ghost use Rattle.capture.specs.Checksum.{checksum_of as checksum_in};
 ghost use Rattle.capture.specs.Ip.{view_datagram};
 ghost use Rattle.capture.specs.Options.{timestamp as timestamp_in};
-ghost use Rattle.log_connections.specs.Arrival.{IsAddress, counted_as, datagram_in, five_tuple_in, is_signed, options_in, segment_in, source_of, time_of};
+ghost use Rattle.arrivals.specs.Arrival.{IsAddress, counted_as, datagram_in, five_tuple_in, is_signed, options_in, segment_in, source_of, time_of};
 
 use capture::{
     Address, TcpSegment, UdpDatagram, maximum_segment_size, option_of, timestamp, window_scale,
@@ -60,7 +60,7 @@ impl<'a> Arrival<'a> {
     }
 
     /// Returns the sender.
-    pub(crate) fn source(&self) -> End
+    pub fn source(&self) -> End
         ensures { result ≡ source_of self.now }
     {
         match self {
@@ -70,7 +70,7 @@ impl<'a> Arrival<'a> {
     }
 
     /// Returns the five-tuple.
-    pub(crate) fn between(&self) -> FiveTuple
+    pub fn between(&self) -> FiveTuple
         ensures { result ≡ five_tuple_in self.now }
     {
         match self {

@@ -5,8 +5,8 @@ use Rattle.layouts.specs.Reading.{reading}
 use Rattle.layouts.specs.contracts.result.ErrorKindPartialEq.TheImpl as kind_eq
 use Rattle.layouts.specs.declared.result.ErrorKind.TheVariants.{Switch}
 use Rattle.capture.specs.Link.{carried}
-use Rattle.log_connections.specs.declared.counts.Counts.{Counts}
-use Rattle.log_connections.specs.declared.links.OtherLinks.{OtherLinks}
+use Rattle.arrivals.specs.declared.counts.Counts.{Counts}
+use Rattle.arrivals.specs.declared.links.OtherLinks.{OtherLinks}
 
 -- A count saturates.
 abbrev pub one_more : ℕ → ℕ

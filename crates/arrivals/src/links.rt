@@ -1,6 +1,6 @@
 //! Unsupported link types in a capture.
 ghost use Rattle.std.specs.Prelude.{◌≡◌, true, false};
-ghost use Rattle.log_connections.specs.Counts.{is_supported, no_links};
+ghost use Rattle.arrivals.specs.Counts.{is_supported, no_links};
 
 use crate::counts::add_one;
 use capture::parse_link;

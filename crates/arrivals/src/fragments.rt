@@ -1,11 +1,10 @@
 //! Reassembly of fragmented datagrams.
+ghost use Rattle.std.specs.Prelude.{◌≡◌};
 
-use crate::analysis::PieceCollector;
 use crate::arrival::Arrival;
 use crate::counts::add_one;
-use crate::log::Log;
+use crate::reader::ArrivalReader;
 use capture::{IpDatagram, IpFragment, parse_joined};
-use connections::Side;
 use ip_fragments::{FragmentOutcome, FragmentRefusal, ReassembledDatagram};
 use packets::Packet;
 use std::alloc::AllocError;
@@ -37,9 +36,16 @@ impl CompletedDatagram {
             Err(_) => None,
         }
     }
+
+    /// Returns how many bytes arrived again with another value; the first ones stay.
+    pub fn disagreeing(&self) -> u64
+        ensures { result ≡ self.now.whole.disagreeing }
+    {
+        self.whole.disagreeing as u64
+    }
 }
 
-impl<K: PieceCollector> Log<K> {
+impl ArrivalReader {
     /// Adds a fragment, captured at `time` in these tunnels, to its datagram. Returns the datagram
     /// once it is complete.
     fn join_fragment(
@@ -122,23 +128,8 @@ impl<K: PieceCollector> Log<K> {
         }
     }
 
-    /// Adds the count of bytes that disagreed in a datagram's fragments to the sender of an
-    /// arrival, if its connection is open. Returns whether it is.
-    pub fn note_disagreeing(&mut self, arrival: &Arrival<'_>, joined: &CompletedDatagram) -> bool {
-        let count = joined.whole.disagreeing as u64;
-        let source = arrival.source();
-        let Some(connection) = self.connection(arrival) else {
-            return false;
-        };
-        match connection.side_of(source) {
-            Side::Originator => connection.from_originator.add_disagreeing(count),
-            Side::Responder => connection.from_responder.add_disagreeing(count),
-        }
-        true
-    }
-
     /// Counts the datagrams that were dropped, and those in reassembly at the end of the capture.
-    pub(crate) fn count_cut(&mut self) {
+    pub fn count_cut(&mut self) {
         self.counts.late = self.fragments.late();
         self.counts.crowded = self.fragments.crowded();
         self.counts.cut_short = self.fragments.len() as u64;

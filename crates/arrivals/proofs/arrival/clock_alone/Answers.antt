@@ -1,6 +1,6 @@
 use Rattle.std.proofs.Common.{rules}
-use Rattle.log_connections.proofs.ArrivalLemmas.{clock_there, unsigned}
-use Rattle.log_connections.proofs.arrival.clock_alone.Goals as goal
+use Rattle.arrivals.proofs.ArrivalLemmas.{clock_there, unsigned}
+use Rattle.arrivals.proofs.arrival.clock_alone.Goals as goal
 
 pub returns-in-1-clause-clock : goal.returns-in-1-clause-clock
 returns-in-1-clause-clock c =

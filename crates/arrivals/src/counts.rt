@@ -1,11 +1,10 @@
 //! Counts of what was read and found, and of what was left out.
 ghost use Rattle.std.specs.Prelude.{◌≡◌, ◌∷◌, [], map, true};
-ghost use Rattle.log_connections.specs.Counts.{is_supported, nothing_counted, one_more, unexplained as unexplained_in};
+ghost use Rattle.arrivals.specs.Counts.{is_supported, nothing_counted, one_more, unexplained as unexplained_in};
 
 use crate::links::{LinkName, OtherLinks};
 use std::fmt::{self, Display, Formatter};
 use std::io;
-use tls_flow::Outcome;
 
 /// Counts of what was read and found in a capture, and of what was left out, by reason.
 #[derive(Drop)]
@@ -146,22 +145,6 @@ impl Counts {
             other_connections: 0,
             gaps: 0,
             ended_early: 0,
-        }
-    }
-
-    /// Counts a TLS or DTLS connection, by the outcome of its handshake.
-    pub fn add_found(&mut self, is_dtls: bool, outcome: Outcome) {
-        add_one(if is_dtls {
-            &mut self.dtls
-        } else {
-            &mut self.tls
-        });
-        match outcome {
-            Outcome::BrokenOff => add_one(&mut self.broken_off),
-            Outcome::Waiting => add_one(&mut self.waiting),
-            Outcome::Unknown => add_one(&mut self.unknown),
-            Outcome::NoHandshake => add_one(&mut self.no_handshake),
-            Outcome::Full | Outcome::Resumed | Outcome::Tls13 { .. } => {}
         }
     }
 

@@ -1,0 +1,207 @@
+//! Finds the segment or datagram of each packet.
+ghost use Rattle.std.specs.Prelude.{◌≡◌};
+ghost use Rattle.arrivals.specs.Arrival.{is_logged};
+
+use crate::arrival::{Arrival, Checksums, checksum_of, datagram_of, end, segment_of};
+use crate::counts::{Counts, add_one};
+use capture::{Content, TcpSegment, UdpDatagram};
+use connection_parts::Part;
+use connections::{End, Protocol};
+use ip_fragments::FragmentTable;
+use networks::{Network, Networks};
+use packets::Packet;
+use std::alloc::{AllocError, Global};
+use std::hash::RandomState;
+use tunnels::{Inside, Tunnels, innermost_into, plain_segment, vlan_tags};
+
+/// Finds the segment or datagram of each packet of a capture, and reassembles fragments.
+#[derive(Drop)]
+pub struct ArrivalReader {
+    alloc: Global,
+    // The datagrams in reassembly, and whether the last packet held a fragment.
+    pub(crate) fragments: FragmentTable,
+    pub(crate) is_cut: bool,
+    checksums: Checksums,
+    // The part whose connections are logged, if not all are.
+    part: Option<Part>,
+    // The numbers of networks, if these are told apart.
+    networks: Option<Networks>,
+    /// The tunnels of the last packet.
+    pub tunnels: Tunnels,
+    /// Counts of what was read, and of what was left out.
+    pub counts: Counts,
+}
+
+impl ArrivalReader {
+    /// Returns the reader of a capture of which nothing was read. `keys` keys the hashes of its
+    /// table of fragments.
+    pub fn new(alloc: Global, keys: RandomState) -> Result<ArrivalReader, AllocError> {
+        Ok(ArrivalReader {
+            alloc,
+            fragments: FragmentTable::new(alloc, keys)?,
+            is_cut: false,
+            checksums: Checksums::Auto,
+            part: None,
+            networks: None,
+            tunnels: Tunnels::new(),
+            counts: Counts::new(),
+        })
+    }
+
+    /// Sets which checksums count. The default is [`Checksums::Auto`].
+    pub fn set_checksums(&mut self, checksums: Checksums) {
+        self.checksums = checksums;
+    }
+
+    /// Returns only arrivals of connections of this part. The default is all.
+    pub fn set_part(&mut self, part: Part) {
+        self.part = Some(part);
+    }
+
+    /// Tells connections with the same ends in several networks apart. The default is not to.
+    /// `keys` keys the hashes of the table of networks.
+    pub fn separate_networks(&mut self, keys: RandomState) -> Result<(), AllocError> {
+        self.networks = Some(Networks::new(self.alloc, keys)?);
+        Ok(())
+    }
+
+    /// Returns the number of the last packet's network; 0 if networks aren't told apart.
+    #[inline(always)]
+    fn network(&mut self, packet: Packet<'_>) -> Result<u64, AllocError> {
+        if self.networks.is_none() {
+            return Ok(0);
+        }
+        self.number_of_network(packet)
+    }
+
+    /// Returns the number of the last packet's network, when networks are told apart.
+    fn number_of_network(&mut self, packet: Packet<'_>) -> Result<u64, AllocError> {
+        match &mut self.networks {
+            Some(networks) => networks.number(Network {
+                vlans: vlan_tags(packet.bytes, packet.link_type),
+                tunnels: self.tunnels,
+            }),
+            None => Ok(0),
+        }
+    }
+
+    /// Returns whether connections between these ends are logged. Counts a packet of others.
+    fn is_of_part(&mut self, protocol: Protocol, source: End, destination: End) -> bool
+        ensures { result ≡ is_logged self.old.part protocol source destination }
+    {
+        let is_logged = match &self.part {
+            Some(part) => part.has(protocol, source, destination),
+            None => true,
+        };
+        if !is_logged {
+            add_one(&mut self.counts.other_parts);
+        }
+        is_logged
+    }
+
+    /// Returns what arrives with a packet's innermost content. `None` if that is no datagram, which
+    /// is counted.
+    #[inline(always)]
+    pub(crate) fn arrival_inside<'a>(
+        &mut self,
+        packet: Packet<'_>,
+        inside: &Inside<'a>,
+    ) -> Result<Option<Arrival<'a>>, AllocError> {
+        match inside {
+            Inside::Datagram(datagram) => return self.arrival_of(packet, datagram),
+            Inside::Other => add_one(&mut self.counts.other_protocols),
+            Inside::Unread => self.counts.add_unread(packet.link_type),
+            Inside::Deeper => add_one(&mut self.counts.in_too_many_tunnels),
+        }
+        Ok(None)
+    }
+
+    /// Returns a packet's TCP segment, or counts it if it belongs to another part.
+    #[inline(always)]
+    fn segment<'a>(
+        &mut self,
+        packet: Packet<'_>,
+        datagram: &capture::IpDatagram<'a>,
+        tcp: &TcpSegment<'a>,
+    ) -> Result<Option<Arrival<'a>>, AllocError> {
+        let source = end(datagram.source, tcp.source);
+        let destination = end(datagram.destination, tcp.destination);
+        if !self.is_of_part(Protocol::Tcp, source, destination) {
+            return Ok(None);
+        }
+        let network = self.network(packet)?;
+        let checksum = checksum_of(datagram, self.checksums);
+        let segment = segment_of(packet.time, network, source, destination, tcp, checksum);
+        Ok(Some(Arrival::Segment(segment)))
+    }
+
+    /// Returns a packet's UDP datagram, or counts it if it belongs to another part.
+    fn user_datagram<'a>(
+        &mut self,
+        packet: Packet<'_>,
+        datagram: &capture::IpDatagram<'a>,
+        udp: &UdpDatagram<'a>,
+    ) -> Result<Option<Arrival<'a>>, AllocError> {
+        let source = end(datagram.source, udp.source);
+        let destination = end(datagram.destination, udp.destination);
+        if !self.is_of_part(Protocol::Udp, source, destination) {
+            return Ok(None);
+        }
+        let network = self.network(packet)?;
+        let checksum = checksum_of(datagram, self.checksums);
+        let datagram = datagram_of(packet.time, network, source, destination, udp, checksum);
+        Ok(Some(Arrival::Datagram(datagram)))
+    }
+
+    /// Returns the TCP segment or UDP datagram of a packet. `None` if it has none that can be
+    /// parsed, or one of another part, both of which are counted; or if it holds a fragment, which
+    /// goes to [`ArrivalReader::join`].
+    ///
+    /// `AllocError` if networks are told apart and there is no memory for another one.
+    pub fn arrival<'a>(&mut self, packet: Packet<'a>) -> Result<Option<Arrival<'a>>, AllocError> {
+        add_one(&mut self.counts.packets);
+        let inside = innermost_into(packet.bytes, packet.link_type, &mut self.tunnels);
+        self.arrival_inside(packet, &inside)
+    }
+
+    /// Returns the TCP segment of a packet by a fast path for most packets: in no tunnel, with all
+    /// connections logged and networks not told apart. For any other packet it returns `None` and
+    /// counts nothing, and [`ArrivalReader::arrival`] has the answer.
+    #[inline(always)]
+    pub fn plain_arrival<'a>(&mut self, packet: Packet<'a>) -> Option<Arrival<'a>> {
+        if self.part.is_some() || self.networks.is_some() {
+            return None;
+        }
+        let Some(datagram) = plain_segment(packet.bytes, packet.link_type, &mut self.tunnels) else {
+            return None;
+        };
+        let Content::Tcp(tcp) = datagram.content else {
+            return None;
+        };
+        add_one(&mut self.counts.packets);
+        // (field by field: the checksum reads the datagram from memory, and the segment is built
+        // from one in registers)
+        let looked_at = capture::IpDatagram { ..datagram };
+        let source = end(datagram.source, tcp.source);
+        let destination = end(datagram.destination, tcp.destination);
+        let checksum = checksum_of(&looked_at, self.checksums);
+        let segment = segment_of(packet.time, 0, source, destination, &tcp, checksum);
+        Some(Arrival::Segment(segment))
+    }
+
+    /// Returns what arrives with a packet that holds this datagram.
+    #[inline(always)]
+    fn arrival_of<'a>(
+        &mut self,
+        packet: Packet<'_>,
+        datagram: &capture::IpDatagram<'a>,
+    ) -> Result<Option<Arrival<'a>>, AllocError> {
+        match &datagram.content {
+            Content::Tcp(tcp) => return self.segment(packet, datagram, tcp),
+            Content::Udp(udp) => return self.user_datagram(packet, datagram, udp),
+            Content::Other(_, _) => add_one(&mut self.counts.other_protocols),
+            Content::Fragment => self.is_cut = true,
+        }
+        Ok(None)
+    }
+}
