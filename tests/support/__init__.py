@@ -1,1 +1,1 @@
-"""What tests of several folders share: captures of packets, names of suites, `rt try`, --help."""
+"""What tests of several folders share: packets, names of suites, compiled test code, --help."""
