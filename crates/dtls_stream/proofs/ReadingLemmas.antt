@@ -31,9 +31,10 @@ use Rattle.layouts.specs.Bytes.{Bytes}
 use Rattle.layouts.specs.Layout.{list1}
 use Rattle.layouts.specs.Meaning.{Answer, Refusal}
 use Rattle.layouts.specs.Reading.{reading}
-use Rattle.tls_records.specs.DtlsRecord.{Message, RawRecord, record_content, view_message}
-use Rattle.tls_records.specs.declared.dtls.message.DTLSMessage.{DTLSMessage}
-use Rattle.tls_records.specs.DtlsRecord as dtls_record
+use Rattle.raw_records.specs.RawDtlsRecord.{RawRecord}
+use Rattle.dtls_records.specs.DtlsRecord.{Message, record_content, view_message}
+use Rattle.dtls_records.specs.declared.message.DTLSMessage.{DTLSMessage}
+use Rattle.dtls_records.specs.DtlsRecord as dtls_record
 use Rattle.dtls_stream.specs.Fragments.{Fragment, fragment}
 use Rattle.dtls_stream.specs.Messages.{
   AreHeard,

@@ -1,16 +1,17 @@
 -- The events of one direction's datagrams (RFC 6347, sections 4.1 and 4.2).
-use Rattle.std.specs.Prelude.{◌≡◌, ℕ, zero, suc, ◌+◌, cond, nat_le, nat_lt, Option, Some, None, Ok, Err, ◌==◌, ◌&&◌, if◌then◌else◌, List, [], ◌∷◌, ◌++◌, length, take, map}
+use Rattle.std.specs.Prelude.{◌≡◌, ℕ, zero, suc, ◌+◌, cond, nat_lt, Option, Some, None, Ok, Err, ◌==◌, ◌&&◌, if◌then◌else◌, List, [], ◌∷◌, ◌++◌, length, take, map}
 use Rattle.std.specs.Borrow.{Bor}
 use Rattle.layouts.specs.Bytes.{Bytes}
-use Rattle.layouts.specs.Layout.{Layout, done, block, list1, ◌>>=◌, ◌>>◌, test}
+use Rattle.layouts.specs.Layout.{list1}
 use Rattle.layouts.specs.Meaning.{Answer, Broken, Lacks, Refusal}
 use Rattle.layouts.specs.Reading.{reading}
 use Rattle.layouts.specs.declared.result.ErrorKind.{ErrorKind}
-use Rattle.layouts.specs.declared.result.ErrorKind.TheVariants.{Complete, Switch, TooLarge}
-use Rattle.tls_records.specs.DtlsRecord.{RawRecord, RecordHeader, record_content, record_header}
-use Rattle.tls_records.specs.DtlsRecord as dtls_record
-use Rattle.tls_records.specs.DtlsHandshake as handshakes
-use Rattle.tls_records.specs.Framing.{max_encrypted_length, max_fragment_length}
+use Rattle.layouts.specs.declared.result.ErrorKind.TheVariants.{Complete, Switch}
+use Rattle.raw_records.specs.RawDtlsRecord.{RawRecord}
+pub use Rattle.raw_records.specs.DatagramRecord.{limit, content, datagram_record}
+use Rattle.dtls_records.specs.DtlsRecord.{record_content}
+use Rattle.dtls_records.specs.DtlsRecord as dtls_record
+use Rattle.dtls_records.specs.DtlsHandshake as handshakes
 use Rattle.dtls_stream.specs.Fragments.{Fragment, fragment}
 use Rattle.dtls_stream.specs.Messages.{Alert, ChangeCipherSpec, Encrypted, EncryptedRecord, Event, Failed, Handshake, Heard, Kept, Limits, Message, Stands, after, events, messages}
 
@@ -27,24 +28,6 @@ fragment_by m b = None
 -- The fragment in a handshake message, if its body is one.
 abbrev pub fragment_in : handshakes.Handshake → Option Fragment
 fragment_in m = fragment_by m m.body
-
--- The limit for a record's length: 2^14 + 2048 (RFC 5246, section 6.2.3) in the epochs above 0,
--- which are encrypted, else the limit of a plaintext record.
-abbrev pub limit : RecordHeader → ℕ
-limit h = cond (nat_lt 0 h.epoch) max_encrypted_length max_fragment_length
-
--- The content after this header.
-unfoldable pub content : RecordHeader → Layout Bytes
-content h = do
-  test (nat_le h.length (limit h)) TooLarge
-  block h.length
-
--- A record with its content unparsed.
-unfoldable pub datagram_record : Layout RawRecord
-datagram_record = do
-  h ← record_header
-  bytes ← content h
-  done (record { header = h; fragment = bytes })
 
 -- The fault of a refusal. A datagram is whole, so missing bytes won't come.
 abbrev pub kind_of : Refusal → ErrorKind

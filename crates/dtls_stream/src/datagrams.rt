@@ -5,7 +5,7 @@ ghost use Rattle.dtls_stream.specs.Datagrams.{IsDatagramCut, IsStep, datagram as
 
 use crate::event::Event;
 use crate::messages::{Limits, Messages};
-use crate::records::{read_record, read_record_events, tell_unread};
+use crate::records::{read_record_events, tell_unread};
 use layouts::OutOfMemory;
 use std::alloc::Global;
 

@@ -1,24 +1,25 @@
 //! The records of a datagram, and their events.
 ghost use Rattle.std.specs.Prelude.{◌≡◌, ◌++◌, OnErr, OnOk, map};
-ghost use Rattle.layouts.specs.Answers.{Gives, refusal_of};
-ghost use Rattle.tls_records.specs.DtlsRecord.{view_header, view_message as view_content, view_raw_record};
+ghost use Rattle.layouts.specs.Answers.{refusal_of};
+ghost use Rattle.raw_records.specs.RawDtlsRecord.{view_raw_record};
+ghost use Rattle.dtls_records.specs.DtlsRecord.{view_message as view_content};
 ghost use Rattle.std.specs.Option.{option_map};
-ghost use Rattle.tls_records.specs.DtlsHandshake.{view_handshake};
+ghost use Rattle.dtls_records.specs.DtlsHandshake.{view_handshake};
 ghost use Rattle.dtls_stream.specs.Fragments.{view_fragment};
 ghost use Rattle.dtls_stream.specs.Messages.{Heard, Limits as Allowed, Stands, view_event, view_events};
-ghost use Rattle.dtls_stream.specs.Datagrams.{AreToldInPart, IsCut, IsRecordCut, IsStep, content as content_layout, content_bytes as content_bytes_of, content_record_step, datagram_record, event_of, fragment_in, fragment_record_step, fragments_in_content, kind_of as kind_told, left_over, limit, record_step, unread};
+ghost use Rattle.dtls_stream.specs.Datagrams.{AreToldInPart, IsCut, IsRecordCut, IsStep, content_bytes as content_bytes_of, content_record_step, event_of, fragment_in, fragment_record_step, fragments_in_content, kind_of as kind_told, left_over, record_step, unread};
 
 use crate::event::{EncryptedRecord, Event};
 use crate::fragments::Fragment;
 use crate::messages::Messages;
 use crate::read::read_all;
-use layouts::{Err as Refused, Error, ErrorKind, IResult, OutOfMemory, block, items1, refused};
+use dtls_records::{
+    DTLSMessage, DTLSMessageHandshake, DTLSMessageHandshakeBody, parse_dtls_record_with_header,
+};
+use layouts::{Err as Refused, Error, ErrorKind, OutOfMemory, items1};
+use raw_records::DTLSRawRecord;
 use std::alloc::Global;
 use tls_base::{TlsMessageAlert, TlsRecordType};
-use tls_records::{
-    DTLSMessage, DTLSMessageHandshake, DTLSMessageHandshakeBody, DTLSRawRecord, DTLSRecordHeader,
-    MAX_ENCRYPTED_LEN, MAX_RECORD_LEN, parse_dtls_record_header, parse_dtls_record_with_header,
-};
 
 /// The fragment in a parsed message. `None` if the message was parsed whole: its value doesn't keep
 /// the bytes of the body.
@@ -35,40 +36,6 @@ pub fn fragment_of<'a>(message: &DTLSMessageHandshake<'a>) -> Option<Fragment<'a
         }),
         _ => None,
     }
-}
-
-/// The limit for the length in this header, in bytes.
-fn limit_of(header: &DTLSRecordHeader) -> u16
-    ensures { result ≡ limit (view_header header.now) }
-{
-    if header.epoch > 0 {
-        MAX_ENCRYPTED_LEN
-    } else {
-        MAX_RECORD_LEN
-    }
-}
-
-/// Parses the content of a record with this header as bytes.
-#[tactic(auto, using(layouts::proofs::OneAnswerLemmas::read_allowed), unfolding(crate::specs::Datagrams::content))]
-fn content<'a>(i: &'a [u8], header: &DTLSRecordHeader) -> IResult<&'a [u8], &'a [u8]>
-    ensures { Gives (λ b. b.now) (content_layout (view_header header.now)) i.now result }
-{
-    if header.length > limit_of(header) {
-        return refused(i, ErrorKind::TooLarge);
-    }
-    block(i, header.length as usize)
-}
-
-/// Parses a record of a datagram, with its content unparsed (RFC 6347, section 4.1).
-///
-/// `Incomplete` if the datagram ends within it; `TooLarge` if its length is above the limit.
-#[tactic(auto, using(layouts::proofs::OneAnswerLemmas::read_allowed), unfolding(crate::specs::Datagrams::datagram_record))]
-pub fn read_record(i: &[u8]) -> IResult<&[u8], DTLSRawRecord>
-    ensures { Gives view_raw_record datagram_record i.now result }
-{
-    let (i, header) = parse_dtls_record_header(i)?;
-    let (i, fragment) = content(i, &header)?;
-    Ok((i, DTLSRawRecord { header, fragment }))
 }
 
 /// The event of a message.

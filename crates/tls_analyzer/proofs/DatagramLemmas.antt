@@ -1,7 +1,7 @@
 -- The state of a datagram analyzer after a record.
 use Rattle.std.proofs.Common.{◌≡◌, ℕ, List, Bool, Result, Ok, Err, sym, ◌∙◌, ap, subst}
 use Rattle.std.specs.Prelude.{OnOk}
-use Rattle.tls_records.specs.DtlsRecord.{RawRecord}
+use Rattle.raw_records.specs.RawDtlsRecord.{RawRecord}
 use Rattle.dtls_stream.specs.Fragments.{Fragment}
 use Rattle.dtls_stream.specs.Messages.{Heard, Stands}
 use Rattle.dtls_stream.specs.Datagrams.{record_step}

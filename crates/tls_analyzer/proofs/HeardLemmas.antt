@@ -3,8 +3,8 @@ use Rattle.std.proofs.Common.{◌≡◌, ℕ, zero, suc, Bool, true, false, Ok, 
 use Rattle.layouts.specs.Bytes.{Bytes}
 use Rattle.layouts.specs.Meaning.{Refusal}
 use Rattle.layouts.specs.Reading.{reading}
-use Rattle.tls_records.specs.DtlsRecord.{RawRecord}
-use Rattle.dtls_stream.specs.Datagrams.{datagram_record}
+use Rattle.raw_records.specs.RawDtlsRecord.{RawRecord}
+use Rattle.raw_records.specs.DatagramRecord.{datagram_record}
 use Rattle.tls_flow.specs.declared.symbol.Direction.{Direction as Side}
 use Rattle.tls_analyzer.specs.DatagramRecords.{is_known}
 use Rattle.tls_analyzer.specs.Datagrams.{IsKnown, Analyzer, heard, next_heard, record_heard, records_heard, sealed_by}

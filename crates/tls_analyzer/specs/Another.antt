@@ -5,10 +5,10 @@ use Rattle.layouts.specs.Bytes.{Bytes}
 use Rattle.layouts.specs.Meaning.{Answer}
 use Rattle.layouts.specs.Reading.{reading}
 use Rattle.tls_hs.specs.Hello as hello
-use Rattle.tls_records.specs.DtlsHello.{ClientHello, client_hello}
-use Rattle.tls_records.specs.DtlsRecord.{RawRecord}
+use Rattle.dtls_records.specs.DtlsHello.{ClientHello, client_hello}
+use Rattle.raw_records.specs.RawDtlsRecord.{RawRecord}
 use Rattle.dtls_stream.specs.Fragments.{Fragment}
-use Rattle.dtls_stream.specs.Datagrams.{datagram_record}
+use Rattle.raw_records.specs.DatagramRecord.{datagram_record}
 use Rattle.tls_flow.specs.Table.{outcome_at}
 use Rattle.tls_flow.specs.declared.state.Outcome.{Outcome}
 use Rattle.tls_flow.specs.declared.state.Outcome.TheVariants as outcome

@@ -2,8 +2,8 @@
 use Rattle.std.specs.Prelude.{ℕ, Bool, ◌+◌, ◌-◌, ◌^◌, ◌==◌, ◌&&◌, ◌||◌, min, if◌then◌else◌, List, [], ◌∷◌}
 use Rattle.layouts.specs.Bytes.{Bytes}
 use Rattle.layouts.specs.Items.{items_in}
-use Rattle.tls_records.specs.DtlsRecord.{RecordHeader}
-use Rattle.dtls_stream.specs.DatagramRecord.{ConnectionId, DatagramRecord, Encrypted, Plaintext, datagram_record13}
+use Rattle.raw_records.specs.RawDtlsRecord.{RecordHeader}
+use Rattle.raw_records.specs.DatagramRecord.{ConnectionId, DatagramRecord, Encrypted, Plaintext, datagram_record13}
 use Rattle.tls_detection.specs.Front.{is_datagram_version, is_within}
 use Rattle.tls_analyzer.specs.declared.datagram_records.DatagramRecordCounter.{DatagramRecordCounter}
 

@@ -5,10 +5,11 @@ use Rattle.std.specs.Str.{bytes_eq}
 use Rattle.layouts.specs.Bytes.{Bytes}
 use Rattle.layouts.specs.Meaning.{Answer}
 use Rattle.layouts.specs.Reading.{reading}
-use Rattle.tls_records.specs.DtlsRecord.{RawRecord}
+use Rattle.raw_records.specs.RawDtlsRecord.{RawRecord}
 use Rattle.dtls_stream.specs.Fragments.{Fragment, fragment}
 use Rattle.dtls_stream.specs.Messages.{Alert, ChangeCipherSpec, Encrypted, Event, Handshake, Heard, Kept, Limits, Stands, nothing as none_heard, nothing_from}
-use Rattle.dtls_stream.specs.Datagrams.{Step, datagram_record, record_step}
+use Rattle.raw_records.specs.DatagramRecord.{datagram_record}
+use Rattle.dtls_stream.specs.Datagrams.{Step, record_step}
 use Rattle.tls_flow.specs.Steps.{follow, silence}
 use Rattle.tls_flow.specs.Table.{is_failed, is_waiting, outcome_at}
 use Rattle.tls_flow.specs.declared.event.FlowEvent.{FlowEvent as Followed}
@@ -20,7 +21,7 @@ use Rattle.tls_flow.specs.Bytes.{HandshakeMessage}
 use Rattle.tls_flow.specs.declared.symbol.Kind.{Kind}
 use Rattle.tls_flow.specs.declared.state.Outcome.{Outcome}
 use Rattle.tls_summary.specs.HandshakeSummary.{HandshakeSummary, nothing, of_alert, of_datagrams, view_summary}
-use Rattle.dtls_stream.specs.Ciphertext.{Ciphertext, ciphertext}
+use Rattle.raw_records.specs.Ciphertext.{Ciphertext, ciphertext}
 use Rattle.tls_analyzer.specs.Ends.{is_13}
 use Rattle.tls_stream.specs.Events.{default_limit}
 use Rattle.tls_summary.specs.Told.{client_session_id, connection_id_length, offers_ticket, server_session_id}

@@ -2,8 +2,8 @@
 ghost use Rattle.std.specs.Prelude.{◌≡◌};
 ghost use Rattle.std.specs.Option.{option_map};
 ghost use Rattle.layouts.specs.Reading.{reading};
-ghost use Rattle.tls_records.specs.DtlsHello.{client_hello};
-ghost use Rattle.tls_records.specs.DtlsRecord.{view_raw_record};
+ghost use Rattle.dtls_records.specs.DtlsHello.{client_hello};
+ghost use Rattle.raw_records.specs.RawDtlsRecord.{view_raw_record};
 ghost use Rattle.dtls_stream.specs.Fragments.{view_fragment};
 ghost use Rattle.tls_summary.specs.HandshakeSummary.{view_summary};
 ghost use Rattle.tls_analyzer.specs.Datagrams.{first_fragment as first_in};
@@ -12,11 +12,12 @@ ghost use Rattle.tls_analyzer.specs.Another.{first_random as first, has_other_he
 use crate::datagram_records::is_known;
 use crate::datagram_side::first_fragment;
 use crate::ends::is_established;
-use dtls_stream::{Fragment, read_record};
+use dtls_records::DTLSClientHelloView;
+use dtls_stream::Fragment;
 use layouts::InPlace;
+use raw_records::{DTLSRawRecord, read_record};
 use tls_base::TlsHandshakeType;
 use tls_flow::Outcome;
-use tls_records::{DTLSClientHelloView, DTLSRawRecord};
 use tls_summary::HandshakeSummary;
 
 /// Whether this is a whole ClientHello, and the first message of its sender.

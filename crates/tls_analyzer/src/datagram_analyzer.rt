@@ -1,6 +1,6 @@
 //! The analyzer of a DTLS conversation.
 ghost use Rattle.std.specs.Prelude.{◌≡◌, IfOk, OnOk};
-ghost use Rattle.tls_records.specs.DtlsRecord.{view_raw_record};
+ghost use Rattle.raw_records.specs.RawDtlsRecord.{view_raw_record};
 ghost use Rattle.dtls_stream.specs.Fragments.{view_fragment};
 ghost use Rattle.tls_stream.specs.Conversations.{views};
 ghost use Rattle.tls_summary.specs.HandshakeSummary.{view_summary};
@@ -16,10 +16,10 @@ use crate::datagram_records::is_known;
 use crate::datagram_side::{DatagramSide, first_fragment, is_hello};
 use crate::ends;
 use crate::observer::{NoObserver, Observer};
-use dtls_stream::{Fragment, parse_dtls13_ciphertext, read_record};
+use dtls_stream::Fragment;
+use raw_records::{DTLSRawRecord, parse_dtls13_ciphertext, read_record};
 use std::alloc::{AllocError, Global};
 use tls_flow::{Direction, Flow, Outcome, Stop};
-use tls_records::DTLSRawRecord;
 use tls_summary::HandshakeSummary;
 
 /// Analyzes both sides of a DTLS conversation (RFC 6347, RFC 9147), datagram by datagram: whether

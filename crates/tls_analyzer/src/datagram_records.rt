@@ -1,12 +1,11 @@
 //! Counts the records of datagrams.
 ghost use Rattle.std.specs.Prelude.{◌≡◌};
-ghost use Rattle.tls_records.specs.DtlsRecord.{view_header};
-ghost use Rattle.dtls_stream.specs.DatagramRecord.{view_datagram_record};
+ghost use Rattle.raw_records.specs.RawDtlsRecord.{view_header};
+ghost use Rattle.raw_records.specs.DatagramRecord.{view_datagram_record};
 ghost use Rattle.tls_analyzer.specs.DatagramRecords.{is_known as is_known_header, is_record as is_record_of, no_datagrams, with_datagram};
 
-use dtls_stream::DatagramRecord;
+use raw_records::{DTLSRecordHeader, DatagramRecord, DatagramRecords};
 use tls_detection::is_datagram_version;
-use tls_records::DTLSRecordHeader;
 
 /// The content type of acknowledgments (RFC 9147, section 7).
 const ACK: u8 = 26;
@@ -57,7 +56,7 @@ impl DatagramRecordCounter {
     pub fn add(&mut self, datagram: &[u8], connection_id_len: usize, is_13: bool)
         ensures { self.new ≡ with_datagram is_13 connection_id_len datagram.now self.old }
     {
-        for record in dtls_stream::DatagramRecords::new(datagram, connection_id_len) {
+        for record in DatagramRecords::new(datagram, connection_id_len) {
             if !is_record(&record, is_13) {
                 return;
             }

@@ -1,7 +1,7 @@
 //! One side of a DTLS association.
 ghost use Rattle.std.specs.Prelude.{◌≡◌, OnOk, nat_lt, not};
 ghost use Rattle.std.specs.Option.{option_map};
-ghost use Rattle.tls_records.specs.DtlsRecord.{view_raw_record};
+ghost use Rattle.raw_records.specs.RawDtlsRecord.{view_raw_record};
 ghost use Rattle.dtls_stream.specs.Fragments.{view_fragment};
 ghost use Rattle.dtls_stream.specs.Messages.{Heard, Stands};
 ghost use Rattle.tls_analyzer.specs.Datagrams.{IsSameSide, IsSpoken, SpeakerHears, Spoken, allowed, begun, epoch_of, first_fragment as first, is_behind_front as is_behind, is_hello as hello, none_spoken};
@@ -9,10 +9,10 @@ ghost use Rattle.tls_analyzer.specs.Datagrams.{IsSameSide, IsSpoken, SpeakerHear
 use crate::account::{Account, Progress};
 use crate::observer::Observer;
 use dtls_stream::{DEFAULT_LIMITS, Fragment, Messages, parse_dtls_fragment, read_record_events};
+use raw_records::DTLSRawRecord;
 use std::alloc::{AllocError, Global};
 use tls_base::{TlsHandshakeType, TlsRecordType};
 use tls_flow::Direction;
-use tls_records::DTLSRawRecord;
 
 /// The state of one side.
 #[derive(Drop)]

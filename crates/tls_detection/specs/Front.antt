@@ -3,9 +3,9 @@ use Rattle.std.specs.Prelude.{ℕ, Bool, false, ◌&&◌, ◌||◌, ◌==◌, na
 use Rattle.layouts.specs.Bytes.{Bytes}
 use Rattle.layouts.specs.Meaning.{Answer}
 use Rattle.layouts.specs.Reading.{reading}
-use Rattle.tls_records.specs.Framing.{max_fragment_length}
-use Rattle.tls_records.specs.Record as stream
-use Rattle.tls_records.specs.DtlsRecord as datagram
+use Rattle.raw_records.specs.Framing.{max_fragment_length}
+use Rattle.raw_records.specs.RawRecord as stream
+use Rattle.raw_records.specs.RawDtlsRecord as datagram
 
 abbrev pub is_within : ℕ → ℕ → ℕ → Bool
 is_within least most n = nat_le least n && nat_le n most

@@ -1,11 +1,11 @@
 //! Whether bytes begin like TLS or DTLS.
 ghost use Rattle.std.specs.Prelude.{◌≡◌};
 ghost use Rattle.layouts.specs.Reading.{reading};
-ghost use Rattle.tls_records.specs.DtlsRecord as datagram;
-ghost use Rattle.tls_records.specs.Record as stream;
+ghost use Rattle.raw_records.specs.RawDtlsRecord as datagram;
+ghost use Rattle.raw_records.specs.RawRecord as stream;
 ghost use Rattle.tls_detection.specs.Front.{begins_tls as begins, epoch_in, has_capwap_header as has_capwap_header_in, held_datagram as held_datagram_of, is_front, is_datagram_version as is_version_of_datagrams, is_front_of_datagram, first_message as first, looks_like_tls as looks};
 
-use tls_records::{
+use raw_records::{
     DTLSRecordHeader, MAX_RECORD_LEN, TlsRecordHeader, parse_dtls_record_header,
     parse_tls_record_header,
 };

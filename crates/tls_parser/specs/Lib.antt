@@ -1,12 +1,12 @@
-pub use Rattle.tls_records.specs.Framing
+pub use Rattle.raw_records.specs.Framing
 pub use Rattle.tls_records.specs.Record
 pub use Rattle.tls_records.specs.InPlace
 pub use Rattle.tls_records.specs.RecordText
 pub use Rattle.tls_records.specs.RecordWriter
-pub use Rattle.tls_records.specs.DtlsHello
-pub use Rattle.tls_records.specs.DtlsHandshake
-pub use Rattle.tls_records.specs.DtlsRecord
-pub use Rattle.tls_records.specs.DtlsInPlace
+pub use Rattle.dtls_records.specs.DtlsHello
+pub use Rattle.dtls_records.specs.DtlsHandshake
+pub use Rattle.dtls_records.specs.DtlsRecord
+pub use Rattle.dtls_records.specs.DtlsInPlace
 pub use Rattle.layouts.specs.Bytes
 pub use Rattle.layouts.specs.Layout
 pub use Rattle.layouts.specs.Meaning

@@ -4,10 +4,10 @@ use Rattle.layouts.specs.Layout.{done, number, block, chain, test}
 use Rattle.layouts.specs.Meaning.{EndsWith}
 use Rattle.layouts.proofs.EndLemmas.{ends, ends_after}
 use Rattle.layouts.specs.declared.result.ErrorKind.TheVariants.{TooLarge}
-use Rattle.tls_records.specs.Framing.{max_fragment_length}
+use Rattle.raw_records.specs.Framing.{max_fragment_length}
 use Rattle.tls_records.specs.Record as tls
-use Rattle.tls_records.specs.DtlsRecord as dtls
-use Rattle.tls_records.specs.DtlsInPlace.{RawHandshake, raw_handshake}
+use Rattle.dtls_records.specs.DtlsRecord as dtls
+use Rattle.dtls_records.specs.DtlsInPlace.{RawHandshake, raw_handshake}
 use Rattle.tls_places.specs.Last.{LastStands, StandsLast}
 use Rattle.tls_places.proofs.LastLemmas.{allowed_last, behind, block_last, chain_last, made_last}
 

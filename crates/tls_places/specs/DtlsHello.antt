@@ -1,7 +1,7 @@
 -- The places of the parts of a DTLS ClientHello in its body.
 use Rattle.std.specs.Option.{option_map}
 use Rattle.layouts.specs.Bytes.{Bytes}
-use Rattle.tls_records.specs.declared.dtls.hello_view.DTLSClientHelloView.{DTLSClientHelloView}
+use Rattle.dtls_records.specs.declared.hello_view.DTLSClientHelloView.{DTLSClientHelloView}
 use Rattle.tls_places.specs.Place.{Stands, MayStand}
 use Rattle.tls_places.specs.declared.dtls_hello.DtlsClientHelloPlaces.{DtlsClientHelloPlaces}
 

@@ -3,13 +3,13 @@
 
 ghost use Rattle.std.specs.Prelude.{IfOk};
 ghost use Rattle.layouts.specs.Answers.{Gives};
-ghost use Rattle.tls_records.specs.DtlsHello.{client_hello};
-ghost use Rattle.tls_records.specs.DtlsInPlace.{view_client_hello_in_place};
+ghost use Rattle.dtls_records.specs.DtlsHello.{client_hello};
+ghost use Rattle.dtls_records.specs.DtlsInPlace.{view_client_hello_in_place};
 ghost use Rattle.tls_places.specs.DtlsHello.{DtlsClientHelloStands};
 
+use dtls_records::DTLSClientHelloView;
 use layouts::{IResult, Place};
 use tls_hs::parts::{client_hello_fields, client_hello_places_in};
-use tls_records::DTLSClientHelloView;
 
 /// An empty place.
 const NOWHERE: Place = Place {
@@ -36,7 +36,7 @@ pub struct DtlsClientHelloPlaces {
 
 /// Parses the body of a DTLS ClientHello as [`DTLSClientHelloView::parse`] does, with the places of
 /// its parts in `whole`.
-#[tactic(auto, using(layouts::proofs::OneAnswerLemmas::read_allowed), unfolding(tls_records::specs::DtlsHello::client_hello))]
+#[tactic(auto, using(layouts::proofs::OneAnswerLemmas::read_allowed), unfolding(dtls_records::specs::DtlsHello::client_hello))]
 pub fn dtls_client_hello_with_places(
     whole: &[u8],
 ) -> IResult<&[u8], (DTLSClientHelloView, DtlsClientHelloPlaces)>

@@ -3,7 +3,7 @@
 
 ghost use Rattle.layouts.specs.Answers.{Gives};
 ghost use Rattle.tls_records.specs.Record as tls;
-ghost use Rattle.tls_records.specs.DtlsRecord as dtls;
+ghost use Rattle.dtls_records.specs.DtlsRecord as dtls;
 
 use crate::frame::ContentItem;
 use layouts::{ErrorKind, IResult, InPlace, block, refused};
@@ -58,7 +58,7 @@ impl<'a> InPlace<'a> for DtlsRecord {
 
     ghost layout = { dtls.raw_record };
 
-    #[tactic(auto, using(layouts::proofs::OneAnswerLemmas::read_allowed), unfolding(tls_records::specs::DtlsRecord::raw_record))]
+    #[tactic(auto, using(layouts::proofs::OneAnswerLemmas::read_allowed), unfolding(raw_records::specs::RawDtlsRecord::raw_record))]
     #[inline(always)]
     fn read(i: &'a [u8]) -> IResult<&'a [u8], DTLSRawRecord<'a>> {
         let (i, header) = parse_dtls_record_header(i)?;

@@ -10,9 +10,10 @@ use Rattle.layouts.proofs.LackingLemmas.{never-list1}
 use Rattle.layouts.proofs.StableLemmas.{decides, counts_down, counting_is_stable}
 use Rattle.tls_hs.specs.Message.{Message, ApplicationData, change_cipher_spec, alert, handshake, application_data}
 use Rattle.tls_hs.specs.Message.{heartbeat}
-use Rattle.tls_records.specs.Record.{RecordHeader, RawRecord, Plaintext, record_header, raw_record, record_content}
-use Rattle.tls_records.specs.Record.{plaintext}
-use Rattle.tls_records.proofs.FramedLemmas.{raw_counts, framed_counts}
+use Rattle.raw_records.specs.RawRecord.{RecordHeader, record_header}
+use Rattle.tls_records.specs.Record.{Plaintext, record_content, plaintext}
+use Rattle.raw_records.proofs.FramedLemmas.{framed_counts}
+use Rattle.raw_records.proofs.FurtherLemmas.{raw_of, header_counts}
 
 pub application_data_never_lacks : NeverLacks application_data
 unfolding application_data
@@ -47,37 +48,11 @@ content_never_lacks h =
 abbrev pub whole_of : RecordHeader → List Message → Plaintext
 whole_of h m = record { header = h; messages = m }
 
-abbrev pub raw_of : RecordHeader → Bytes → RawRecord
-raw_of h f = record { header = h; fragment = f }
-
-header_counts : CountsMissing record_header
-unfolding record_header
-header_counts = (tt, λ k. (tt, λ v. (tt, λ n. tt)))
-
-pub raw_record_counts : CountsMissing raw_record
-unfolding raw_record
-raw_record_counts =
-    raw_counts record_header (λ h. h.length) record_content whole_of raw_of header_counts
-
 plaintext_counts : CountsMissing plaintext
 unfolding plaintext
 plaintext_counts =
     framed_counts record_header (λ h. h.length) record_content whole_of raw_of content_never_lacks
     header_counts
-
-pub header_decides : (b s : Bytes) → AreBytes b → AreBytes s → Decides record_header b s
-header_decides b s are more =
-    decides record_header (counting_is_stable record_header header_counts) b s are more
-
-pub header_counts_down : (b s : Bytes) → AreBytes b → AreBytes s → CountsDown record_header b s
-header_counts_down b s are more = counts_down record_header header_counts b s are more
-
-pub raw_record_decides : (b s : Bytes) → AreBytes b → AreBytes s → Decides raw_record b s
-raw_record_decides b s are more =
-    decides raw_record (counting_is_stable raw_record raw_record_counts) b s are more
-
-pub raw_record_counts_down : (b s : Bytes) → AreBytes b → AreBytes s → CountsDown raw_record b s
-raw_record_counts_down b s are more = counts_down raw_record raw_record_counts b s are more
 
 pub plaintext_decides : (b s : Bytes) → AreBytes b → AreBytes s → Decides plaintext b s
 plaintext_decides b s are more =

@@ -28,13 +28,13 @@ use Rattle.layouts.specs.Bytes.{Bytes}
 use Rattle.layouts.specs.Layout.{Layout, list1, mapped, complete}
 use Rattle.layouts.specs.Meaning.{Refusal, Answer, Broken, Lacks}
 use Rattle.layouts.specs.Reading.{reading, split_at, completed, ◌and_then◌}
-use Rattle.layouts.specs.Items.{items_in, left_in, decode_while, with_decoded, list_read, value_of, told, Tells}
+use Rattle.layouts.specs.Items.{items_in, decode_while, with_decoded, list_read, value_of, Tells}
 use Rattle.layouts.specs.Framed.{Framed}
 use Rattle.layouts.specs.declared.result.Error.{Error}
 use Rattle.layouts.specs.declared.result.Err.{Err as Failed}
-use Rattle.layouts.proofs.LeavesLemmas.{LeavesFewer, takes_byte}
+use Rattle.layouts.proofs.LeavesLemmas.{takes_byte}
 use Rattle.layouts.proofs.OneAnswerLemmas.{ltb_no}
-use Rattle.layouts.proofs.ItemsLemmas.{items_first, items_decoded}
+use Rattle.layouts.proofs.ItemsLemmas.{items_decoded}
 use Rattle.layouts.proofs.FramedLemmas.{framed_decodes}
 use Rattle.tls_base.specs.Alert as alerts
 use Rattle.tls_hs.specs.Handshake.{handshake_body}
@@ -42,7 +42,8 @@ use Rattle.tls_hs.specs.Message as message
 use Rattle.tls_hs.specs.Message.{Message, change_cipher_spec, alert, handshake, application_data, heartbeat}
 use Rattle.tls_hs.specs.InPlace.{raw_handshake, handshake_of}
 use Rattle.tls_hs.specs.Messages.{Whole, Handshake, message_of, messages_of_type}
-use Rattle.tls_records.specs.InPlace.{judged, first_judged, as_complete}
+use Rattle.raw_records.specs.First.{judged, first_judged}
+use Rattle.raw_records.proofs.FirstLemmas.{with_value, told_value, list_told}
 use Rattle.tls_records.specs.Record.{
   RecordHeader,
   RawRecord,
@@ -53,54 +54,6 @@ use Rattle.tls_records.specs.Record.{
   read_content,
 }
 use Rattle.tls_records.proofs.ContentLemmas.{plaintext_is_raw_then_content}
-
-pub first_is_read : {A : Type 0} (l : Layout A) (b : Bytes) (v : A) (r : Bytes)
-    → reading l b ≡ Ok (v, r)
-    → first_judged l b ≡ Ok tt
-first_is_read l b v r e = ap (λ a. judged (completed a)) e
-
-refused_whole : (A : Type 0) (e : Refusal)
-    → judged {A = A} (completed {A = A} (Err e)) ≡ Err (as_complete e)
-refused_whole A (Broken k) = refl
-refused_whole A (Lacks n) = refl
-
-pub first_is_refused : {A : Type 0} (l : Layout A) (b : Bytes) (e : Refusal) → reading l b ≡ Err e
-    → first_judged l b ≡ Err (as_complete e)
-first_is_refused {A} l b e f = ap (λ a. judged (completed a)) f ∙ refused_whole A e
-
--- the value, if the check passed
-abbrev pub with_value : {A : Type 0} → Result Unit Refusal → A → Result A Refusal
-with_value (Ok u) x = Ok x
-with_value (Err e) x = Err e
-
-told_value : {A : Type 0} (a : Result Unit Refusal) (x : A)
-    (r : Result Unit (Failed (Error (Bor (List ℕ)))))
-    → Tells (λ u. tt) a r → Tells (λ u. x) (with_value a x) r
-told_value a x (Ok u) t = record { answers = tt; is = ap (λ y. with_value y x) t.is }
-told_value a x (Err e) t = record { answers = t.answers; is = ap (λ y. with_value y x) t.is }
-
--- one or more items, checked by the first
-list_value : {A : Type 0} (l : Layout A) (b : Bytes) → LeavesFewer (length b) (reading l b)
-    → value_of (reading (list1 l) b) ≡ with_value (first_judged l b) (items_in l b)
-list_value {A} l b fewer = go (reading l b) refl fewer
-  where
-    go : (a : Answer A) → reading l b ≡ a → LeavesFewer (length b) a
-        → value_of (◌and_then◌ {Y = List A × Bytes} (completed a)
-        (λ x. Ok ((x.0 ∷ []) ++ items_in l x.1, left_in l x.1))) ≡ with_value (judged
-        (completed a)) (items_in l b)
-    go (Ok x) e short = ap Ok (sym (items_first l b x.0 x.1 e short))
-    go (Err (Broken k)) e short = refl
-    go (Err (Lacks n)) e short = refl
-
-pub list_told : {A : Type 0} (l : Layout A) (b : Bytes) (xs : List A)
-    → LeavesFewer (length b) (reading l b)
-    → items_in l b ≡ xs
-    → (r : Result Unit (Failed (Error (Bor (List ℕ))))) → Tells (λ u. tt) (first_judged l b) r
-    → Tells (λ u. xs) (value_of (reading (list1 l) b)) r
-list_told l b xs fewer same r t =
-    subst (λ y. Tells (λ u. xs) y r)
-    (sym (list_value l b fewer ∙ ap (λ ys. with_value (first_judged l b) ys) same))
-    (told_value (first_judged l b) xs r t)
 
 -- messages that need no decoding, and handshake messages that are decoded
 whole : (xs : List Message) → xs ≡ decode_while message_of (map Whole xs)

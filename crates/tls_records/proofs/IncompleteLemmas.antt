@@ -6,13 +6,13 @@ use Rattle.layouts.specs.Meaning.{Lacks, Allows}
 use Rattle.layouts.specs.Reading.{reading}
 use Rattle.layouts.specs.Answers.{Returned, GivesOrMemory, MemorySufficed}
 use Rattle.layouts.proofs.LeavesLemmas.{LeavesFewer, takes_byte}
-use Rattle.tls_records.specs.Framing.{HasNoRecord, NeedsMore, IsIncomplete}
-use Rattle.tls_records.specs.Record.{Plaintext, record_header, record_content, raw_record, plaintext}
-use Rattle.tls_records.specs.DtlsRecord as dtls
-use Rattle.tls_records.proofs.HeaderLemmas.{short_header, long_header, dtls_short_header, dtls_long_header}
-use Rattle.tls_records.proofs.WholeLemmas.{record_lacks, no_record_refused, incomplete_returned}
-use Rattle.tls_records.proofs.FurtherLemmas.{content_never_lacks, whole_of, raw_of}
-use Rattle.tls_records.proofs.DtlsFurtherLemmas as dtls_further
+use Rattle.raw_records.specs.Framing.{HasNoRecord, NeedsMore, IsIncomplete}
+use Rattle.raw_records.specs.RawRecord.{record_header, raw_record}
+use Rattle.tls_records.specs.Record.{Plaintext, record_content, plaintext}
+use Rattle.raw_records.proofs.HeaderLemmas.{short_header, long_header}
+use Rattle.raw_records.proofs.WholeLemmas.{record_lacks, no_record_refused, incomplete_returned}
+use Rattle.raw_records.proofs.FurtherLemmas.{raw_of}
+use Rattle.tls_records.proofs.FurtherLemmas.{content_never_lacks, whole_of}
 
 pub plaintext_lacks : (b : Bytes) → AreBytes b → ((n : ℕ) × Allows plaintext b (Err (Lacks n)))
     ↔ NeedsMore 5 b
@@ -22,27 +22,12 @@ plaintext_lacks b are =
     short_header
     long_header b are
 
-pub dtls_plaintext_lacks : (b : Bytes) → AreBytes b
-    → ((n : ℕ) × Allows dtls.plaintext b (Err (Lacks n))) ↔ NeedsMore 13 b
-unfolding dtls.plaintext
-dtls_plaintext_lacks b are =
-    record_lacks dtls.record_header (λ h. h.length) dtls.record_content dtls_further.whole_of
-    dtls_further.raw_of 13
-    dtls_further.content_never_lacks dtls_short_header dtls_long_header b are
-
 raw_record_refused : (b : Bytes) → HasNoRecord 5 b → IsErr (reading raw_record b)
 unfolding raw_record
 raw_record_refused b un =
     no_record_refused record_header (λ h. h.length) record_content whole_of raw_of 5
     content_never_lacks short_header
     long_header b un
-
-dtls_raw_record_refused : (b : Bytes) → HasNoRecord 13 b → IsErr (reading dtls.raw_record b)
-unfolding dtls.raw_record
-dtls_raw_record_refused b un =
-    no_record_refused dtls.record_header (λ h. h.length) dtls.record_content dtls_further.whole_of
-    dtls_further.raw_of
-    13 dtls_further.content_never_lacks dtls_short_header dtls_long_header b un
 
 needs_none : (n : ℕ) (b : Bytes) → NeedsMore n b → HasNoRecord n b
 needs_none n b needs = inl needs.0
@@ -61,25 +46,8 @@ plaintext_incomplete view b r are g memory =
     incomplete_returned view plaintext b (NeedsMore 5 b) r are (plaintext_lacks b are) g
     (λ needs. memory (raw_record_refused b (needs_none 5 b needs)))
 
-pub dtls_plaintext_memory : {X : Type 0} (b : Bytes) (r : Returned X)
-    → (IsErr (reading dtls.raw_record b) → MemorySufficed r) → HasNoRecord 13 b → MemorySufficed r
-dtls_plaintext_memory b r memory un = memory (dtls_raw_record_refused b un)
-
-pub dtls_plaintext_incomplete : {X : Type 0} (view : X → dtls.Plaintext) (b : Bytes)
-    (r : Returned X) → AreBytes b
-    → GivesOrMemory view dtls.plaintext b r → (IsErr (reading dtls.raw_record b) → MemorySufficed r)
-    → IsIncomplete r ↔ NeedsMore 13 b
-dtls_plaintext_incomplete view b r are g memory =
-    incomplete_returned view dtls.plaintext b (NeedsMore 13 b) r are (dtls_plaintext_lacks b are) g
-    (λ needs. memory (dtls_raw_record_refused b (needs_none 13 b needs)))
-
 -- A record that is read consumes a byte.
 pub plaintext_takes : (b r : Bytes) (p : Plaintext) → reading plaintext b ≡ Ok (p, r)
     → length r < length b
 unfolding plaintext record_header
 plaintext_takes b r p e = subst (LeavesFewer (length b)) e (takes_byte plaintext b tt)
-
-pub dtls_plaintext_takes : (b r : Bytes) (p : dtls.Plaintext) → reading dtls.plaintext b ≡ Ok (p, r)
-    → length r < length b
-unfolding dtls.plaintext dtls.record_header
-dtls_plaintext_takes b r p e = subst (LeavesFewer (length b)) e (takes_byte dtls.plaintext b tt)

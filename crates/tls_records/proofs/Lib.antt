@@ -1,14 +1,6 @@
-pub mod CounterLemmas
-pub mod FramedLemmas
 pub mod ContentLemmas
-pub mod HeaderLemmas
-pub mod WholeLemmas
 pub mod FurtherLemmas
-pub mod DtlsFurtherLemmas
 pub mod IncompleteLemmas
 pub mod NoMoreLemmas
-pub mod RawRecordLemmas
 pub mod RecordTextLemmas
-pub mod CallerLemmas
 pub mod InPlaceLemmas
-pub mod DtlsInPlaceLemmas

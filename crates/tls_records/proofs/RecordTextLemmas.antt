@@ -26,7 +26,7 @@ use Rattle.tls_hs.specs.Message as message
 use Rattle.tls_hs.specs.Handshake.{Handshake}
 use Rattle.tls_hs.specs.HandshakeText.{msg_type_of, body_text}
 use Rattle.tls_hs.proofs.HandshakeTextLemmas.{handshake_reads, handshake_whole}
-use Rattle.tls_records.specs.Framing.{max_fragment_length}
+use Rattle.raw_records.specs.Framing.{max_fragment_length}
 use Rattle.tls_records.specs.Record.{RecordHeader, Plaintext, record_header, record_content, plaintext}
 use Rattle.tls_records.specs.RecordText.{message_text, FitsMessage, InRangeMessage, normal_message, IsWrittenBackMessage}
 use Rattle.tls_records.specs.RecordText.{IsReadableIn, plaintext_text, FitsPlaintext, RefusesPlaintext, InRangePlaintext}

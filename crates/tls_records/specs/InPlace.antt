@@ -1,20 +1,20 @@
 -- Records in place.
 use Rattle.std.specs.Prelude.{ℕ, List, Option, Some, None, Result, Ok, Err, ◌==◌, if◌then◌else◌}
 use Rattle.layouts.specs.Bytes.{Bytes}
-use Rattle.layouts.specs.Layout.{Layout}
-use Rattle.layouts.specs.Meaning.{Refusal, Broken, Lacks, Answer}
-use Rattle.layouts.specs.declared.result.ErrorKind.TheVariants.{Complete}
-use Rattle.layouts.specs.Reading.{reading, completed}
-use Rattle.layouts.specs.Items.{items_in, refusal_in, decode_while, value_of}
+use Rattle.layouts.specs.Meaning.{Refusal, Answer}
+use Rattle.layouts.specs.Reading.{reading}
+use Rattle.layouts.specs.Items.{items_in, refusal_in, decode_while}
 use Rattle.layouts.specs.Text.{held}
 use Rattle.tls_hs.specs.Hello.{ClientHello, client_hello}
 use Rattle.tls_hs.specs.InPlace.{raw_handshake}
 use Rattle.tls_hs.specs.Message.{Message}
 use Rattle.tls_hs.specs.Messages.{message_of, messages_of_type, raw_messages}
 use Rattle.tls_ext.specs.InPlace.{first_of, found, host_name}
-use Rattle.tls_records.specs.Record.{RecordHeader, RawRecord, Plaintext, raw_record, record_content, view_header}
+pub use Rattle.raw_records.specs.First.{judged, first_judged, as_complete}
+use Rattle.raw_records.specs.RawRecord.{RawRecord, raw_record, view_header}
+use Rattle.tls_records.specs.Record.{Plaintext}
 use Rattle.tls_records.specs.declared.plaintext_view.PlaintextView.{PlaintextView}
-use Rattle.tls_records.specs.declared.record.TlsRecordHeader.{TlsRecordHeader}
+use Rattle.raw_records.specs.declared.record.TlsRecordHeader.{TlsRecordHeader}
 
 -- The value of a record in place: its messages are the decoded ones, up to the first that is
 -- refused.
@@ -27,14 +27,6 @@ view_plaintext_in_place p = record {
 -- The decoded messages of a fragment after this header.
 abbrev pub messages_of_fragment : TlsRecordHeader → Bytes → List Message
 messages_of_fragment h b = decode_while message_of (messages_of_type h.record_type.0 h.len b)
-
--- Whether an item is read, if no further bytes follow.
-abbrev pub judged : {A : Type 0} → Answer A → Result Unit Refusal
-judged (Ok x) = Ok tt
-judged (Err e) = Err e
-
-abbrev pub first_judged : {A : Type 0} → Layout A → Bytes → Result Unit Refusal
-first_judged l b = judged (completed (reading l b))
 
 -- The body of the first handshake message with this type. If there is none, the refusal that ended
 -- the messages before the end of their bytes, if there was one.
@@ -59,8 +51,3 @@ name_in_record (Err e) = Err e
 -- The host name in the first ClientHello of the record at the start of b.
 abbrev pub host_name_of_record : Bytes → Result (Option Bytes) Refusal
 host_name_of_record b = name_in_record (reading raw_record b)
-
--- The refusal of a part that is complete: no further bytes can follow.
-abbrev pub as_complete : Refusal → Refusal
-as_complete (Broken k) = Broken k
-as_complete (Lacks n) = Broken Complete

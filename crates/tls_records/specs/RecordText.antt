@@ -11,7 +11,7 @@ use Rattle.layouts.specs.declared.writer.GenError.TheVariants.{NotYetImplemented
 use Rattle.tls_hs.specs.HandshakeText.{handshake_text, FitsHandshake, InRangeHandshake, refusal_of_handshake}
 use Rattle.tls_hs.specs.HandshakeText.{IsReadableHandshake, normal_handshake, IsWrittenBack}
 use Rattle.tls_hs.specs.Message.{Message, Handshake, ChangeCipherSpec}
-use Rattle.tls_records.specs.Framing.{max_fragment_length}
+use Rattle.raw_records.specs.Framing.{max_fragment_length}
 use Rattle.tls_records.specs.Record.{Plaintext, plaintext}
 
 -- A message. A ChangeCipherSpec is the byte 1 (RFC 5246, section 7.1). Kinds that the writer

@@ -6,14 +6,14 @@ ghost use Rattle.layouts.specs.Meaning.{AllowsOne};
 ghost use Rattle.layouts.specs.Reading.{reading};
 ghost use Rattle.layouts.specs.Answers.{Gives, GivesOrMemory, MemorySufficed};
 ghost use Rattle.tls_hs.specs.Message.{Message, view_message, change_cipher_spec, alert, handshake, application_data, heartbeat};
-ghost use Rattle.tls_records.specs.Framing.{AsksNoMore, HasNoRecord, NeedsMore, IsIncomplete};
+ghost use Rattle.raw_records.specs.Framing.{AsksNoMore, HasNoRecord, NeedsMore, IsIncomplete};
 ghost use Rattle.tls_records.specs.RecordText.{WritesBack};
-ghost use Rattle.tls_records.specs.Record.{Plaintext, view_header, raw_record, record_content, view_plaintext};
-ghost use Rattle.tls_records.specs.Record.{plaintext};
+ghost use Rattle.raw_records.specs.RawRecord.{view_header, raw_record};
+ghost use Rattle.tls_records.specs.Record.{Plaintext, record_content, view_plaintext, plaintext};
 
-use crate::content::{Alert, ChangeCipherSpec, Handshake, Protocol};
-use crate::record::{TlsRawRecord, TlsRecordHeader, parse_tls_raw_record};
 use layouts::{Err, ErrorKind, IResult, Item, OutOfMemory, Room, hops2, items1, refused};
+use raw_records::content::{Alert, ChangeCipherSpec, Handshake, Protocol};
+use raw_records::{TlsRawRecord, TlsRecordHeader, parse_tls_raw_record};
 use std::alloc::Global;
 use tls_base::TlsRecordType;
 use tls_hs::{

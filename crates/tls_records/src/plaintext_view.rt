@@ -3,16 +3,18 @@
 
 ghost use Rattle.std.specs.Prelude.{◌≡◌};
 ghost use Rattle.std.specs.Option.{option_map};
-ghost use Rattle.layouts.specs.Answers.{Gives, IsRefusal, refusal_of};
+ghost use Rattle.layouts.specs.Answers.{Gives};
 ghost use Rattle.layouts.specs.Items.{Tells, decode_while, value_of};
 ghost use Rattle.layouts.specs.Reading.{reading};
 ghost use Rattle.tls_hs.specs.Message.{heartbeat as heartbeat_layout};
 ghost use Rattle.tls_hs.specs.Messages.{message_of, raw_messages};
-ghost use Rattle.tls_records.specs.InPlace.{as_complete, body_of_type, first_judged as first_judged_of, host_name_of_record, messages_of_fragment, view_plaintext_in_place};
-ghost use Rattle.tls_records.specs.Record.{plaintext, record_content, view_header};
+ghost use Rattle.raw_records.specs.First.{first_judged as first_judged_of};
+ghost use Rattle.raw_records.specs.RawRecord.{view_header};
+ghost use Rattle.tls_records.specs.InPlace.{body_of_type, host_name_of_record, messages_of_fragment, view_plaintext_in_place};
+ghost use Rattle.tls_records.specs.Record.{plaintext, record_content};
 
-use crate::record::{TlsRawRecord, TlsRecordHeader, parse_tls_raw_record};
-use layouts::{Err, Error, ErrorKind, IResult, InPlace, Items};
+use layouts::{Err, Error, ErrorKind, IResult, Items};
+use raw_records::{TlsRawRecord, TlsRecordHeader, completed, first_judged, parse_tls_raw_record};
 use tls_base::{TlsHandshakeType, TlsRecordType};
 use tls_ext::server_name;
 use tls_hs::{
@@ -30,37 +32,8 @@ pub struct PlaintextView<'a> {
     pub msg: Messages<'a>,
 }
 
-/// Returns the refusal of a part that is complete: `Incomplete` becomes `Complete`, since no
-/// further bytes can follow.
-#[inline(always)]
-pub(crate) fn completed<'a>(i: &'a [u8], e: Err<Error<&'a [u8]>>) -> Err<Error<&'a [u8]>>
-    ensures { IsRefusal e.entry
-        → IsRefusal result × (refusal_of result ≡ as_complete (refusal_of e.entry)) }
-{
-    match e {
-        Err::Incomplete(_) => Err::Error(Error {
-            input: i,
-            code: ErrorKind::Complete,
-        }),
-        e => e,
-    }
-}
-
-/// Checks the first item of `i`, which is complete. Refuses as the item, with `Incomplete` turned
-/// into `Error` of kind `Complete`.
-#[tactic(auto, using(crate::proofs::InPlaceLemmas::first_is_read, crate::proofs::InPlaceLemmas::first_is_refused))]
-#[inline(always)]
-pub(crate) fn first_judged<'a, T: InPlace<'a>>(i: &'a [u8]) -> Result<(), Err<Error<&'a [u8]>>>
-    ensures { Tells (λ u. tt) (first_judged_of T.layout i.now) result }
-{
-    match T::read(i) {
-        Ok(_) => Ok(()),
-        Err(e) => Err(completed(i, e)),
-    }
-}
-
 /// Checks a Heartbeat message in a record of this length, as [`first_judged`].
-#[tactic(auto, using(crate::proofs::InPlaceLemmas::first_is_read, crate::proofs::InPlaceLemmas::first_is_refused))]
+#[tactic(auto, using(raw_records::proofs::FirstLemmas::first_is_read, raw_records::proofs::FirstLemmas::first_is_refused))]
 #[inline(always)]
 fn heartbeat_judged(i: &[u8], len: u16) -> Result<(), Err<Error<&[u8]>>>
     ensures { Tells (λ u. tt) (first_judged_of (heartbeat_layout len) i.now) result }

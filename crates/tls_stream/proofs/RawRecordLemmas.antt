@@ -40,16 +40,16 @@ use Rattle.layouts.specs.Answers.{Returned, Gives}
 use Rattle.layouts.specs.declared.result.ErrorKind.TheVariants.{TooLarge}
 use Rattle.layouts.specs.declared.result.Err.TheVariants as failed
 use Rattle.layouts.specs.declared.result.Needed.TheVariants as needed
-use Rattle.tls_records.specs.Record.{RecordHeader, RawRecord, raw_record}
-use Rattle.tls_records.specs.Framing.{max_fragment_length, fragment_length, IsTooLarge, IsWhole, NeedsMore, IsIncomplete}
-use Rattle.tls_records.proofs.FurtherLemmas.{raw_of}
-use Rattle.tls_records.proofs.HeaderLemmas.{short_header, long_header}
+use Rattle.raw_records.specs.RawRecord.{RecordHeader, RawRecord, raw_record}
+use Rattle.raw_records.specs.Framing.{max_fragment_length, fragment_length, IsTooLarge, IsWhole, NeedsMore, IsIncomplete}
+use Rattle.raw_records.proofs.FurtherLemmas.{raw_of}
+use Rattle.raw_records.proofs.HeaderLemmas.{short_header, long_header}
 use Rattle.tls_stream.specs.Records.{IsRefusedAsTooLarge, front_of, record_frame}
 use Rattle.tls_stream.specs.Frames as frames
 use Rattle.tls_stream.specs.Frames.{front, size, body_length}
 use Rattle.tls_stream.proofs.FrontLemmas.{front_fewer, large_longer, whole_front, none_large, none_part}
-use Rattle.tls_records.specs.Record.{IsInFront, record_bytes}
-use Rattle.tls_records.proofs.RawRecordLemmas.{record_in_front}
+use Rattle.raw_records.specs.RawRecord.{IsInFront, record_bytes}
+use Rattle.raw_records.proofs.RawRecordLemmas.{record_in_front}
 use Rattle.std.proofs.Math.Seq.{drop-append_seam}
 use Rattle.std.proofs.lemmas.List.{length-take-le}
 

@@ -25,7 +25,7 @@ use Rattle.layouts.specs.Bytes.{Bytes}
 use Rattle.layouts.specs.declared.result.ErrorKind.{ErrorKind}
 use Rattle.layouts.specs.declared.result.ErrorKind.TheVariants.{TooLarge, Switch, Verify}
 use Rattle.tls_base.specs.Alert as alerts
-use Rattle.tls_records.specs.Framing.{max_encrypted_length, max_fragment_length}
+use Rattle.raw_records.specs.Framing.{max_encrypted_length, max_fragment_length}
 use Rattle.tls_stream.specs.Frames.{Kind, Shape, up_to, body_length}
 use Rattle.tls_stream.specs.Records as frames
 use Rattle.tls_stream.specs.declared.fault.Fault.{Fault}

@@ -13,5 +13,5 @@ pub use Rattle.layouts.specs.Bytes
 pub use Rattle.layouts.specs.Meaning
 pub use Rattle.layouts.specs.Reading
 pub use Rattle.tls_base.specs.Alert
-pub use Rattle.tls_records.specs.Record
-pub use Rattle.tls_records.specs.Framing
+pub use Rattle.raw_records.specs.RawRecord
+pub use Rattle.raw_records.specs.Framing

@@ -5,8 +5,8 @@ use Rattle.layouts.specs.Bytes.{Bytes}
 use Rattle.layouts.specs.Meaning.{Answer}
 use Rattle.layouts.specs.declared.result.Err.TheVariants as failed
 use Rattle.layouts.specs.declared.result.ErrorKind.TheVariants.{TooLarge}
-use Rattle.tls_records.specs.Record.{RawRecord, record_bytes}
-use Rattle.tls_records.specs.Framing.{max_fragment_length}
+use Rattle.raw_records.specs.RawRecord.{RawRecord, record_bytes}
+use Rattle.raw_records.specs.Framing.{max_fragment_length}
 use Rattle.tls_stream.specs.Frames.{Kind, Shape, up_to}
 
 -- Records of TLS (RFC 5246, section 6.2): a header of 5 bytes, the last 2 of which are the

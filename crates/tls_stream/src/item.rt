@@ -4,7 +4,7 @@ ghost use Rattle.tls_stream.specs.Item.{Standing, change_in, is_alert as is_aler
 
 use crate::event::Event;
 use layouts::ErrorKind;
-use tls_records::{MAX_ENCRYPTED_LEN, MAX_RECORD_LEN};
+use raw_records::{MAX_ENCRYPTED_LEN, MAX_RECORD_LEN};
 
 /// What a record contains.
 #[derive(Drop)]

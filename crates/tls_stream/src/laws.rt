@@ -5,8 +5,8 @@ ghost use Rattle.std.specs.List.{concat};
 ghost use Rattle.layouts.specs.Bytes.{Bytes};
 ghost use Rattle.layouts.specs.Meaning.{Lacks};
 ghost use Rattle.layouts.specs.Reading.{reading};
-ghost use Rattle.tls_records.specs.Framing as framing;
-ghost use Rattle.tls_records.specs.Record.{raw_record};
+ghost use Rattle.raw_records.specs.Framing as framing;
+ghost use Rattle.raw_records.specs.RawRecord.{raw_record};
 ghost use Rattle.tls_hs.specs.Message.{handshake};
 ghost use Rattle.tls_stream.specs.Records.{front_of, message_frame, record_frame, with_rest};
 ghost use Rattle.tls_stream.specs.Frames.{CuttingsHoldTheSame, CuttingsTakeTheSame, IsTooLarge, IsWhole, NeedsMore, Shape, front, frames, left};
@@ -67,7 +67,7 @@ pub fn two_cuttings_have_the_same_frames()
     ensures held { (f : Shape) → CuttingsHoldTheSame f }
 {}
 
-/// A record is a frame exactly if [`tls_records::parse_tls_raw_record`] parses it, and the frame is
+/// A record is a frame exactly if [`raw_records::parse_tls_raw_record`] parses it, and the frame is
 /// the bytes that the parser consumes.
 #[tactic(auto, using(crate::proofs::RawRecordLemmas::front_is_read, crate::proofs::RawRecordLemmas::large_is, crate::proofs::RawRecordLemmas::whole_is))]
 pub fn records_are_what_is_read()

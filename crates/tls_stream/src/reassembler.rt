@@ -3,20 +3,20 @@ ghost use Rattle.std.specs.Prelude.{◌≡◌, ◌≤◌, ◌↔◌, ◌++◌, �
 ghost use Rattle.std.specs.Option.{option_map};
 ghost use Rattle.layouts.specs.Answers.{Gives};
 ghost use Rattle.layouts.specs.Meaning.{AllowsOne};
-ghost use Rattle.tls_records.specs.Record.{view_raw_record, raw_record};
+ghost use Rattle.raw_records.specs.RawRecord.{view_raw_record, raw_record};
 ghost use Rattle.tls_stream.specs.Frames.{FrontTaken, IsTooLarge, frame_of, front, frames, left, up_to};
 ghost use Rattle.tls_stream.specs.Records.{IsRefusedAsTooLarge};
-ghost use Rattle.tls_records.specs.Framing as framing;
-ghost use Rattle.tls_records.specs.Framing.{IsIncomplete};
+ghost use Rattle.raw_records.specs.Framing as framing;
+ghost use Rattle.raw_records.specs.Framing.{IsIncomplete};
 ghost use Rattle.tls_stream.specs.declared.reassembler.FeedError.TheVariants as feed_error;
 
 use crate::frame::{Frame, MessageFrame, RecordFrame, frame_in_front, is_too_large};
 use layouts::IResult;
+use raw_records::{MAX_RECORD_LEN, TlsRawRecord, parse_tls_raw_record};
 use std::alloc::{AllocError, Global};
 use std::error::Error;
 use std::fmt;
 use std::marker::{Model, PhantomData};
-use tls_records::{MAX_RECORD_LEN, TlsRawRecord, parse_tls_raw_record};
 
 /// Why a piece isn't taken. The buffered bytes stay.
 #[derive(Debug, PartialEq, Drop)]
@@ -176,7 +176,7 @@ impl Reassembler {
     /// The next record: the answer of [`parse_tls_raw_record`] on the buffered bytes.
     ///
     /// - `Error` of kind `TooLarge` exactly if the buffer starts with a header of 5 bytes whose
-    ///   length is above [`tls_records::MAX_RECORD_LEN`].
+    ///   length is above [`raw_records::MAX_RECORD_LEN`].
     /// - `Incomplete` with the count of missing bytes exactly while the next record isn't whole and
     ///   its header has no such length.
     #[tactic(auto, using(crate::proofs::RawRecordLemmas::front_rules))]

@@ -13,8 +13,8 @@ use crate::fault::Fault;
 use crate::frame::{Frame, MessageFrame, RecordFrame, frame_in_front, is_too_large};
 use crate::item::{Item, is_sealed_alert, read_record, refuse};
 use layouts::ErrorKind;
+use raw_records::MAX_ENCRYPTED_LEN;
 use std::marker::Model;
-use tls_records::MAX_ENCRYPTED_LEN;
 
 /// The next step in a direction.
 #[derive(Clone, Copy)]

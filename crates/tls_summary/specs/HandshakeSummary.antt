@@ -11,7 +11,7 @@ use Rattle.tls_hs.specs.Certificate.{certificate}
 use Rattle.tls_hs.specs.Handshake as handshakes
 use Rattle.tls_hs.specs.Hello as client
 use Rattle.tls_hs.specs.ServerHello as server
-use Rattle.tls_records.specs.DtlsHello as datagram
+use Rattle.dtls_records.specs.DtlsHello as datagram
 use Rattle.tls_flow.specs.Bytes.{HandshakeMessage, datagram_message, message_of}
 use Rattle.tls_flow.specs.declared.symbol.Direction.{Direction as Side}
 use Rattle.tls_flow.specs.declared.symbol.Direction.TheVariants.{ToServer, FromServer}

@@ -9,12 +9,13 @@ ghost use Rattle.ssl2_hello.specs.ClientHello.{view_client_hello as view_ssl2_he
 ghost use Rattle.layouts.specs.Reading.{reading};
 ghost use Rattle.tls_hs.specs.Certificate.{certificate};
 ghost use Rattle.tls_flow.specs.Bytes.{view_heard};
-ghost use Rattle.tls_records.specs.DtlsHello.{client_hello as datagram_client_hello};
+ghost use Rattle.dtls_records.specs.DtlsHello.{client_hello as datagram_client_hello};
 
 use crate::certificate_cache::CertificateCache;
 use crate::exchange::curve_of;
 use crate::hellos::group_of_share;
 use crate::parts::{CertificateSummary, Chain, ClientParts, ServerParts, chain_of, copied};
+use dtls_records::DTLSClientHelloView;
 use ssl2_hello::Ssl2ClientHello;
 use std::alloc::{AllocError, Global};
 use tls_base::{
@@ -27,7 +28,6 @@ use tls_hs::{
     ClientHelloView, TlsMessageHandshake, TlsServerHelloContents, TlsServerHelloV13Draft18Contents,
     certificates,
 };
-use tls_records::DTLSClientHelloView;
 
 /// What both sides of a connection have sent in the clear.
 #[derive(Debug, PartialEq, Drop)]

@@ -43,15 +43,18 @@ pub use Rattle.tls_states.specs.Conversations
 pub use Rattle.tls_states.specs.Steps
 pub use Rattle.tls_states.specs.Table
 pub use Rattle.tls_states.specs.States
-pub use Rattle.tls_records.specs.Framing
+pub use Rattle.raw_records.specs.Framing
+pub use Rattle.raw_records.specs.RawRecord
+pub use Rattle.raw_records.specs.RawDtlsRecord
+pub use Rattle.raw_records.specs.First
 pub use Rattle.tls_records.specs.Record
 pub use Rattle.tls_records.specs.InPlace
 pub use Rattle.tls_records.specs.RecordText
 pub use Rattle.tls_records.specs.RecordWriter
-pub use Rattle.tls_records.specs.DtlsHello
-pub use Rattle.tls_records.specs.DtlsHandshake
-pub use Rattle.tls_records.specs.DtlsRecord
-pub use Rattle.tls_records.specs.DtlsInPlace
+pub use Rattle.dtls_records.specs.DtlsHello
+pub use Rattle.dtls_records.specs.DtlsHandshake
+pub use Rattle.dtls_records.specs.DtlsRecord
+pub use Rattle.dtls_records.specs.DtlsInPlace
 pub use Rattle.tls_places.specs.Place as PlacePlace
 pub use Rattle.tls_places.specs.Last
 pub use Rattle.tls_places.specs.Hello as PlaceHello
@@ -78,9 +81,9 @@ pub use Rattle.dtls_stream.specs.Fragments
 pub use Rattle.dtls_stream.specs.Messages as DtlsMessages
 pub use Rattle.dtls_stream.specs.Sent
 pub use Rattle.dtls_stream.specs.Datagrams
-pub use Rattle.dtls_stream.specs.Ciphertext
+pub use Rattle.raw_records.specs.Ciphertext
 pub use Rattle.dtls_stream.specs.Ack
-pub use Rattle.dtls_stream.specs.DatagramRecord
+pub use Rattle.raw_records.specs.DatagramRecord
 pub mod BothEvents
 pub use Rattle.tls_stream.specs.Ears
 pub use Rattle.tls_stream.specs.Conversations as BothConversations

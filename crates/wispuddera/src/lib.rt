@@ -32,8 +32,10 @@ pub mod events;
 pub mod fragments;
 
 pub use der as elements;
+pub use dtls_records as datagram_records;
 pub use dtls_stream as datagrams;
 pub use layouts as fields;
+pub use raw_records as raw;
 pub use tls_base as numbers;
 pub use tls_detection as detection;
 pub use tls_ext as extensions;

@@ -1,6 +1,6 @@
 use Rattle.std.proofs.Common.{◌-◌, ◌+◌, arith, length}
 use Rattle.layouts.specs.Answers.{refusal_of}
-use Rattle.tls_records.specs.DtlsRecord.{view_raw_record}
+use Rattle.raw_records.specs.RawDtlsRecord.{view_raw_record}
 use Rattle.dtls_stream.specs.Messages.{view_events}
 use Rattle.dtls_stream.proofs.StoppedLemmas.{any_err, on_err}
 use Rattle.dtls_stream.specs.Datagrams.{datagram, fragments_of}

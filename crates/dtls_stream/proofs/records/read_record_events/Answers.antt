@@ -1,5 +1,5 @@
 use Rattle.std.proofs.Common.{ap}
-use Rattle.tls_records.specs.DtlsRecord.{view_raw_record}
+use Rattle.raw_records.specs.RawDtlsRecord.{view_raw_record}
 use Rattle.dtls_stream.specs.Messages.{view_events}
 use Rattle.dtls_stream.proofs.StoppedLemmas.{any_err, on_err}
 use Rattle.dtls_stream.specs.Datagrams.{fragments_in_record, record_step}

@@ -1,6 +1,7 @@
 use Rattle.std.proofs.Common.{◌++◌, ◌∙◌, ap, map, subst}
 use Rattle.layouts.specs.Reading.{reading}
-use Rattle.tls_records.specs.DtlsRecord.{record_content, view_header, view_message}
+use Rattle.raw_records.specs.RawDtlsRecord.{view_header}
+use Rattle.dtls_records.specs.DtlsRecord.{record_content, view_message}
 use Rattle.dtls_stream.specs.Messages.{view_events}
 use Rattle.dtls_stream.proofs.StoppedLemmas.{any_err, on_err}
 use Rattle.dtls_stream.specs.Datagrams.{AreToldInPart, event_of}

@@ -1,5 +1,5 @@
 use Rattle.std.proofs.Common.{◌≡◌, ◌++◌, take, map}
-use Rattle.tls_records.specs.DtlsRecord.{view_message}
+use Rattle.dtls_records.specs.DtlsRecord.{view_message}
 use Rattle.dtls_stream.specs.Messages.{view_events}
 use Rattle.dtls_stream.specs.Datagrams.{event_of}
 use Rattle.dtls_stream.proofs.records.tell_messages.Given as goal

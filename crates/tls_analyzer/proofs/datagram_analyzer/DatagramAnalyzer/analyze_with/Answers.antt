@@ -1,7 +1,7 @@
 use Rattle.std.proofs.Common.{◌≡◌, ◌-◌, ◌+◌, true, false, arith, length}
 use Rattle.std.proofs.lemmas.Grind.{common_steps}
 use Rattle.layouts.specs.Answers.{refusal_of}
-use Rattle.tls_records.specs.DtlsRecord.{view_header, view_raw_record}
+use Rattle.raw_records.specs.RawDtlsRecord.{view_header, view_raw_record}
 use Rattle.tls_analyzer.specs.DatagramRecords.{is_known}
 use Rattle.tls_analyzer.specs.Datagrams.{heard}
 use Rattle.tls_analyzer.proofs.HeardLemmas.{hearing_ends, hearing_fails, hearing_next, hearing_unknown}

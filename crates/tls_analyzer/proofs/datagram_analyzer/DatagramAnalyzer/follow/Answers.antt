@@ -1,4 +1,4 @@
-use Rattle.tls_records.specs.DtlsRecord.{view_raw_record}
+use Rattle.raw_records.specs.RawDtlsRecord.{view_raw_record}
 use Rattle.tls_analyzer.proofs.DatagramLemmas.{client_answers, server_answers}
 use Rattle.tls_analyzer.proofs.datagram_analyzer.DatagramAnalyzer.follow.Goals as goal
 

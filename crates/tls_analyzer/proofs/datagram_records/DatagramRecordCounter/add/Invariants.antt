@@ -1,6 +1,6 @@
 use Rattle.std.proofs.Common.{◌≡◌}
 use Rattle.layouts.specs.Items.{items_in}
-use Rattle.dtls_stream.specs.DatagramRecord.{datagram_record13}
+use Rattle.raw_records.specs.DatagramRecord.{datagram_record13}
 use Rattle.tls_analyzer.specs.DatagramRecords.{with_records}
 use Rattle.tls_analyzer.proofs.datagram_records.DatagramRecordCounter.add.Given as goal
 

@@ -1,0 +1,4 @@
+pub mod ContentLemmas
+pub mod FurtherLemmas
+pub mod IncompleteLemmas
+pub mod DtlsInPlaceLemmas

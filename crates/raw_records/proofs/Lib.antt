@@ -1,0 +1,9 @@
+pub mod CounterLemmas
+pub mod FramedLemmas
+pub mod HeaderLemmas
+pub mod WholeLemmas
+pub mod FurtherLemmas
+pub mod DtlsFurtherLemmas
+pub mod RawRecordLemmas
+pub mod NoMoreLemmas
+pub mod FirstLemmas

@@ -1,0 +1,12 @@
+pub mod Framing
+pub mod RawRecord
+pub mod RawDtlsRecord
+pub mod Ciphertext
+pub mod DatagramRecord
+pub mod First
+pub use Rattle.layouts.specs.Bytes
+pub use Rattle.layouts.specs.Layout
+pub use Rattle.layouts.specs.Meaning
+pub use Rattle.layouts.specs.Reading
+pub use Rattle.layouts.specs.Answers
+pub use Rattle.layouts.specs.Stable
