@@ -7,6 +7,7 @@ use crate::event::Event;
 use crate::messages::{Limits, Messages};
 use crate::records::{read_record_events, tell_unread};
 use layouts::OutOfMemory;
+use raw_records::read_record;
 use std::alloc::Global;
 
 /// Reads a datagram of one direction and appends its events to `events`. `messages` holds the state

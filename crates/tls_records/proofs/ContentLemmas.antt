@@ -2,7 +2,8 @@
 use Rattle.std.proofs.Common.{◌≡◌, refl}
 use Rattle.layouts.specs.Bytes.{Bytes}
 use Rattle.layouts.specs.Reading.{reading, ◌and_then◌}
-use Rattle.tls_records.specs.Record.{record_header, raw_record, record_content, plaintext, read_content}
+use Rattle.raw_records.specs.RawRecord.{record_header, raw_record}
+use Rattle.tls_records.specs.Record.{record_content, plaintext, read_content}
 use Rattle.raw_records.proofs.FramedLemmas.{framed_is_raw_then_content}
 
 pub plaintext_is_raw_then_content : (b : Bytes)

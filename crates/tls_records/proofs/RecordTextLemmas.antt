@@ -27,7 +27,8 @@ use Rattle.tls_hs.specs.Handshake.{Handshake}
 use Rattle.tls_hs.specs.HandshakeText.{msg_type_of, body_text}
 use Rattle.tls_hs.proofs.HandshakeTextLemmas.{handshake_reads, handshake_whole}
 use Rattle.raw_records.specs.Framing.{max_fragment_length}
-use Rattle.tls_records.specs.Record.{RecordHeader, Plaintext, record_header, record_content, plaintext}
+use Rattle.raw_records.specs.RawRecord.{RecordHeader, record_header}
+use Rattle.tls_records.specs.Record.{Plaintext, record_content, plaintext}
 use Rattle.tls_records.specs.RecordText.{message_text, FitsMessage, InRangeMessage, normal_message, IsWrittenBackMessage}
 use Rattle.tls_records.specs.RecordText.{IsReadableIn, plaintext_text, FitsPlaintext, RefusesPlaintext, InRangePlaintext}
 use Rattle.tls_records.specs.RecordText.{IsReadable, normal_plaintext, WritesBack}
