@@ -1,6 +1,6 @@
 -- Dropped and pending packets change only counts and the pending segments.
-use Rattle.std.proofs.Common.{◌≡◌, ◌∙◌, ap, refl, ℕ, Bool, true, false, Option, None, Some}
-use Rattle.connections.specs.Connection.{belying_from, counting_had, counting_syn, dropped_from, dropping, dropping_if, front_at, heeding, heeding_if, is_taken, judgement_of, keeps_syn, lacks_of, left_by, left_if, pending_if, reached_at, side_of, taken_from, with_syn, with_waiting, is_beyond_in, without_earlier, without_first, without_pending, ChangesCountsAlone}
+use Rattle.std.proofs.Common.{◌∙◌, ap, refl, ℕ, Bool, true, false, Option, None, Some}
+use Rattle.connections.specs.Connection.{belying_from, counting_had, counting_syn, dropped_from, dropping, dropping_if, heeding, heeding_if, is_taken, judgement_of, keeps_syn, lacks_of, left_by, left_if, pending_if, reached_at, side_of, taken_from, with_syn, with_waiting, is_beyond_in, without_earlier, without_first, without_pending, ChangesCountsAlone}
 use Rattle.connections.specs.Segment.{answers}
 use Rattle.connections.specs.Waiting.{has_room, taken_syn, without_syn, Kept}
 use Rattle.std.specs.Prelude.{length}

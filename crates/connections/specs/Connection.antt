@@ -4,7 +4,7 @@ use Rattle.std.specs.Option.{option_map}
 use Rattle.connections.specs.FiveTuple.{is_end}
 use Rattle.connections.specs.Segment.{acknowledges, answers, begins, begins_stream, bytes_alone, data_of_syn, first_in, first_of, has_data, header_of, IsWithoutData}
 use Rattle.connections.specs.Numbers.{ahead_of}
-use Rattle.connections.specs.Waiting.{are_some, end_of_kept, has_room, is_any_syn, is_behind_fin_in, is_belied_by, is_data_of_syn_to, is_of_syn, is_unsent_by, keeping, keeping_if, kept_of, kept_syn, syn_in, taken_out, taken_syn, with_counted, with_pending, without, without_syn, without_taken, Kept}
+use Rattle.connections.specs.Waiting.{are_some, end_of_kept, has_room, is_any_syn, is_behind_fin_in, is_belied_by, is_data_of_syn_to, is_of_syn, is_unsent_by, keeping, kept_of, kept_syn, syn_in, taken_out, taken_syn, with_counted, with_pending, without, without_syn, without_taken, Kept}
 use Rattle.connections.specs.Hosts.{damaged_before, has_fin_of, host_after, is_wrong, later, may_be_damaged, silent_host, with_checksum, with_taken}
 use Rattle.connections.specs.Receiver.{edge_of, is_beyond, is_damaged, is_known, judge, number_or}
 use Rattle.connections.specs.Dropped.{none_dropped, with_damaged, with_dropped}

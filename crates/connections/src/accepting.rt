@@ -1,6 +1,6 @@
 //! How a connection accepts a segment: it is counted, and its bytes go to its sender's stream.
 ghost use Rattle.std.specs.Prelude.{◌≡◌, IfNone, IfOk, IfSome, OnErr, OnOk, is_none, true};
-ghost use Rattle.connections.specs.Connection.{adds_nothing as adds_none, begun_for, counted_from, judgement_of, keeping_data, lets_in as lets_it_in, noting_from, part_by, side_of, start_of, verdict_of, without_bytes, Accepts, IsKept, LeavesOut, LeavesOutSyn, Puts, PutsData, PutsSyn};
+ghost use Rattle.connections.specs.Connection.{adds_nothing as adds_none, begun_for, counted_from, judgement_of, lets_in as lets_it_in, noting_from, part_by, side_of, start_of, verdict_of, without_bytes, Accepts, IsKept, LeavesOut, LeavesOutSyn, Puts, PutsData, PutsSyn};
 ghost use Rattle.connections.specs.Stream.{noted, HasTaken};
 
 use crate::connection::{Attachment, Connection, Side, Verdict};

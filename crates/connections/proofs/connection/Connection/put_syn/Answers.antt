@@ -1,5 +1,5 @@
 use Rattle.std.proofs.Common.{◌∙◌, ap, subst, sym}
-use Rattle.connections.specs.Connection.{keeping_data, without_bytes, LeavesOutSyn, Puts}
+use Rattle.connections.specs.Connection.{without_bytes, LeavesOutSyn, Puts}
 use Rattle.connections.specs.Connection.LeavesOutSyn.{no_data, nothing}
 use Rattle.connections.proofs.ConnectionLemmas.{where_err, where_ok}
 use Rattle.connections.proofs.TableLemmas.{on_err}
