@@ -43,17 +43,19 @@ module _ {T : Type 0} (side : Side) (s : Segment) (old : Connection T) (j : Judg
       notes ∙ ap (λ x. noting_from x j s mid) is_its ∙ ap (λ x. noting x s mid) judged
       ∙ ap (noting (judgement_of s old) s) counts_its
 
-  pub syn_accepted : begins s ≡ true → PutsSyn s noted new → Accepts s old new
+  pub syn_accepted : begins s ≡ true → PutsSyn j s noted new → Accepts s old new
   syn_accepted b p =
       subst (λ x. PutsPart x (judgement_of s old) s (noting (judgement_of s old) s (counted s old))
       new) (sym b)
-      (subst (λ m. PutsSyn s m new) behind p)
+      (subst (λ m. PutsSyn (judgement_of s old) s m new) behind
+      (subst (λ x. PutsSyn x s noted new) judged p))
 
-  pub syn_left_out : begins s ≡ true → LeavesOutSyn s noted new → LeavesOut s old new
+  pub syn_left_out : begins s ≡ true → LeavesOutSyn j s noted new → LeavesOut s old new
   syn_left_out b p =
       subst (λ x. LeavesOutPart x (judgement_of s old) s
       (noting (judgement_of s old) s (counted s old)) new) (sym b)
-      (subst (λ m. LeavesOutSyn s m new) behind p)
+      (subst (λ m. LeavesOutSyn (judgement_of s old) s m new) behind
+      (subst (λ x. LeavesOutSyn x s noted new) judged p))
 
   pub part_accepted : begins s ≡ false → PutsData (adds_nothing j s) (part_by j s) noted new
       → Accepts s old new

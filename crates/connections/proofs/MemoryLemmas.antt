@@ -7,7 +7,7 @@ use Rattle.std.specs.Option.{option_map_or}
 use Rattle.lru.specs.LruCache.{last_entry, promoted}
 use Rattle.connections.specs.FiveTuple.{is_five_tuple}
 use Rattle.connections.specs.Table.{at, others, promoting, with_other, Table, WasLast}
-use Rattle.connections.specs.Memory.{total, IsAccounted, IsFront, IsSettled, IsTakenOut}
+use Rattle.connections.specs.Memory.{most_weight, total, IsAccounted, IsFront, IsSettled, IsTakenOut}
 use Rattle.connections.specs.Connection.{held_by}
 use Rattle.connections.specs.declared.five_tuple.FiveTuple.{FiveTuple}
 use Rattle.connections.specs.declared.connection.Side.{Side}
@@ -197,17 +197,23 @@ front_shorter n xs ys f = record {
 }
 
 module _ {T : Type 0} where
-  pub settled_at : (e : FiveTuple) (t : Table T) (c w : Connection T) (n : ℕ) → Some c ≡ at e t.live
+  pub settled_at : (M : T → ℕ) (e : FiveTuple) (t : Table T) (c w : Connection T) (n : ℕ)
+      → Some c ≡ at e t.live
       → w ≡ record c { weight = w.weight }
       → (t.held - c.weight + held_by w < 2 ^ 63 → held_by w ≤ w.weight)
-      → IsSettled e (at e t.live) t (record (with_other e w t) { held = n })
-  settled_at e t c w n h same enough =
-      subst (λ o. IsSettled e o t (record (with_other e w t) { held = n })) h
-      (w, record { same = same; enough = enough; stands = refl; closed = refl })
-
-  pub none_settled : (e : FiveTuple) (old new : Table T) → None ≡ at e old.live → new ≡ old
-      → IsSettled e (at e old.live) old new
-  none_settled e old new h same = subst (λ o. IsSettled e o old new) h same
+      → w.weight ≤ most_weight M w
+      → n ≡ (t.held - c.weight) + w.weight
+      → IsSettled M e (at e t.live) t (record (with_other e w t) { held = n })
+  settled_at M e t c w n h same enough within more =
+      subst (λ o. IsSettled M e o t (record (with_other e w t) { held = n })) h (
+        w,
+        record {
+          same = same;
+          enough = enough;
+          within = within;
+          stands = ap (λ m. record (with_other e w t) { held = m }) more;
+        },
+      )
 
   pub taken_out : (o : Option (Connection T)) (old new : Table T)
       → IfSome o (WasLast old.live new.live)

@@ -1,15 +1,16 @@
 -- What a table by five-tuple holds after a step.
 use Rattle.std.proofs.Common.{◌≡◌, ℕ, zero, suc, ◌-◌, ◌≤◌, true, false, Option, Some, None, List, [], ◌∷◌, ◌++◌, length}
 use Rattle.std.proofs.Common.{take, slice_get, refl, sym, ap, ◌∙◌, subst, arith, rules, Bool, cond}
-use Rattle.std.specs.Prelude.{IfSome, OnErr, Result, Ok, Err}
+use Rattle.std.specs.Prelude.{OnErr, Result, Ok, Err}
 use Rattle.std.specs.Map.{lookup_entry, set_value}
 use Rattle.lru.specs.LruCache.{LruCache, promoted, put_entries, last_entry}
 use Rattle.connections.specs.FiveTuple.{is_five_tuple}
 use Rattle.connections.specs.Lends.{with_first}
 use Rattle.connections.specs.Datagram.{five_tuple_of_datagram}
 use Rattle.connections.specs.Segment.{five_tuple_of}
-use Rattle.connections.specs.Connection.{another_of, opening_of, Begins, ChangesCountsAlone, IsAfter, IsAnew, IsBare, LeavesOut, Shows}
-use Rattle.connections.specs.Table.{another_in, at, others, with_other, BeginsAfter, ChangesCountsAt, IsAnewAt, LeavesOutAt, Replaced, Replaces, Table, WasLast, IsOver, IsForgotten, IsPut}
+use Rattle.std.specs.Option.{option_map}
+use Rattle.connections.specs.Connection.{another_of, opening_of, without_syns, Begins, IsAfter, IsAnew, IsBare, LeavesOut, Shows}
+use Rattle.connections.specs.Table.{another_in, at, changing, changing_at, others, with_other, BeginsAfter, ComesFirst, IsAnewAt, LeavesOutAt, Replaced, Replaces, Table, WasLast, IsOver, IsForgotten, IsPut}
 use Rattle.connections.specs.Table.IsForgotten.{one}
 use Rattle.connections.specs.declared.datagram.Datagram.{Datagram}
 use Rattle.connections.specs.declared.five_tuple.FiveTuple.{FiveTuple}
@@ -197,16 +198,23 @@ module _ {T : Type 0} where
       → LeavesOutAt s (at (five_tuple_of s) xs) xs ys
   none_left s xs ys h same = subst (λ o. LeavesOutAt s o xs ys) h same
 
-  -- In an existing connection only counts change.
-  pub counts_at : (e : FiveTuple) (old : Table T) (c w : Connection T) → Some c ≡ at e old.live
-      → ChangesCountsAlone c w
-      → ChangesCountsAt e (at e old.live) old (with_other e w old)
-  counts_at e old c w h changes =
-      subst (λ o. ChangesCountsAt e o old (with_other e w old)) h (w, changes, refl)
+  -- An existing connection becomes another, in the same position.
+  pub changed_at : (e : FiveTuple) (f : Connection T → Connection T) (old : Table T)
+      (c w : Connection T) → Some c ≡ at e old.live → w ≡ f c
+      → with_other e w old ≡ changing e f old
+  changed_at e f old c w h same =
+      subst (λ o. with_other e w old ≡ changing_at e f o old) h
+      (ap (λ x. with_other e x old) same)
 
-  pub none_at : (e : FiveTuple) (old new : Table T) → None ≡ at e old.live → new ≡ old
-      → ChangesCountsAt e (at e old.live) old new
-  none_at e old new h same = subst (λ o. ChangesCountsAt e o old new) h same
+  -- An existing connection becomes another, which comes first.
+  pub comes_in : (e : FiveTuple) (R : Connection T → Connection T → Type 0) (old : Table T)
+      (c w : Connection T) → Some c ≡ at e old.live → R c w
+      → ComesFirst e R (at e old.live) old
+      (record old { live = set_value (is_five_tuple e) (promoted (is_five_tuple e) old.live) w })
+  comes_in e R old c w h becomes =
+      subst (λ o. ComesFirst e R o old
+      (record old { live = set_value (is_five_tuple e) (promoted (is_five_tuple e) old.live) w })) h
+      (w, becomes, ap (λ l. record old { live = l }) (written e old.live c w (sym h)))
 
   -- An existing connection restarts.
   pub anew_at : (time : ℕ) (e : FiveTuple) (old : Table T) (c w : Connection T)
@@ -245,7 +253,7 @@ module _ {T : Type 0} where
   pub replaced_by : (s : Segment) (old : Table T) (b : Beginning) (its seen was over : Connection T)
       (n : ℕ) → Shows s b → Some (opening_of b) ≡ another_of s seen → IsBare b → Begins b its
       → Some seen ≡ at (five_tuple_of s) old.live
-      → Some was ≡ at (five_tuple_of s) old.live → over ≡ record was { waiting = over.waiting }
+      → Some was ≡ at (five_tuple_of s) old.live → over ≡ without_syns was
       → n ≡ old.held - over.weight
       → Replaces s old
       (record old {
@@ -260,7 +268,7 @@ module _ {T : Type 0} where
     waited = subst (λ o. another_in s o ≡ Some (opening_of b)) found (sym waited);
     bare = bare;
     begins = begins;
-    was = subst (λ o. IfSome o (λ c. over ≡ record c { waiting = over.waiting })) h same;
+    was = subst (λ o. Some over ≡ option_map without_syns o) h (ap Some same);
     stands = ap (λ l. record old { live = l; held = n })
         (written (five_tuple_of s) old.live was its (sym h))
         ∙ ap (λ m. record old

@@ -1,14 +1,14 @@
 -- The state of a connection.
-use Rattle.std.specs.Prelude.{◌≡◌, ◌⊎◌, ℕ, ◌+◌, ◌==◌, Bool, true, false, ◌&&◌, ◌||◌, not, nat_lt, is_some, IfSome, Option, Some, None, if◌then◌else◌, [], length, ⊤}
+use Rattle.std.specs.Prelude.{◌≡◌, ◌⊎◌, ℕ, ◌+◌, ◌==◌, Bool, true, false, ◌&&◌, ◌||◌, not, nat_lt, is_some, IfSome, Option, Some, None, if◌then◌else◌, [], ◌∷◌, ◌++◌, length, ⊤}
 use Rattle.std.specs.Option.{option_map}
 use Rattle.connections.specs.FiveTuple.{is_end}
-use Rattle.connections.specs.Segment.{acknowledges, answers, begins, begins_stream, bytes_alone, first_in, first_of, has_data, header_of, IsWithoutData}
+use Rattle.connections.specs.Segment.{acknowledges, answers, begins, begins_stream, bytes_alone, data_of_syn, first_in, first_of, has_data, header_of, IsWithoutData}
 use Rattle.connections.specs.Numbers.{ahead_of}
-use Rattle.connections.specs.Waiting.{are_some, syn_in, with_pending}
+use Rattle.connections.specs.Waiting.{are_some, end_of_kept, has_room, is_any_syn, is_behind_fin_in, is_belied_by, is_data_of_syn_to, is_of_syn, is_unsent_by, keeping, kept_of, kept_syn, syn_in, taken_out, taken_syn, with_counted, with_pending, without, without_syn, without_taken, Kept}
 use Rattle.connections.specs.Hosts.{damaged_before, has_fin_of, host_after, is_wrong, later, may_be_damaged, silent_host, with_checksum, with_taken}
-use Rattle.connections.specs.Receiver.{is_damaged, is_known, judge}
+use Rattle.connections.specs.Receiver.{edge_of, is_beyond, is_damaged, is_known, judge, number_or}
 use Rattle.connections.specs.Dropped.{none_dropped, with_damaged, with_dropped}
-use Rattle.connections.specs.Stream.{begun_at, forgetting, front_of, held_in, silent_stream, noted, HasTaken, is_over}
+use Rattle.connections.specs.Stream.{begun_at, forgetting, front_of, held_in, is_missing, silent_stream, noted, HasTaken, is_over}
 use Rattle.connections.specs.Traffic.{nothing_sent, plus, with_packet}
 use Rattle.connections.specs.declared.datagram.Datagram.{Datagram}
 use Rattle.connections.specs.declared.five_tuple.Protocol.{Protocol}
@@ -24,7 +24,10 @@ use Rattle.connections.specs.declared.receiver.Judgement.TheVariants as judgemen
 use Rattle.connections.specs.declared.receiver.DropReason.{DropReason}
 use Rattle.connections.specs.declared.stream.Front.{Front}
 use Rattle.connections.specs.declared.stream.Stream.{Stream}
-use Rattle.connections.specs.declared.pending.PendingSegments.{PendingSegments}
+use Rattle.connections.specs.declared.pending.PendingOutcome.{PendingOutcome}
+use Rattle.connections.specs.declared.pending.PendingOutcome.TheVariants as outcome
+use Rattle.connections.specs.declared.pending.AckContext.{AckContext}
+use Rattle.connections.specs.declared.receiver.DropReason.TheVariants as reason
 use Rattle.connections.specs.declared.traffic.Traffic.{Traffic}
 use Rattle.connections.specs.declared.connection.Beginning.{Beginning}
 use Rattle.connections.specs.declared.connection.Connection.{Connection}
@@ -160,14 +163,38 @@ is_kept judgement.Again = true
 is_kept (judgement.Waiting r) = false
 is_kept (judgement.Dropped r) = false
 
+-- The receiver takes it.
+abbrev pub is_taken : Judgement → Bool
+is_taken judgement.Taken = true
+is_taken judgement.Again = false
+is_taken (judgement.Waiting r) = false
+is_taken (judgement.Dropped r) = false
+
+-- A wrong checksum was the reason.
+abbrev pub is_for_checksum : DropReason → Bool
+is_for_checksum reason.Checksum = true
+is_for_checksum reason.NoAck = false
+is_for_checksum reason.Acknowledgment = false
+is_for_checksum reason.Window = false
+is_for_checksum reason.Clock = false
+is_for_checksum reason.Signature = false
+is_for_checksum reason.Syn = false
+is_for_checksum reason.Reset = false
+is_for_checksum reason.Fin = false
+
 abbrev pub lets_in : Verdict → Bool
 lets_in v =
     is_kept v.judgement && (not v.begins_another && (not v.tells && not v.shows_damage))
 
+-- What becomes of a pending segment that was taken out, if bytes of it are missing and if not.
+abbrev pub outcome_if : Bool → Kept → PendingOutcome
+outcome_if true k = outcome.Taken k
+outcome_if false k = outcome.Had
+
 module _ {T : Type 0} where
   -- A new connection.
-  abbrev pub silent : Protocol → End → End → ℕ → PendingSegments → T → Connection T
-  silent p originator responder time waiting attachment = record {
+  abbrev pub silent : Protocol → End → End → ℕ → T → Connection T
+  silent p originator responder time attachment = record {
     protocol = p;
     originator = originator;
     responder = responder;
@@ -175,7 +202,7 @@ module _ {T : Type 0} where
     last_time = time;
     originator_host = silent_host;
     responder_host = silent_host;
-    waiting = waiting;
+    waiting = [];
     from_originator = silent_stream;
     from_responder = silent_stream;
     originator_sent = nothing_sent;
@@ -186,13 +213,9 @@ module _ {T : Type 0} where
     attachment = attachment;
   }
 
-  abbrev pub NoneWaits : Connection T → Type 0
-  NoneWaits c = c.waiting.kept.items ≡ []
-
   -- A new connection, at the first packet's ends and time, with any caller's value.
   abbrev pub IsBegunBy : Segment → Connection T → Type 0
-  IsBegunBy s c = (c ≡ silent Tcp (originator_of s) (responder_of s) s.time c.waiting c.attachment)
-      × NoneWaits c
+  IsBegunBy s c = c ≡ silent Tcp (originator_of s) (responder_of s) s.time c.attachment
 
   abbrev pub side_of : Connection T → End → Side
   side_of c sender = if is_end sender c.originator then Originator else Responder
@@ -239,7 +262,7 @@ module _ {T : Type 0} where
   -- The opening of another connection between the same ends that a segment shows.
   abbrev pub another_of : Segment → Connection T → Option (Header × Option Header)
   another_of s c = if is_apart s c then
-      shown (is_alone s c) s (syn_in true c.waiting.kept.items) (syn_in false c.waiting.kept.items)
+      shown (is_alone s c) s (syn_in true c.waiting) (syn_in false c.waiting)
       else None
 
   abbrev pub is_heeded : Judgement → Segment → Connection T → Bool
@@ -257,8 +280,8 @@ module _ {T : Type 0} where
   abbrev pub verdict_from : Side → Segment → Connection T → Verdict
   verdict_from side s c = record {
     judgement = judgement_from side s c;
-    begins_another = are_some c.waiting.kept.items && is_some (another_of s c);
-    tells = are_some c.waiting.kept.items && is_heeded (judgement_from side s c) s c;
+    begins_another = are_some c.waiting && is_some (another_of s c);
+    tells = are_some c.waiting && is_heeded (judgement_from side s c) s c;
     shows_damage = shows_damage side s.checksum c;
   }
 
@@ -267,8 +290,8 @@ module _ {T : Type 0} where
 
   -- What a side sent over TCP and the other side dropped, pending segments included.
   abbrev pub dropped_by : Side → Connection T → Dropped
-  dropped_by Originator c = with_pending c.originator c.waiting.kept.items c.originator_dropped
-  dropped_by Responder c = with_pending c.responder c.waiting.kept.items c.responder_dropped
+  dropped_by Originator c = with_pending c.originator c.waiting c.originator_dropped
+  dropped_by Responder c = with_pending c.responder c.waiting c.responder_dropped
 
   -- A dropped or pending packet changes only the counts and the pending segments.
   abbrev pub ChangesCountsAlone : Connection T → Connection T → Type 0
@@ -282,6 +305,136 @@ module _ {T : Type 0} where
   dropped_from Originator r c =
       record c { originator_dropped = with_dropped r c.originator_dropped }
   dropped_from Responder r c = record c { responder_dropped = with_dropped r c.responder_dropped }
+
+  -- A dropped SYN with numbers far from the connection's is kept, since another connection may
+  -- begin with it (RFC 9293, section 3.10.7.4, fourth). It replaces the one that was kept before,
+  -- which counts as dropped.
+  abbrev pub keeps_syn : DropReason → Segment → Connection T → Bool
+  keeps_syn r s c = begins s && (not (is_for_checksum r) && is_apart s c)
+
+  abbrev pub counting_syn : Option Kept → DropReason → Connection T → Connection T
+  counting_syn None r c = c
+  counting_syn (Some k) r c = dropped_from (side_of c k.header.source) r c
+
+  abbrev pub without_earlier : DropReason → Segment → Connection T → Connection T
+  without_earlier r s c = counting_syn (taken_syn (answers s) c.waiting) r
+      (record c { waiting = without_syn (answers s) c.waiting })
+
+  abbrev pub with_syn : DropReason → Segment → Connection T → Connection T
+  with_syn r s c = record c { waiting = c.waiting ++ kept_syn s r ∷ [] }
+
+  abbrev pub dropping_if : Bool → DropReason → Segment → Connection T → Connection T
+  dropping_if true r s c = with_syn r s (without_earlier r s c)
+  dropping_if false r s c = dropped_from (side_of c s.source) r c
+
+  -- Any other dropped segment is counted.
+  abbrev pub dropping : DropReason → Segment → Connection T → Connection T
+  dropping r s c = dropping_if (keeps_syn r s c) r s c
+
+  -- A segment becomes pending. If there is no room for it, it counts as dropped.
+  abbrev pub is_beyond_in : Segment → Connection T → Bool
+  is_beyond_in s c = is_beyond (edge_of (hosts_of s c).0 (hosts_of s c).1) s
+
+  abbrev pub pending_if : Bool → DropReason → Segment → Connection T → Connection T
+  pending_if true r s c =
+      record c { waiting = c.waiting ++ kept_of s (Some r) (is_beyond_in s c) ∷ [] }
+  pending_if false r s c = dropped_from (side_of c s.source) r c
+
+  abbrev pub with_waiting : DropReason → Segment → Connection T → Connection T
+  with_waiting r s c = pending_if
+      (has_room (length s.payload.now) (Some r) (is_beyond_in s c) c.waiting) r s c
+
+  -- The data of a SYN that its receiver takes becomes pending, if there is room for it.
+  abbrev pub keeping_data_if : Bool → Segment → Connection T → Connection T
+  keeping_data_if true s c =
+      record c { waiting = keeping (data_of_syn s) None false c.waiting }
+  keeping_data_if false s c = c
+
+  abbrev pub keeping_data : Judgement → Segment → Connection T → Connection T
+  keeping_data j s c = keeping_data_if (is_taken j && has_data s) s c
+
+  -- The number behind all in-order data of a segment's sender, and what is known when the segment
+  -- arrives.
+  abbrev pub reached_at : Segment → Connection T → ℕ
+  reached_at s c = number_or (first_of s) (front_at (side_of c s.source) c).reached
+
+  abbrev pub known_at : Segment → Connection T → AckContext
+  known_at s c = record {
+    sent = (hosts_of s c).1.next;
+    reached = reached_at s c;
+    fin = (hosts_of s c).1.fin;
+    edge = edge_of (hosts_of s c).1 (hosts_of s c).0;
+  }
+
+  -- Pending segments that a segment shows to be forged are removed, and count as dropped: those of
+  -- its sender, then those of its receiver.
+  abbrev pub belying_from : Side → ℕ → Segment → Connection T → Connection T
+  belying_from Originator n s c = record c {
+    waiting = without (is_belied_by s n) (without (is_unsent_by s) c.waiting);
+    originator_dropped = with_counted (is_unsent_by s) c.waiting c.originator_dropped;
+    responder_dropped = with_counted (is_belied_by s n) (without (is_unsent_by s) c.waiting)
+        c.responder_dropped;
+  }
+  belying_from Responder n s c = record c {
+    waiting = without (is_belied_by s n) (without (is_unsent_by s) c.waiting);
+    originator_dropped = with_counted (is_belied_by s n) (without (is_unsent_by s) c.waiting)
+        c.originator_dropped;
+    responder_dropped = with_counted (is_unsent_by s) c.waiting c.responder_dropped;
+  }
+
+  abbrev pub belying : Segment → Connection T → Connection T
+  belying s c = belying_from (side_of c s.source) (reached_at s c) s c
+
+  -- A segment that its receiver takes does so.
+  abbrev pub heeding_if : Bool → Segment → Connection T → Connection T
+  heeding_if true s c = belying s c
+  heeding_if false s c = c
+
+  abbrev pub heeding : Segment → Connection T → Connection T
+  heeding s c = heeding_if (is_taken (judgement_of s c)) s c
+
+  -- Bytes of a pending segment are missing in its sender's stream, before a FIN.
+  abbrev pub lacks_of : Kept → Connection T → Bool
+  lacks_of k c =
+      is_missing (end_of_kept k) (stream_of (side_of c k.header.source) c)
+      && not (is_behind_fin_in (hosts_from (side_of c k.header.source) c).0.fin k)
+
+  -- What becomes of a pending segment that was taken out, and the connection then. If no bytes of
+  -- it are missing, it counts as dropped. Without one, the pending data of a SYN to this end is
+  -- removed.
+  abbrev pub outcome_of : Option Kept → Connection T → Option PendingOutcome
+  outcome_of None c = None
+  outcome_of (Some k) c = Some (outcome_if (lacks_of k c) k)
+
+  abbrev pub counting_had : Option DropReason → Side → Connection T → Connection T
+  counting_had None side c = c
+  counting_had (Some r) side c = dropped_from side r c
+
+  abbrev pub left_if : Bool → Kept → Connection T → Connection T
+  left_if true k c = c
+  left_if false k c = counting_had k.reason (side_of c k.header.source) c
+
+  abbrev pub left_by : Option Kept → Segment → Connection T → Connection T
+  left_by None s c = record c { waiting = without (is_data_of_syn_to s.source) c.waiting }
+  left_by (Some k) s c = left_if (lacks_of k c) k c
+
+  abbrev pub taken_from : Segment → Connection T → Option Kept
+  taken_from s c = taken_out s (known_at s c) c.waiting
+
+  abbrev pub without_first : Segment → Connection T → Connection T
+  without_first s c = record c { waiting = without_taken s (known_at s c) c.waiting }
+
+  abbrev pub pending_outcome : Segment → Connection T → Option PendingOutcome
+  pending_outcome s c =
+      outcome_of (taken_from s (heeding s c)) (without_first s (heeding s c))
+
+  abbrev pub without_pending : Segment → Connection T → Connection T
+  without_pending s c =
+      left_by (taken_from s (heeding s c)) s (without_first s (heeding s c))
+
+  -- The SYNs of another connection that began are removed.
+  abbrev pub without_syns : Connection T → Connection T
+  without_syns c = record c { waiting = without is_any_syn c.waiting }
 
   -- The sender's state after a segment, and how many earlier packets it shows to be damaged.
   abbrev pub noting_from : Side → Judgement → Segment → Connection T → Connection T
@@ -335,17 +488,18 @@ module _ {T : Type 0} where
   abbrev pub counted : Segment → Connection T → Connection T
   counted s c = counted_from (side_of c s.source) s c
 
-  -- The stream of a SYN's sender begins behind it. Its data is pending.
-  pub record PutsSyn (s : Segment) (old new : Connection T) : Type 0 where
-    pub waits : PendingSegments
+  -- The stream of a SYN's sender begins behind it. Its data becomes pending if the receiver takes
+  -- the SYN.
+  pub record PutsSyn (j : Judgement) (s : Segment) (old new : Connection T) : Type 0 where
     pub bare : Segment
     pub is_bare : IsWithoutData s bare
-    pub puts : Puts bare (record old { waiting = waits }) new
+    pub puts : Puts bare (keeping_data j s old) new
 
-  pub data LeavesOutSyn (s : Segment) (old : Connection T) : Connection T → Type 0 where
-    no_data : (waits : PendingSegments) → LeavesOutSyn s old (record old { waiting = waits })
-    nothing : (waits : PendingSegments) (bare : Segment) → IsWithoutData s bare
-        → LeavesOutSyn s old (without_bytes bare (record old { waiting = waits }))
+  pub data LeavesOutSyn (j : Judgement) (s : Segment) (old : Connection T)
+      : Connection T → Type 0 where
+    no_data : LeavesOutSyn j s old old
+    nothing : (bare : Segment) → IsWithoutData s bare
+        → LeavesOutSyn j s old (without_bytes bare (keeping_data j s old))
 
   -- A segment is counted, its sender's state updated, and its bytes added to its sender's stream;
   -- those of a SYN are pending. The other side, the ends and the caller's value stay.
@@ -354,7 +508,7 @@ module _ {T : Type 0} where
   PutsData false part old new = Puts part old new
 
   abbrev pub PutsPart : Bool → Judgement → Segment → Connection T → Connection T → Type 0
-  PutsPart true j s old new = PutsSyn s old new
+  PutsPart true j s old new = PutsSyn j s old new
   PutsPart false j s old new = PutsData (adds_nothing j s) (part_by j s) old new
 
   abbrev pub Accepts : Segment → Connection T → Connection T → Type 0
@@ -363,12 +517,34 @@ module _ {T : Type 0} where
 
   -- Without memory its bytes are left out, and its numbers noted.
   abbrev pub LeavesOutPart : Bool → Judgement → Segment → Connection T → Connection T → Type 0
-  LeavesOutPart true j s old new = LeavesOutSyn s old new
+  LeavesOutPart true j s old new = LeavesOutSyn j s old new
   LeavesOutPart false j s old new = new ≡ without_bytes (part_by j s) old
 
   abbrev pub LeavesOut : Segment → Connection T → Connection T → Type 0
   LeavesOut s old new = LeavesOutPart (begins s) (judgement_of s old) s
       (noting (judgement_of s old) s (counted s old)) new
+
+  -- A pending segment is added to its sender's stream, behind those that it shows to be forged. The
+  -- data of a SYN was counted with the SYN.
+  abbrev pub AcceptsAs : Bool → Segment → Connection T → Connection T → Type 0
+  AcceptsAs true s old new = Puts s old new
+  AcceptsAs false s old new = Accepts s old new
+
+  pub record AcceptsKept (k : Kept) (old new : Connection T) : Type 0 where
+    pub segment : Segment
+    pub header : header_of segment ≡ k.header
+    pub payload : segment.payload.now ≡ k.bytes
+    pub accepts : AcceptsAs (is_of_syn k) segment (belying segment old) new
+
+  abbrev pub LeavesOutAs : Bool → Segment → Connection T → Connection T → Type 0
+  LeavesOutAs true s old new = new ≡ without_bytes s old
+  LeavesOutAs false s old new = LeavesOut s old new
+
+  pub record LeavesOutKept (k : Kept) (old new : Connection T) : Type 0 where
+    pub segment : Segment
+    pub header : header_of segment ≡ k.header
+    pub payload : segment.payload.now ≡ k.bytes
+    pub leaves : LeavesOutAs (is_of_syn k) segment (belying segment old) new
 
   -- A connection that began with these segments.
   abbrev pub AcceptsAnswer : Option Segment → Connection T → Connection T → Type 0
@@ -409,9 +585,9 @@ module _ {T : Type 0} where
       d.checksum (length d.payload.now)
 
   -- An exchange that begins with a datagram, whose sender is the originator.
-  abbrev pub begun_by_datagram : Datagram → PendingSegments → T → Connection T
-  begun_by_datagram d waiting attachment =
-      with_datagram d (silent Udp d.source d.destination d.time waiting attachment)
+  abbrev pub begun_by_datagram : Datagram → T → Connection T
+  begun_by_datagram d attachment =
+      with_datagram d (silent Udp d.source d.destination d.time attachment)
 
   -- How many bytes both its streams store.
   abbrev pub held_by : Connection T → ℕ
@@ -424,24 +600,28 @@ module _ {T : Type 0} where
 
   -- The connection restarts. Damaged packets from before are counted, and the accounted memory
   -- stays.
-  pub record IsAnew (time : ℕ) (old new : Connection T) : Type 0 where
-    pub is_silent : new
-        ≡ record (silent old.protocol old.originator old.responder time new.waiting new.attachment) {
-          originator_dropped = with_damaged (damaged_of Originator old) none_dropped;
-          responder_dropped = with_damaged (damaged_of Responder old) none_dropped;
-          weight = old.weight;
-        }
-    pub waits : NoneWaits new
+  abbrev pub anew : ℕ → T → Connection T → Connection T
+  anew time attachment c =
+      record (silent c.protocol c.originator c.responder time attachment) {
+        originator_dropped = with_damaged (damaged_of Originator c) none_dropped;
+        responder_dropped = with_damaged (damaged_of Responder c) none_dropped;
+        weight = c.weight;
+      }
+
+  abbrev pub IsAnew : ℕ → Connection T → Connection T → Type 0
+  IsAnew time old new = new ≡ anew time new.attachment old
 
   -- Another exchange between the same ends, which a datagram begins. What is known about both ends'
   -- checksums stays.
-  pub record IsAfter (d : Datagram) (old new : Connection T) : Type 0 where
-    pub is_silent : new
-        ≡ record (silent Udp d.source d.destination d.time new.waiting new.attachment) {
-          originator_host = host_after (hosts_from (side_of old d.source) old).0;
-          responder_host = host_after (hosts_from (side_of old d.source) old).1;
-        }
-    pub waits : NoneWaits new
+  abbrev pub after_exchange : Datagram → T → Connection T → Connection T
+  after_exchange d attachment c =
+      record (silent Udp d.source d.destination d.time attachment) {
+        originator_host = host_after (hosts_from (side_of c d.source) c).0;
+        responder_host = host_after (hosts_from (side_of c d.source) c).1;
+      }
+
+  abbrev pub IsAfter : Datagram → Connection T → Connection T → Type 0
+  IsAfter d old new = new ≡ after_exchange d new.attachment old
 
   -- A datagram is counted. If it shows that everything before it was damaged, the exchange restarts
   -- first.

@@ -15,7 +15,7 @@ use Rattle.connections.specs.declared.host.TheConstants.{FIRST_PACKETS}
 abbrev pub no_options : Options
 no_options = record { scale = None; clock = None; size = None; selects = false; is_signed = false }
 
--- The state of an end of which nothing was captured.
+-- The state of an end before any of its packets is captured.
 abbrev pub silent_host : Host
 silent_host = record {
   first = None;
@@ -35,7 +35,7 @@ silent_host = record {
 abbrev pub host_after : Host → Host
 host_after x = record silent_host { checksums = x.checksums }
 
--- The later of two numbers, of which one may be unknown.
+-- The later of two numbers, one of which may be unknown.
 abbrev pub later : Option ℕ → ℕ → ℕ
 later None n = n
 later (Some m) n = if is_behind n m then n else m

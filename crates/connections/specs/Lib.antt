@@ -9,7 +9,6 @@ pub mod Stream
 pub mod Waiting
 pub mod Connection
 pub mod Table
-pub mod Drops
 pub mod Memory
 pub mod Traffic
 pub mod Dropped

@@ -1,6 +1,13 @@
 -- The memory accounted for the connections of a table, in bytes.
-use Rattle.std.specs.Prelude.{◌≡◌, ℕ, ◌+◌, ◌-◌, ◌/◌, ◌≤◌, ◌<◌, ◌^◌, Bool, nat_lt, ◌||◌, Option, Some, None, List, [], ◌∷◌, ◌++◌, length}
+use Rattle.std.specs.Prelude.{◌≡◌, ℕ, ◌+◌, ◌-◌, ◌*◌, ◌/◌, ◌≤◌, ◌<◌, ◌^◌, max, Bool, nat_lt, ◌||◌, Option, Some, None, List, [], ◌∷◌, ◌++◌, length}
 use Rattle.connections.specs.Connection.{held_by}
+use Rattle.connections.specs.Stream.{held_in}
+use Rattle.connections.specs.Traffic.{plus, times}
+use Rattle.connections.specs.Waiting.{with_bytes_of}
+use Rattle.connections.specs.declared.connection.TheConstants.{CONNECTION_COST}
+use Rattle.connections.specs.declared.memory.TheConstants.{BYTE_COST, PACKET_COST, STREAM_COST}
+use Rattle.connections.specs.declared.pending.TheConstants.{PENDING_COST, PENDING_ROOM}
+use Rattle.connections.specs.declared.traffic.Traffic.{Traffic}
 use Rattle.connections.specs.Table.{with_other, Table, WasLast}
 use Rattle.connections.specs.declared.connection.Connection.{Connection}
 use Rattle.connections.specs.declared.five_tuple.FiveTuple.{FiveTuple}
@@ -26,6 +33,11 @@ pub record FitsClosed (limit : ℕ) (xs ys : List (FiveTuple × ℕ)) : Type 0 w
   pub latest : IsFront xs ys
   pub fits : length ys ≤ closed_count limit
 
+-- An upper bound for the memory of a stream, by what was captured of it.
+abbrev pub most_of : Traffic → ℕ
+most_of sent =
+    plus (plus (times sent.bytes BYTE_COST) (times sent.packets PACKET_COST)) STREAM_COST
+
 module _ {T : Type 0} where
   -- The memory accounted for all, in bytes.
   abbrev pub total : List (FiveTuple × Connection T) → ℕ
@@ -41,17 +53,27 @@ module _ {T : Type 0} where
   is_crowded limit t = nat_lt (open_part limit) t.held
       || nat_lt (closed_count limit) (length t.closed)
 
+  -- The most memory that is accounted for a connection whose attachment takes at most M, by what was
+  -- captured of both sides and what is pending.
+  abbrev pub most_weight : (T → ℕ) → Connection T → ℕ
+  most_weight M c =
+      max (most_of c.originator_sent) (held_in c.from_originator.reading)
+      + max (most_of c.responder_sent) (held_in c.from_responder.reading)
+      + (with_bytes_of c.waiting 0 + PENDING_ROOM * PENDING_COST)
+      + M c.attachment + CONNECTION_COST
+
   -- The connection's accounted memory is at least the bytes that its streams store, as long as no
-  -- machine has more. Everything else stays.
-  pub record IsSettledAs (e : FiveTuple) (c w : Connection T) (old new : Table T) : Type 0 where
+  -- machine has more, and at most what was captured of it can take. Everything else stays.
+  pub record IsSettledAs (M : T → ℕ) (e : FiveTuple) (c w : Connection T)
+      (old new : Table T) : Type 0 where
     pub same : w ≡ record c { weight = w.weight }
     pub enough : old.held - c.weight + held_by w < 2 ^ 63 → held_by w ≤ w.weight
-    pub stands : new.live ≡ (with_other e w old).live
-    pub closed : new.closed ≡ old.closed
+    pub within : w.weight ≤ most_weight M w
+    pub stands : new ≡ record (with_other e w old) { held = (old.held - c.weight) + w.weight }
 
-  abbrev pub IsSettled : FiveTuple → Option (Connection T) → Table T → Table T → Type 0
-  IsSettled e None old new = new ≡ old
-  IsSettled e (Some c) old new = (w : Connection T) × IsSettledAs e c w old new
+  abbrev pub IsSettled : (T → ℕ) → FiveTuple → Option (Connection T) → Table T → Table T → Type 0
+  IsSettled M e None old new = new ≡ old
+  IsSettled M e (Some c) old new = (w : Connection T) × IsSettledAs M e c w old new
 
   -- The longest-idle connection is removed, and its memory no longer accounted. All others stay.
   pub record IsTakenOut (old new : Table T) (c : Connection T) : Type 0 where

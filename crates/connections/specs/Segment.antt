@@ -73,11 +73,18 @@ has_flag_in weight h = (h.flags / weight) % 2 == 1
 abbrev pub begins_in : Header → Bool
 begins_in = has_flag_in 2
 
+abbrev pub ends_in : Header → Bool
+ends_in = has_flag_in 1
+
 abbrev pub answers_in : Header → Bool
 answers_in h = begins_in h && has_flag_in 16 h
 
 abbrev pub first_in : Header → ℕ
 first_in h = if begins_in h then (h.sequence + 1) % 2 ^ 32 else h.sequence
+
+-- The header without FIN, whose flag weighs 1.
+abbrev pub without_fin : Header → Header
+without_fin h = record h { flags = h.flags - h.flags % 2 }
 
 -- A segment with the same header and no data.
 abbrev pub IsWithoutData : Segment → Segment → Type 0

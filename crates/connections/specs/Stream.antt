@@ -145,7 +145,7 @@ unlike [] ys = 0
 unlike (x ∷ xs) [] = 0
 unlike (x ∷ xs) (y ∷ ys) = (if x == y then 0 else 1) + unlike xs ys
 
--- At how many numbers a segment's byte differs from the in-order bytes, the first of which has this
+-- At how many numbers a segment's byte differs from the in-order bytes, whose first one has this
 -- number.
 abbrev pub differing_in_order : ℕ → Bytes → Segment → ℕ
 differing_in_order next standing s =

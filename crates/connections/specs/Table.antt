@@ -1,12 +1,15 @@
 -- The table of connections by five-tuple, most recent packet first.
 use Rattle.std.specs.Prelude.{◌≡◌, ℕ, ◌-◌, ◌<◌, ◌⊎◌, Bool, true, false, ◌&&◌, ◌||◌, not, is_some, if◌then◌else◌, Option, Some, None, IfSome, List, [], ◌∷◌, ◌++◌, length}
-use Rattle.std.specs.Option.{option_and_then}
+use Rattle.std.specs.Option.{option_and_then, option_map}
 use Rattle.std.specs.Map.{lookup, remove_entry, set_value}
 use Rattle.lru.specs.LruCache.{last_entry, promoted}
 use Rattle.connections.specs.FiveTuple.{is_five_tuple}
+use Rattle.connections.specs.Waiting.{five_tuple_of_kept, Kept}
+use Rattle.connections.specs.declared.pending.PendingOutcome.{PendingOutcome}
+use Rattle.connections.specs.declared.receiver.DropReason.{DropReason}
 use Rattle.connections.specs.Datagram.{five_tuple_of_datagram}
 use Rattle.connections.specs.Segment.{begins, begins_one, five_tuple_of}
-use Rattle.connections.specs.Connection.{another_of, begun_by_datagram, dropped_from, is_closed, opening_of, side_of, Accepts, Begins, ChangesCountsAlone, IsAfter, IsAnew, IsBare, IsBegunBy, LeavesOut, NoneWaits, Shows, TakesDatagramIn}
+use Rattle.connections.specs.Connection.{another_of, begun_by_datagram, dropped_from, dropping, is_closed, opening_of, pending_outcome, side_of, with_waiting, without_earlier, without_pending, without_syns, Accepts, AcceptsKept, Begins, IsAfter, IsAnew, IsBare, IsBegunBy, LeavesOut, LeavesOutKept, Shows, TakesDatagramIn}
 use Rattle.connections.specs.declared.datagram.Datagram.{Datagram}
 use Rattle.connections.specs.declared.five_tuple.FiveTuple.{FiveTuple}
 use Rattle.connections.specs.declared.segment.Header.{Header}
@@ -85,7 +88,7 @@ module _ {T : Type 0} where
   -- begins.
   abbrev pub TakesDatagram : Datagram → Option (Connection T) → Connection T → Type 0
   TakesDatagram d (Some c) its = TakesDatagramIn d c its
-  TakesDatagram d None its = (its ≡ begun_by_datagram d its.waiting its.attachment) × NoneWaits its
+  TakesDatagram d None its = its ≡ begun_by_datagram d its.attachment
 
   -- Another connection has this five-tuple, in the same position. All others stay.
   abbrev pub with_other : FiveTuple → Connection T → Table T → Table T
@@ -95,15 +98,47 @@ module _ {T : Type 0} where
   abbrev pub promoting : FiveTuple → Table T → Table T
   promoting e t = record t { live = promoted (is_five_tuple e) t.live }
 
-  -- In the connection of this five-tuple only counts and pending segments change.
-  abbrev pub ChangesCountsAt : FiveTuple → Option (Connection T) → Table T → Table T → Type 0
-  ChangesCountsAt e None old new = new ≡ old
-  ChangesCountsAt e (Some c) old new = (c' : Connection T) × ChangesCountsAlone c c'
-      × (new ≡ with_other e c' old)
+  -- The connection of this five-tuple becomes another, in the same position. Without one nothing
+  -- changes.
+  abbrev pub changing_at : FiveTuple → (Connection T → Connection T) → Option (Connection T)
+      → Table T → Table T
+  changing_at e f None t = t
+  changing_at e f (Some c) t = with_other e (f c) t
 
-  -- A dropped or pending segment changes nothing else.
-  abbrev pub Drops : Segment → Table T → Table T → Type 0
-  Drops s old new = ChangesCountsAt (five_tuple_of s) (at (five_tuple_of s) old.live) old new
+  abbrev pub changing : FiveTuple → (Connection T → Connection T) → Table T → Table T
+  changing e f t = changing_at e f (at e t.live) t
+
+  -- A segment that its receiver drops is counted or kept; one that waits becomes pending or is
+  -- counted; and one arrives that may acknowledge a pending one.
+  abbrev pub with_dropped_segment : DropReason → Segment → Table T → Table T
+  with_dropped_segment r s t = changing (five_tuple_of s) (dropping r s) t
+
+  abbrev pub without_earlier_syn : DropReason → Segment → Table T → Table T
+  without_earlier_syn r s t = changing (five_tuple_of s) (without_earlier r s) t
+
+  abbrev pub with_waiting_segment : DropReason → Segment → Table T → Table T
+  with_waiting_segment r s t = changing (five_tuple_of s) (with_waiting r s) t
+
+  abbrev pub without_pending_segment : Segment → Table T → Table T
+  without_pending_segment s t = changing (five_tuple_of s) (without_pending s) t
+
+  abbrev pub pending_outcome_in : Segment → Table T → Option PendingOutcome
+  pending_outcome_in s t = option_and_then (pending_outcome s) (at (five_tuple_of s) t.live)
+
+  -- A pending segment is added to its connection's stream. The connection comes first then.
+  abbrev pub ComesFirst : FiveTuple → (Connection T → Connection T → Type 0)
+      → Option (Connection T) → Table T → Table T → Type 0
+  ComesFirst e R None old new = new ≡ old
+  ComesFirst e R (Some c) old new = (c' : Connection T) × R c c'
+      × (new ≡ record old { live = (e, c') ∷ others e old.live })
+
+  abbrev pub AcceptsPending : Kept → Table T → Table T → Type 0
+  AcceptsPending k old new = ComesFirst (five_tuple_of_kept k) (AcceptsKept k)
+      (at (five_tuple_of_kept k) old.live) old new
+
+  abbrev pub LeavesOutPending : Kept → Table T → Table T → Type 0
+  LeavesOutPending k old new = ComesFirst (five_tuple_of_kept k) (LeavesOutKept k)
+      (at (five_tuple_of_kept k) old.live) old new
 
   -- A datagram with a wrong checksum is counted in the exchange of its five-tuple.
   abbrev pub DropsDatagramOf : Datagram → Option (Connection T) → Table T → Table T → Type 0
@@ -159,7 +194,7 @@ module _ {T : Type 0} where
     pub waited : another_in s (at (five_tuple_of s) old.live) ≡ Some (opening_of beginning)
     pub bare : IsBare beginning
     pub begins : Begins beginning its
-    pub was : IfSome (at (five_tuple_of s) old.live) (λ c'. c ≡ record c' { waiting = c.waiting })
+    pub was : Some c ≡ option_map without_syns (at (five_tuple_of s) old.live)
     pub stands : new ≡ record old {
       live = (five_tuple_of s, its) ∷ others (five_tuple_of s) old.live;
       held =

@@ -1,5 +1,5 @@
 -- Counts of what a side sent.
-use Rattle.std.specs.Prelude.{ℕ, ◌+◌, ◌-◌, ◌^◌, min}
+use Rattle.std.specs.Prelude.{ℕ, ◌+◌, ◌-◌, ◌*◌, ◌^◌, min}
 use Rattle.connections.specs.declared.traffic.Traffic.{Traffic}
 
 -- A count plus more, saturating.
@@ -8,6 +8,10 @@ plus_up_to most n more = min (n + more) most
 
 abbrev pub plus : ℕ → ℕ → ℕ
 plus = plus_up_to (2 ^ 64 - 1)
+
+-- A product, saturating.
+abbrev pub times : ℕ → ℕ → ℕ
+times n m = min (n * m) (2 ^ 64 - 1)
 
 -- Nothing was sent.
 abbrev pub nothing_sent : Traffic

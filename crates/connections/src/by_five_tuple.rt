@@ -166,8 +166,10 @@ impl<V> ByFiveTuple<V> {
 
     /// Returns the value of a five-tuple for writing. The order of use doesn't change.
     pub(crate) fn peek_mut(&mut self, five_tuple: &FiveTuple) -> Option<&mut V>
-        ensures* writes_back { sem 𝓛 (lends_value V.row self.entry five_tuple.now self.old.entries result) }
-        ensures value { option_copied_mut result ≡ lookup (is_five_tuple five_tuple.now) self.old.entries }
+        ensures* writes_back { sem 𝓛
+            (lends_value V.row self.entry five_tuple.now self.old.entries result) }
+        ensures value { option_copied_mut result
+            ≡ lookup (is_five_tuple five_tuple.now) self.old.entries }
     {
         self.latest.change_to(self.keys, five_tuple);
         // (a copy, so that only the table is borrowed)
@@ -180,7 +182,8 @@ impl<V> ByFiveTuple<V> {
     pub(crate) fn get_mut(&mut self, five_tuple: &FiveTuple) -> Option<&mut V>
         ensures* writes_back { sem 𝓛 (lends_value V.row self.entry five_tuple.now
             (promoted (is_five_tuple five_tuple.now) self.old.entries) result) }
-        ensures value { option_copied_mut result ≡ lookup (is_five_tuple five_tuple.now) self.old.entries }
+        ensures value { option_copied_mut result
+            ≡ lookup (is_five_tuple five_tuple.now) self.old.entries }
     {
         self.latest.change_to(self.keys, five_tuple);
         let ends = self.latest;
@@ -190,8 +193,8 @@ impl<V> ByFiveTuple<V> {
 
     /// Makes a five-tuple the most recently used.
     pub(crate) fn promote(&mut self, five_tuple: &FiveTuple)
-        ensures entries { self.new ≡ lru_cache (promoted (is_five_tuple five_tuple.now) self.old.entries)
-            self.old.cap }
+        ensures entries { self.new
+            ≡ lru_cache (promoted (is_five_tuple five_tuple.now) self.old.entries) self.old.cap }
     {
         self.latest.change_to(self.keys, five_tuple);
         self.table.promote(&self.latest);
@@ -216,7 +219,8 @@ impl<V> ByFiveTuple<V> {
     /// Removes a five-tuple and returns its value.
     pub(crate) fn pop(&mut self, five_tuple: &FiveTuple) -> Option<V>
         ensures value { result ≡ lookup (is_five_tuple five_tuple.now) self.old.entries }
-        ensures entries { self.new ≡ lru_cache (remove_entry (is_five_tuple five_tuple.now) self.old.entries)
+        ensures entries { self.new
+            ≡ lru_cache (remove_entry (is_five_tuple five_tuple.now) self.old.entries)
             self.old.cap }
     {
         self.latest.change_to(self.keys, five_tuple);

@@ -1,28 +1,31 @@
 //! A TCP connection or a UDP exchange.
-ghost use Rattle.std.specs.Prelude.{◌≡◌, ◌<◌, ◌≤◌, ◌^◌, IfOk, IfSome, IfNone, OnOk, OnErr, Some, true, false, [], ◌&&◌, is_none, is_some};
+ghost use Rattle.std.specs.Prelude.{◌≡◌, ◌≤◌, ◌^◌, ℕ, IfSome, true, false, [], ◌&&◌, is_some};
 ghost use Rattle.std.specs.Option.{option_map};
 ghost use Rattle.connections.specs.Segment.{header_of};
 ghost use Rattle.connections.specs.Waiting.{syn_in};
-ghost use Rattle.connections.specs.Drops.{DropsIn};
-ghost use Rattle.connections.specs.Connection.{adds_nothing as adds_none, another_of, answers_this as answers_it, confirms as confirms_answer, counted_from, dropped_by, dropped_from, goes_on_behind, has_opening, held_by, hosts_from as hosts_at, hosts_of, is_alone, is_apart as is_apart_from, is_closed, is_far as is_far_from, is_heeded as is_heeded_by, judgement_from, judgement_of, last_of, lets_in as lets_it_in, noting_from, opening_by, opening_of, part_by, sent_by, shows_damage as is_shown_damaged, side_of, silent, start_of, stream_of, verdict_from, verdict_of, without_bytes, Accepts, ChangesCountsAlone, IsAnew, IsBare, IsBegunBy, IsKept, LeavesOut, LeavesOutSyn, NoneWaits, Puts, PutsData, PutsSyn, Shows};
+ghost use Rattle.connections.specs.Connection.{another_of, answers_this as answers_it, confirms as confirms_answer, dropped_by, dropped_from, goes_on_behind, has_opening, hosts_from as hosts_at, hosts_of, is_alone, is_apart as is_apart_from, is_closed, is_far as is_far_from, is_heeded as is_heeded_by, judgement_from, judgement_of, last_of, lets_in as lets_it_in, opening_by, opening_of, sent_by, shows_damage as is_shown_damaged, side_of, silent, stream_of, verdict_from, IsAnew, IsBare, IsBegunBy, IsKept, Shows};
 
 use crate::dropped::Dropped;
 use crate::five_tuple::{End, Protocol};
-use crate::host::{Host, later};
-use crate::pending::{AckContext, PendingOutcome, PendingSegment, PendingSegments};
-use crate::receiver::{DropReason, Judgement, edge, is_behind_fin, is_beyond, is_known, judge};
+use crate::host::Host;
+use crate::pending::PendingSegments;
+use crate::receiver::{DropReason, Judgement, is_known, judge};
 use crate::segment::{Checksum, Segment};
 use crate::stream::Stream;
 use crate::traffic::Traffic;
-use std::alloc::{AllocError, Global};
+use std::alloc::Global;
 
 /// A caller's value that goes with a connection.
 pub trait Attachment: Drop {
     /// Returns the value for a new connection.
     fn begin(alloc: Global, protocol: Protocol) -> Self;
 
+    /// The most bytes of memory that it may take, itself included.
+    ghost most_bytes: { Self → ℕ } = { λ _. 2 ^ 64 };
+
     /// Returns an upper bound for its memory in bytes, itself included.
-    fn capacity(&self) -> usize;
+    fn capacity(&self) -> usize
+        ensures { result ≤ most_bytes self.now };
 }
 
 /// The sender of a packet.
@@ -54,7 +57,7 @@ pub struct Connection<T> {
     pub(crate) responder_host: Host,
     // Pending segments, for which the receiver's acknowledgements will show whether it took them;
     // and SYNs, with which another connection between the same ends may begin.
-    waiting: PendingSegments,
+    pub(crate) waiting: PendingSegments,
     /// The originator's TCP stream.
     pub from_originator: Stream,
     /// The responder's TCP stream.
@@ -117,7 +120,7 @@ pub struct Verdict {
 impl Verdict {
     /// Returns whether the receiver takes the segment or already has it, and nothing has to be done
     /// first.
-    fn lets_in(&self) -> bool
+    pub(crate) fn lets_in(&self) -> bool
         ensures is { result ≡ lets_it_in self.now }
         ensures kept { result ≡ true → IsKept self.now.judgement }
     {
@@ -165,8 +168,7 @@ impl<T: Attachment> Connection<T> {
         responder: End,
         time: u64,
     ) -> Connection<T>
-        ensures begun { result ≡ silent protocol originator responder time result.waiting result.attachment }
-        ensures waits { NoneWaits result }
+        ensures { result ≡ silent protocol originator responder time result.attachment }
     {
         Connection {
             protocol,
@@ -251,7 +253,7 @@ impl<T: Attachment> Connection<T> {
     }
 
     /// Returns the states of a segment's sender and of its receiver.
-    fn hosts(&self, segment: &Segment<'_>) -> (&Host, &Host)
+    pub(crate) fn hosts(&self, segment: &Segment<'_>) -> (&Host, &Host)
         ensures { (result.0.now, result.1.now) ≡ hosts_of segment.now self.now }
     {
         self.hosts_from(self.side_of(segment.source))
@@ -265,7 +267,7 @@ impl<T: Attachment> Connection<T> {
     }
 
     /// Returns what the receiver of this side's segment does with it.
-    fn judge_from(&self, side: Side, segment: &Segment<'_>) -> Judgement
+    pub(crate) fn judge_from(&self, side: Side, segment: &Segment<'_>) -> Judgement
         ensures { result ≡ judgement_from side segment.now self.now }
     {
         let (sender, receiver) = self.hosts_from(side);
@@ -287,7 +289,7 @@ impl<T: Attachment> Connection<T> {
     }
 
     /// Returns what this side's segment means for the connection.
-    fn verdict_from(&self, side: Side, segment: &Segment<'_>) -> Verdict
+    pub(crate) fn verdict_from(&self, side: Side, segment: &Segment<'_>) -> Verdict
         ensures { result ≡ verdict_from side segment.now self.now }
     {
         let has_waiting = !self.waiting.is_empty();
@@ -302,7 +304,7 @@ impl<T: Attachment> Connection<T> {
 
     /// Returns whether a segment's numbers are far from this connection's, so that it may be
     /// another's.
-    fn is_apart(&self, segment: &Segment<'_>) -> bool
+    pub(crate) fn is_apart(&self, segment: &Segment<'_>) -> bool
         ensures { result ≡ is_apart_from segment.now self.now }
     {
         let (sender, receiver) = self.hosts(segment);
@@ -313,7 +315,7 @@ impl<T: Attachment> Connection<T> {
     fn beginning(&self, answering: &Segment<'static>) -> Beginning
         ensures last { last_of result.first result.answer ≡ answering.now }
         ensures is { opening_of result ≡ opening_by (header_of answering.now)
-            (syn_in false self.now.waiting.kept.items) }
+            (syn_in false self.now.waiting) }
         ensures bare { answering.now.payload.now ≡ [] → IsBare result }
     {
         match self.waiting.syn(false) {
@@ -408,13 +410,6 @@ impl<T: Attachment> Connection<T> {
         *self = fresh;
     }
 
-    /// Removes the SYNs of another connection that began.
-    pub(crate) fn forget_syns(&mut self)
-        ensures { self.new ≡ record self.old { waiting = self.new.waiting } }
-    {
-        self.waiting.forget_syns();
-    }
-
     /// Counts a packet that its receiver drops.
     pub(crate) fn count_dropped(&mut self, side: Side, reason: DropReason)
         ensures { self.new ≡ dropped_from side reason self.old }
@@ -423,134 +418,6 @@ impl<T: Attachment> Connection<T> {
             Side::Originator => self.originator_dropped.add(reason),
             Side::Responder => self.responder_dropped.add(reason),
         }
-    }
-
-    /// Counts a segment that its receiver drops. A SYN is kept, since another connection may begin
-    /// with it.
-    pub(crate) fn drop_segment(
-        &mut self,
-        alloc: Global,
-        segment: &Segment<'_>,
-        reason: DropReason,
-    ) -> Result<(), AllocError>
-        ensures changes { ChangesCountsAlone self.old self.new }
-        ensures counted { DropsIn segment.now reason self.old self.new }
-    {
-        let may_begin = segment.begins() && reason != DropReason::Checksum;
-        if may_begin && self.is_apart(segment) {
-            if let Some(earlier) = self.waiting.take_syn(segment.answers()) {
-                self.count_dropped(self.side_of(earlier.segment().source), reason);
-            }
-            return self.waiting.keep_syn(alloc, segment, reason);
-        }
-        self.count_dropped(self.side_of(segment.source), reason);
-        Ok(())
-    }
-
-    /// Keeps a segment as pending until its receiver shows whether it took it. If too many are
-    /// pending, it counts as dropped for this reason.
-    pub(crate) fn wait(
-        &mut self,
-        alloc: Global,
-        segment: &Segment<'_>,
-        reason: DropReason,
-    ) -> Result<(), AllocError>
-        ensures { ChangesCountsAlone self.old self.new }
-    {
-        let (sender, receiver) = self.hosts(segment);
-        let is_beyond = is_beyond(edge(sender, receiver), segment);
-        if !self.waiting.keep(alloc, segment, Some(reason), is_beyond)? {
-            self.count_dropped(self.side_of(segment.source), reason);
-        }
-        Ok(())
-    }
-
-    /// Keeps the data of a SYN that its receiver took as pending, until the receiver acknowledges
-    /// the data too. That of a retransmitted SYN isn't kept.
-    fn keep_data_of_syn(
-        &mut self,
-        alloc: Global,
-        segment: &Segment<'_>,
-        judgement: Judgement,
-    ) -> Result<(), AllocError>
-        ensures { self.new ≡ record self.old { waiting = self.new.waiting } }
-    {
-        if judgement == Judgement::Taken && segment.has_data() {
-            self.waiting
-                .keep(alloc, &segment.data_of_syn(), None, false)?;
-        }
-        Ok(())
-    }
-
-    /// Returns the number behind all in-order data of a segment's sender, or the segment's first
-    /// number if none is known.
-    fn reached_at(&self, segment: &Segment<'_>) -> u32 {
-        let front = self.stream(self.side_of(segment.source)).front();
-        front.reached.unwrap_or(segment.first())
-    }
-
-    /// Returns what is known when a segment arrives that may acknowledge pending ones.
-    fn known_at(&self, segment: &Segment<'_>) -> AckContext {
-        let (sender, receiver) = self.hosts(segment);
-        AckContext {
-            sent: receiver.next,
-            reached: self.reached_at(segment),
-            fin: receiver.fin,
-            edge: edge(receiver, sender),
-        }
-    }
-
-    /// Drops the pending segments that a segment shows to be forged, when its receiver takes it.
-    fn forget_belied(&mut self, segment: &Segment<'_>)
-        ensures { ChangesCountsAlone self.old self.new }
-    {
-        let (side, reached) = (self.side_of(segment.source), self.reached_at(segment));
-        let (waiting, by_originator, by_responder) = (
-            &mut self.waiting,
-            &mut self.originator_dropped,
-            &mut self.responder_dropped,
-        );
-        match side {
-            Side::Originator => {
-                waiting.forget_unsent(segment, by_originator);
-                waiting.forget_belied(segment, reached, by_responder);
-            }
-            Side::Responder => {
-                waiting.forget_unsent(segment, by_responder);
-                waiting.forget_belied(segment, reached, by_originator);
-            }
-        }
-    }
-
-    /// Removes a pending segment that this segment acknowledges, and returns it. If all its bytes
-    /// arrived otherwise, it counts as dropped.
-    pub(crate) fn take_pending(&mut self, segment: &Segment<'_>) -> Option<PendingOutcome>
-        ensures { ChangesCountsAlone self.old self.new }
-    {
-        if self.judge(segment) == Judgement::Taken {
-            self.forget_belied(segment);
-        }
-        let known = self.known_at(segment);
-        let Some(kept) = self.waiting.take(segment, known) else {
-            self.waiting.forget_data_of_syn(segment.source);
-            return None;
-        };
-        let side = self.side_of(kept.segment().source);
-        if self.lacks(&kept) {
-            return Some(PendingOutcome::Taken(kept));
-        }
-        if let Some(reason) = kept.reason() {
-            self.count_dropped(side, reason);
-        }
-        Some(PendingOutcome::Had)
-    }
-
-    /// Returns whether bytes of a pending segment are missing in its sender's stream, before a FIN.
-    fn lacks(&self, kept: &PendingSegment) -> bool {
-        let segment = kept.segment();
-        self.stream(self.side_of(segment.source))
-            .lacks(segment.end())
-            && !is_behind_fin(self.hosts(&segment).0, &segment)
     }
 
     /// Returns what a side sent over TCP and the other side dropped, pending segments included.
@@ -563,230 +430,6 @@ impl<T: Attachment> Connection<T> {
         };
         self.waiting.count(end, &mut dropped);
         dropped
-    }
-
-    /// Returns where the stream of a segment's sender begins if nothing of it came before: behind
-    /// the SYN, or else at the later of the receiver's acknowledgement and the segment's first
-    /// number. `None` if neither is known to be its beginning.
-    fn start(receiver: &Host, segment: &Segment<'_>) -> Option<u32>
-        ensures { result ≡ start_of receiver.now segment.now }
-    {
-        if segment.begins() {
-            return Some(segment.first());
-        }
-        match receiver.acknowledged {
-            Some(number) => Some(later(Some(number), segment.first())),
-            None if segment.begins_stream() => Some(segment.first()),
-            None => None,
-        }
-    }
-
-    /// Updates the sender's state by this side's segment, unless the receiver has all of it
-    /// already.
-    fn note(&mut self, side: Side, segment: &Segment<'_>, judgement: Judgement)
-        ensures noted { self.new ≡ noting_from side judgement segment.now self.old }
-        ensures weight { self.new.weight ≡ self.old.weight }
-    {
-        let is_new = judgement != Judgement::Again;
-        let checksum = segment.checksum;
-        match side {
-            Side::Originator => {
-                let wrong = self.originator_host.note_checksum(checksum);
-                self.originator_dropped.add_damaged(u64::from(wrong));
-                if is_new {
-                    self.originator_host.note(&self.responder_host, segment);
-                }
-            }
-            Side::Responder => {
-                let wrong = self.responder_host.note_checksum(checksum);
-                self.responder_dropped.add_damaged(u64::from(wrong));
-                if is_new {
-                    self.responder_host.note(&self.originator_host, segment);
-                }
-            }
-        }
-    }
-
-    /// Adds a segment's bytes to its sender's stream. Those of a SYN become pending.
-    fn put(&mut self, alloc: Global, segment: &Segment<'_>) -> Result<(), AllocError>
-        ensures taken { OnOk result (Puts segment.now self.old self.new) }
-        ensures left_out { OnErr result (self.new ≡ without_bytes segment.now self.old) }
-        ensures weight { self.new.weight ≡ self.old.weight }
-    {
-        match self.side_of(segment.source) {
-            Side::Originator => {
-                let start = Self::start(&self.responder_host, segment);
-                self.from_originator.begin(alloc, start);
-                self.from_originator
-                    .forget(self.responder_host.acknowledged);
-                self.from_originator.accept(segment)
-            }
-            Side::Responder => {
-                let start = Self::start(&self.originator_host, segment);
-                self.from_responder.begin(alloc, start);
-                self.from_responder
-                    .forget(self.originator_host.acknowledged);
-                self.from_responder.accept(segment)
-            }
-        }
-    }
-
-    /// Counts this side's segment, and notes its time.
-    fn count(&mut self, side: Side, segment: &Segment<'_>)
-        ensures counted { self.new ≡ counted_from side segment.now self.old }
-        ensures weight { self.new.weight ≡ self.old.weight }
-    {
-        self.last_time = segment.time;
-        match side {
-            Side::Originator => self.originator_sent.add(segment.payload),
-            Side::Responder => self.responder_sent.add(segment.payload),
-        }
-    }
-
-    /// Adds the segment to its sender's stream, counts it, and updates its sender's state.
-    ///
-    /// `AllocError` if there is no memory for its bytes. They are left out then.
-    pub fn accept(&mut self, alloc: Global, segment: &Segment<'_>) -> Result<(), AllocError>
-        ensures taken { OnOk result (Accepts segment.now self.old self.new) }
-        ensures left_out { OnErr result (LeavesOut segment.now self.old self.new) }
-        ensures weight { self.new.weight ≡ self.old.weight }
-    {
-        let side = self.side_of(segment.source);
-        let judgement = self.judge_from(side, segment);
-        self.accept_judged(alloc, side, segment, judgement)
-    }
-
-    /// Accepts the segment, as [`Connection::accept`] does, if its receiver takes or already has it
-    /// and nothing has to be done first. Otherwise the connection doesn't change, and `Some` is the
-    /// segment's verdict.
-    pub fn accept_or_judge(
-        &mut self,
-        alloc: Global,
-        segment: &Segment<'_>,
-    ) -> Result<Option<Verdict>, AllocError>
-        ensures taken { IfOk result
-            (λ told. IfNone told
-            (IsKept (judgement_of segment.now self.old) × Accepts segment.now self.old self.new)) }
-        ensures judged { IfOk result
-            (λ told. IfSome told (λ verdict. verdict ≡ verdict_of segment.now self.old)) }
-        ensures let_in { IfOk result
-            (λ told. is_none told ≡ lets_it_in (verdict_of segment.now self.old)) }
-        ensures is_let_in { OnErr result (lets_it_in (verdict_of segment.now self.old) ≡ true) }
-        ensures stays { IfOk result (λ told. IfSome told (λ verdict. self.new ≡ self.old)) }
-        ensures left_out { OnErr result (LeavesOut segment.now self.old self.new) }
-        ensures weight { self.new.weight ≡ self.old.weight }
-    {
-        let side = self.side_of(segment.source);
-        let verdict = self.verdict_from(side, segment);
-        if !verdict.lets_in() {
-            return Ok(Some(verdict));
-        }
-        self.accept_judged(alloc, side, segment, verdict.judgement)?;
-        Ok(None)
-    }
-
-    /// Accepts this side's segment by what its receiver does with it.
-    fn accept_judged(
-        &mut self,
-        alloc: Global,
-        side: Side,
-        segment: &Segment<'_>,
-        judgement: Judgement,
-    ) -> Result<(), AllocError>
-        requires sent { side ≡ side_of self.old segment.now.source }
-        requires judged { judgement ≡ judgement_of segment.now self.old }
-        ensures taken { OnOk result (Accepts segment.now self.old self.new) }
-        ensures left_out { OnErr result (LeavesOut segment.now self.old self.new) }
-        ensures weight { self.new.weight ≡ self.old.weight }
-    {
-        self.count(side, segment);
-        self.note(side, segment, judgement);
-        if segment.begins() {
-            return self.put_syn(alloc, segment, judgement);
-        }
-        self.put_part(alloc, segment, judgement)
-    }
-
-    /// Adds a segment's new bytes to its sender's stream.
-    fn put_part(
-        &mut self,
-        alloc: Global,
-        segment: &Segment<'_>,
-        judgement: Judgement,
-    ) -> Result<(), AllocError>
-        ensures taken { OnOk result
-            (PutsData (adds_none judgement segment.now) (part_by judgement segment.now) self.old
-            self.new) }
-        ensures left_out { OnErr result (self.new ≡ without_bytes (part_by judgement segment.now) self.old) }
-        ensures weight { self.new.weight ≡ self.old.weight }
-    {
-        match judgement {
-            Judgement::Again if !segment.has_data() => Ok(()),
-            Judgement::Again => self.put(alloc, &segment.bytes_alone()),
-            Judgement::Taken | Judgement::Waiting(_) | Judgement::Dropped(_) => {
-                self.put(alloc, segment)
-            }
-        }
-    }
-
-    /// Begins the sender's stream behind its SYN. The SYN's data becomes pending.
-    fn put_syn(
-        &mut self,
-        alloc: Global,
-        segment: &Segment<'_>,
-        judgement: Judgement,
-    ) -> Result<(), AllocError>
-        ensures taken { OnOk result (PutsSyn segment.now self.old self.new) }
-        ensures left_out { OnErr result (LeavesOutSyn segment.now self.old self.new) }
-        ensures weight { self.new.weight ≡ self.old.weight }
-    {
-        self.keep_data_of_syn(alloc, segment, judgement)?;
-        self.put(alloc, &segment.without_data())
-    }
-
-    /// Adds a pending segment to its sender's stream. A SYN's data was counted with the SYN.
-    pub(crate) fn accept_pending(
-        &mut self,
-        alloc: Global,
-        kept: &PendingSegment,
-    ) -> Result<(), AllocError>
-        ensures { self.new.weight ≡ self.old.weight }
-    {
-        self.forget_belied(&kept.segment());
-        if kept.is_of_syn() {
-            return self.put(alloc, &kept.segment());
-        }
-        self.accept(alloc, &kept.segment())
-    }
-
-    /// Returns an upper bound for the connection's memory in bytes, its streams included.
-    fn capacity(&self) -> usize
-        ensures { held_by self.now < 2 ^ 64 → held_by self.now ≤ result }
-    {
-        let streams = self
-            .from_originator
-            .capacity()
-            .saturating_add(self.from_responder.capacity());
-        let others = self
-            .waiting
-            .capacity()
-            .saturating_add(self.attachment.capacity())
-            .saturating_add(CONNECTION_COST);
-        streams.saturating_add(others)
-    }
-
-    /// Returns whether the table accounts for the memory that it takes.
-    pub fn is_settled(&self) -> bool {
-        self.weight == self.capacity()
-    }
-
-    /// Updates the memory that the table accounts for it, up to `room`.
-    pub(crate) fn settle(&mut self, room: usize)
-        ensures settled { self.new ≡ record self.old { weight = self.new.weight } }
-        ensures within { self.new.weight ≤ room }
-        ensures enough { held_by self.new ≤ room → held_by self.new ≤ self.new.weight }
-    {
-        self.weight = self.capacity().min(room);
     }
 
     /// Returns whether it is closed: one side sent RST, or both sent all their data and FIN, and

@@ -10,7 +10,7 @@ use crate::segment::Checksum;
 pub struct Datagram<'a> {
     /// The capture time, in nanoseconds since 1970-01-01 00:00 UTC.
     pub time: u64,
-    /// The number of the packet's network; 0 if networks aren't told apart.
+    /// The number of the packet's network; 0 if networks aren't distinguished.
     pub network: u64,
     /// The sender.
     pub source: End,

@@ -1,7 +1,7 @@
 //! UDP exchanges: connections whose packets have no sequence numbers.
 ghost use Rattle.std.specs.Prelude.{◌≡◌};
 ghost use Rattle.connections.specs.declared.receiver.DropReason.TheVariants as reason;
-ghost use Rattle.connections.specs.Connection.{begun_by_datagram, dropped_from, is_datagram_damaged, side_of, with_datagram, IsAfter, NoneWaits, TakesDatagramIn};
+ghost use Rattle.connections.specs.Connection.{begun_by_datagram, dropped_from, is_datagram_damaged, side_of, with_datagram, IsAfter, TakesDatagramIn};
 
 use crate::connection::{Attachment, Connection, Side};
 use crate::datagram::Datagram;
@@ -13,8 +13,7 @@ use std::alloc::Global;
 impl<T: Attachment> Connection<T> {
     /// Returns an exchange that begins with this datagram.
     pub(crate) fn of_datagram(alloc: Global, datagram: &Datagram<'_>) -> Connection<T>
-        ensures begun { result ≡ begun_by_datagram datagram.now result.waiting result.attachment }
-        ensures waits { NoneWaits result }
+        ensures begun { result ≡ begun_by_datagram datagram.now result.attachment }
         ensures weight { result.weight ≡ 0 }
     {
         let mut exchange = Connection::new(

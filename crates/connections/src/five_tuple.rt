@@ -130,7 +130,7 @@ impl FiveTuple {
     }
 }
 
-// Whole words hash fastest: one block of two words for IPv4 when networks aren't told apart.
+// Whole words hash fastest: one block of two words for IPv4 when networks aren't distinguished.
 impl Hash for FiveTuple {
     ghost use Rattle.connections.specs.FiveTuple.{ends_fed, network_fed, ports_number};
 

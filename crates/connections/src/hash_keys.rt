@@ -42,7 +42,7 @@ impl HashKeys {
         folded(hash ^ upper, self.second ^ lower)
     }
 
-    /// Returns the hash of two addresses, of which at least one is IPv6, and of ports and protocol.
+    /// Returns the hash of two addresses, at least one of them IPv6, and of ports and protocol.
     fn hash_of_both(self, lower: u128, upper: u128, ports: u64) -> u64
         ensures { result ≡ hash_of_both self lower upper ports }
     {
@@ -52,7 +52,7 @@ impl HashKeys {
     }
 
     /// Returns the hash of a five-tuple. It is a single product if both addresses are IPv4 and
-    /// networks aren't told apart.
+    /// networks aren't distinguished.
     #[tactic(auto, unfolding(crate::specs::HashKeys::hash_of))]
     #[inline(always)]
     pub(crate) fn hash(self, five_tuple: &FiveTuple) -> u64

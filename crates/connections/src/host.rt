@@ -41,7 +41,7 @@ pub struct Host {
     pub(crate) unchecked: u8,
 }
 
-/// Returns the later of two sequence numbers, of which one may be unknown.
+/// Returns the later of two sequence numbers, one of which may be unknown.
 pub(crate) fn later(known: Option<u32>, number: u32) -> u32
     ensures { result ≡ later_of known number }
 {
@@ -52,7 +52,7 @@ pub(crate) fn later(known: Option<u32>, number: u32) -> u32
 }
 
 impl Host {
-    /// Returns the state of an end of which nothing was captured.
+    /// Returns the state of an end before any of its packets is captured.
     pub fn new() -> Host
         ensures { result ≡ silent_host }
     {

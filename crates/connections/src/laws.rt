@@ -7,9 +7,10 @@ ghost use Rattle.connections.specs.declared.five_tuple.Protocol.{Protocol};
 ghost use Rattle.connections.specs.declared.five_tuple.End.{End as AnEnd};
 ghost use Rattle.connections.specs.Table.{at, others};
 ghost use Rattle.connections.specs.declared.five_tuple.FiveTuple.{FiveTuple};
-ghost use Rattle.connections.specs.Connection.{judgement_of, stream_of, ChangesCountsAlone};
+ghost use Rattle.connections.specs.Connection.{dropping, judgement_of, stream_of, with_waiting, without_pending, ChangesCountsAlone};
 ghost use Rattle.connections.specs.declared.connection.Connection.{Connection};
 ghost use Rattle.connections.specs.declared.connection.Side.{Side};
+ghost use Rattle.connections.specs.declared.receiver.DropReason.{DropReason};
 ghost use Rattle.connections.specs.declared.segment.Segment.{Segment};
 ghost use Rattle.connections.specs.declared.stream.Stream.{Stream};
 ghost use Rattle.connections.specs.declared.stream.Reading.{Reading};
@@ -66,14 +67,21 @@ pub fn the_next_number_is_that_of_what_is_held()
         → IsNumberOf (stopped t t.reading).next (stopped t t.reading).reading }
 {}
 
-/// Dropped packets change nothing that is read: only counts and the pending segments. So what a
-/// receiver does with later segments, and which streams it reads, stays the same.
+/// Dropped and pending packets change nothing that is read: only counts and the pending segments.
+/// So what a receiver does with later segments, and which streams it reads, stays the same.
 pub fn dropped_packets_change_nothing_that_is_heard<T>()
     ensures judgement { (s : Segment) (old new : Connection T) → ChangesCountsAlone old new
         → judgement_of s new ≡ judgement_of s old }
     ensures streams { (side : Side) (old new : Connection T) → ChangesCountsAlone old new
         → stream_of side new ≡ stream_of side old }
-    ensures attachment { (old new : Connection T) → ChangesCountsAlone old new → new.attachment ≡ old.attachment }
+    ensures attachment { (old new : Connection T) → ChangesCountsAlone old new
+        → new.attachment ≡ old.attachment }
     ensures many { (old mid new : Connection T) → ChangesCountsAlone old mid
         → ChangesCountsAlone mid new → ChangesCountsAlone old new }
+    ensures dropped { (r : DropReason) (s : Segment) (c : Connection T)
+        → ChangesCountsAlone c (dropping r s c) }
+    ensures waiting { (r : DropReason) (s : Segment) (c : Connection T)
+        → ChangesCountsAlone c (with_waiting r s c) }
+    ensures acknowledged { (s : Segment) (c : Connection T)
+        → ChangesCountsAlone c (without_pending s c) }
 {}

@@ -13,6 +13,7 @@
 //! memory is accounted. [`laws`] holds what follows from the definitions alone.
 #![tactic(auto)]
 
+mod accepting;
 mod boxed;
 mod by_five_tuple;
 mod connection;
@@ -31,6 +32,7 @@ mod segment;
 mod stream;
 mod table;
 mod traffic;
+mod waiting;
 mod words;
 
 pub use connection::{Attachment, CONNECTION_COST, Connection, Side, Verdict};

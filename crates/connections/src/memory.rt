@@ -1,13 +1,23 @@
 //! The memory of the connections, and which of them are evicted over a limit.
-ghost use Rattle.std.specs.Prelude.{◌≡◌, ◌<◌, ◌≤◌, IfSome, IfNone};
+ghost use Rattle.std.specs.Prelude.{◌≡◌, ◌<◌, ◌≤◌, ◌^◌, IfSome, IfNone, true};
+ghost use Rattle.connections.specs.Connection.{held_by};
 ghost use Rattle.std.specs.Option.{option_map};
 ghost use Rattle.connections.specs.Table.{at, others};
-ghost use Rattle.connections.specs.Memory.{closed_count, closed_part, is_crowded as crowded, open_part, total, FitsClosed, IsAccounted, IsSettled, IsTakenOut};
+ghost use Rattle.connections.specs.Memory.{closed_count, closed_part, is_crowded as crowded, most_of, most_weight, open_part, total, FitsClosed, IsAccounted, IsSettled, IsTakenOut};
 
 use crate::by_five_tuple::ByFiveTuple;
-use crate::connection::{Attachment, Connection};
+use crate::connection::{Attachment, CONNECTION_COST, Connection};
 use crate::five_tuple::FiveTuple;
 use crate::table::{CLOSED_COST, CLOSED_SHARE, Connections};
+use crate::traffic::Traffic;
+
+/// An upper bound for a stream's memory for each byte and for each packet that was captured, and
+/// for what it takes besides, in bytes.
+const BYTE_COST: usize = 5;
+
+const PACKET_COST: usize = 4608;
+
+const STREAM_COST: usize = 512;
 
 /// The most bytes that are accounted for all connections: more than any machine has.
 const MAX_HELD: usize = 0x7fff_ffff_ffff_ffff;
@@ -44,6 +54,58 @@ fn forget_crowded(closed: &mut ByFiveTuple<u64>, limit: usize)
     }
 }
 
+/// Returns an upper bound for the memory of a stream in bytes, by what was captured of it. In-order
+/// bytes are in a vector, which doubles when it is full. Out-of-order bytes are in pages of 1,024
+/// bytes, each of which costs about as much again, and a packet reaches two that it doesn't fill.
+fn most_of_stream(sent: Traffic) -> usize
+    ensures { result ≡ most_of sent }
+{
+    let bytes = (sent.bytes as usize).saturating_mul(BYTE_COST);
+    let packets = (sent.packets as usize).saturating_mul(PACKET_COST);
+    bytes.saturating_add(packets).saturating_add(STREAM_COST)
+}
+
+impl<T: Attachment> Connection<T> {
+    /// Returns an upper bound for the connection's memory in bytes, its streams included.
+    fn capacity(&self) -> usize
+        ensures enough { held_by self.now < 2 ^ 64 → held_by self.now ≤ result }
+        ensures within { result ≤ most_weight T.most_bytes self.now }
+    {
+        let streams = self
+            .from_originator
+            .capacity(most_of_stream(self.originator_sent))
+            .saturating_add(
+                self.from_responder
+                    .capacity(most_of_stream(self.responder_sent)),
+            );
+        let others = self
+            .waiting
+            .capacity()
+            .saturating_add(self.attachment.capacity())
+            .saturating_add(CONNECTION_COST);
+        streams.saturating_add(others)
+    }
+
+    /// Returns whether the table accounts for the memory that it takes.
+    pub fn is_settled(&self) -> bool
+        ensures within { result ≡ true → self.now.weight ≤ most_weight T.most_bytes self.now }
+        ensures enough { result ≡ true → held_by self.now < 2 ^ 64
+            → held_by self.now ≤ self.now.weight }
+    {
+        self.weight == self.capacity()
+    }
+
+    /// Updates the memory that the table accounts for it, up to `room`.
+    pub(crate) fn settle(&mut self, room: usize)
+        ensures settled { self.new ≡ record self.old { weight = self.new.weight } }
+        ensures within { self.new.weight ≤ room }
+        ensures enough { held_by self.new ≤ room → held_by self.new ≤ self.new.weight }
+        ensures bounded { self.new.weight ≤ most_weight T.most_bytes self.new }
+    {
+        self.weight = self.capacity().min(room);
+    }
+}
+
 impl<T: Attachment> Connections<T> {
     /// Returns the memory that is accounted for the open connections, in bytes.
     pub fn held(&self) -> usize
@@ -55,7 +117,8 @@ impl<T: Attachment> Connections<T> {
     /// Updates the memory that is accounted for a connection. Call it after each packet that
     /// changes that ([`Connection::is_settled`]).
     pub fn settle(&mut self, five_tuple: &FiveTuple)
-        ensures settled { IsSettled five_tuple.now (at five_tuple.now self.old.live) self.old self.new }
+        ensures settled { IsSettled T.most_bytes five_tuple.now
+            (at five_tuple.now self.old.live) self.old self.new }
         ensures accounted { IsAccounted self.old → IsAccounted self.new }
     {
         let Some(connection) = self.live.peek_mut(five_tuple) else {
@@ -82,8 +145,10 @@ impl<T: Attachment> Connections<T> {
     pub fn take_crowded(&mut self, limit: usize) -> Option<Box<Connection<T>>>
         ensures taken { IfSome result (λ b. IsTakenOut self.old self.new b.value) }
         ensures crowded { IfSome result (λ b. open_part limit < self.old.held) }
-        ensures none { IfNone result ((self.new.live ≡ self.old.live) × (self.new.held ≡ self.old.held)) }
-        ensures within { IfNone result (IsAccounted self.old → total self.new.live ≤ open_part limit) }
+        ensures none { IfNone result
+            ((self.new.live ≡ self.old.live) × (self.new.held ≡ self.old.held)) }
+        ensures within { IfNone result
+            (IsAccounted self.old → total self.new.live ≤ open_part limit) }
         ensures closed { FitsClosed limit self.old.closed self.new.closed }
         ensures accounted { IsAccounted self.old → IsAccounted self.new }
     {

@@ -5,18 +5,20 @@
 //! section 3.10.7.4). So the segment is pending until the receiver acknowledges its bytes: if no
 //! others came at their numbers before, it took these. The data of a SYN is pending too (RFC 7413,
 //! section 3).
-ghost use Rattle.std.specs.Prelude.{◌≡◌, ◌<◌, length, not, IfSome, []};
+ghost use Rattle.std.specs.Prelude.{◌≡◌, ◌<◌, ◌≤◌, ◌+◌, ◌*◌, ◌++◌, ◌∷◌, length, min, IfOk, IfSome, OnErr, OnOk, Some, [], not};
 ghost use Rattle.std.specs.Option.{option_map};
 ghost use Rattle.connections.specs.Segment.{header_of};
-ghost use Rattle.connections.specs.Waiting.{are_some, is_syn as is_syn_of, syn_in, with_pending};
+ghost use Rattle.connections.specs.declared.pending.TheConstants.{PENDING_COST, PENDING_ROOM};
+ghost use Rattle.connections.specs.Waiting.{are_some, covers as covers_sent, cut_at, cut_by, end_of_kept, first_of_kept, five_tuple_of_kept, fits_to as fits, has_room, is_acknowledged_by as is_acknowledged, is_any_syn, is_behind_fin_in, is_belied_by as is_belied, is_beside as stands_beside, is_beside_any as is_beside_one, is_data_of_syn_to, is_from, is_in_row as stands_in_row, is_of_syn as is_syn_data, is_syn as is_syn_of, is_taken_by as is_taken, is_unsent_by as is_unsent, is_unsure as is_unsure_by, is_within, keeping, kept_at, kept_of, kept_syn, place_of_syn, place_taken, stands as stands_by, syn_in, taken_out, taken_syn, takes_numbers_in, with_bytes_of, with_counted, with_pending, without, without_at, without_syn, without_taken};
 
 use crate::dropped::Dropped;
-use crate::five_tuple::End;
-use crate::host::later;
+use crate::five_tuple::{End, FiveTuple};
+use crate::host::{Host, later};
 use crate::numbers::{advance, is_behind};
-use crate::receiver::DropReason;
+use crate::receiver::{DropReason, is_behind_fin};
 use crate::segment::{Header, Segment};
 use std::alloc::{AllocError, AllocFailed, Global};
+use std::marker::Model;
 
 /// The most pending segments of a connection.
 pub const MAX_PENDING: usize = 32;
@@ -27,6 +29,10 @@ const MAX_BYTES: usize = 0x1_0000;
 /// An upper bound for a pending segment's memory besides its data, in bytes: its fields and the
 /// allocator's overhead.
 const PENDING_COST: usize = 320;
+
+/// An upper bound for the capacity of their list, which doubles when it is full: it has at most
+/// [`MAX_PENDING`] segments and two SYNs.
+const PENDING_ROOM: usize = 128;
 
 /// How much of both is reserved for segments that begin in the window and acknowledge what was
 /// sent. Most forged segments do neither.
@@ -46,27 +52,54 @@ pub struct PendingSegment {
     is_beyond: bool,
 }
 
+impl Model for PendingSegment {
+    ghost use Rattle.connections.specs.Waiting.{Kept};
+
+    ghost Value = { Kept };
+
+    ghost view = { λ k. record {
+      header = k.header;
+      bytes = k.payload.items;
+      reason = k.reason;
+      is_beyond = k.is_beyond;
+    } };
+}
+
+/// Returns whether a segment with this reason acknowledges bytes that aren't known to be sent, or
+/// begins beyond the window.
+fn is_unsure(reason: Option<DropReason>, is_beyond: bool) -> bool
+    ensures { result ≡ is_unsure_by reason is_beyond }
+{
+    matches!(reason, Some(DropReason::Acknowledgment)) || is_beyond
+}
+
 impl PendingSegment {
     /// Returns the segment.
     pub fn segment(&self) -> Segment<'_>
         ensures header { header_of result ≡ self.now.header }
-        ensures data { result.payload.now ≡ self.now.payload.items }
+        ensures data { result.payload.now ≡ self.now.bytes }
     {
         self.header.with_data(self.payload.as_slice())
     }
 
     /// Returns why it was dropped, if it isn't taken.
-    pub(crate) fn reason(&self) -> Option<DropReason> {
+    pub(crate) fn reason(&self) -> Option<DropReason>
+        ensures { result ≡ self.now.reason }
+    {
         self.reason
     }
 
     /// Returns whether it is the data of a SYN, which was counted with the SYN.
-    pub(crate) fn is_of_syn(&self) -> bool {
+    pub(crate) fn is_of_syn(&self) -> bool
+        ensures { result ≡ is_syn_data self.now }
+    {
         self.reason.is_none()
     }
 
     /// Returns whether it is a SYN.
-    fn begins(&self) -> bool {
+    fn begins(&self) -> bool
+        ensures { result ≡ is_any_syn self.now }
+    {
         self.segment().begins()
     }
 
@@ -78,68 +111,140 @@ impl PendingSegment {
         segment.begins() && segment.answers() == answers
     }
 
+    /// Returns the sender.
+    pub(crate) fn source(&self) -> End
+        ensures { result ≡ self.now.header.source }
+    {
+        self.header.source
+    }
+
+    /// Returns its five-tuple.
+    pub(crate) fn between(&self) -> FiveTuple
+        ensures { result ≡ five_tuple_of_kept self.now }
+    {
+        self.segment().between()
+    }
+
+    /// Returns whether it is behind its sender's FIN.
+    pub(crate) fn is_behind_fin(&self, sender: &Host) -> bool
+        ensures { result ≡ is_behind_fin_in sender.now.fin self.now }
+    {
+        is_behind_fin(sender, &self.segment())
+    }
+
+    /// Returns the number of its first data byte.
+    fn first(&self) -> u32
+        ensures { result ≡ first_of_kept self.now }
+    {
+        self.segment().first()
+    }
+
+    /// Returns the number behind all that it occupies, a FIN included.
+    pub(crate) fn end(&self) -> u32
+        ensures { result ≡ end_of_kept self.now }
+    {
+        self.segment().end()
+    }
+
+    /// Returns whether it has data or a FIN.
+    fn takes_numbers(&self) -> bool
+        ensures { result ≡ takes_numbers_in self.now }
+    {
+        self.segment().takes_numbers()
+    }
+
+    /// Returns whether another segment acknowledges bytes of this one, and nothing beyond all that
+    /// was sent.
+    fn is_within(&self, ack: &Segment<'_>, known: AckContext) -> bool
+        ensures { result ≡ is_within ack.now known self.now }
+    {
+        let number = ack.acknowledgment;
+        self.header.destination == ack.source
+            && self.takes_numbers()
+            && !self.begins()
+            && is_behind(number, self.first())
+            && !is_behind(number, later(known.sent, self.end()))
+    }
+
     /// Returns whether another segment shows that its sender took bytes of this one. It
     /// acknowledges them, and nothing beyond all that was sent. If this segment's acknowledgement
     /// wasn't known to be of sent bytes, the other one comes behind it.
-    fn is_acknowledged_by(&self, teller: &Segment<'_>, known: AckContext) -> bool {
-        let (number, segment) = (teller.acknowledgment, self.segment());
-        segment.destination == teller.source
-            && segment.takes_numbers()
-            && !segment.begins()
-            && is_behind(number, segment.first())
-            && !is_behind(number, later(known.sent, segment.end()))
-            && (self.is_of_syn() || (self.fits_to(teller, known) && self.stands(teller, known)))
+    fn is_acknowledged_by(&self, ack: &Segment<'_>, known: AckContext) -> bool
+        ensures { result ≡ is_acknowledged ack.now known self.now }
+    {
+        self.is_within(ack, known)
+            && (self.is_of_syn() || (self.fits_to(ack, known) && self.stands(ack, known)))
     }
 
     /// Returns whether a segment acknowledges all of it, or no more than was known to be sent. It
     /// may also acknowledge as much as the receiver's window had room for, if this segment begins
     /// within the window and acknowledges what was sent.
-    fn fits_to(&self, teller: &Segment<'_>, known: AckContext) -> bool {
-        let number = teller.acknowledgment;
-        let is_unsure = self.reason == Some(DropReason::Acknowledgment) || self.is_beyond;
-        known.covers(teller)
-            || number == self.segment().end()
-            || (!is_unsure && known.edge == Some(number))
+    fn fits_to(&self, ack: &Segment<'_>, known: AckContext) -> bool
+        ensures { result ≡ fits ack.now known self.now }
+    {
+        let number = ack.acknowledgment;
+        known.covers(ack)
+            || number == self.end()
+            || (!is_unsure(self.reason, self.is_beyond) && known.edge == Some(number))
     }
 
     /// Returns whether the bytes that it acknowledges were sent, by the time a segment came: all of
     /// them came, or that segment begins there.
-    fn stands(&self, teller: &Segment<'_>, known: AckContext) -> bool {
+    fn stands(&self, ack: &Segment<'_>, known: AckContext) -> bool
+        ensures { result ≡ stands_by ack.now known self.now }
+    {
         let number = self.header.acknowledgment;
-        !is_behind(number, known.reached) || number == teller.first()
+        !is_behind(number, known.reached) || number == ack.first()
     }
 
     /// Returns whether it is adjacent to another pending segment of the same sender.
-    fn is_beside(&self, other: &PendingSegment) -> bool {
-        let (segment, beside) = (self.segment(), other.segment());
-        segment.source == beside.source
-            && (segment.first() == beside.end() || beside.first() == segment.end())
+    fn is_beside(&self, other: &PendingSegment) -> bool
+        ensures { result ≡ stands_beside self.now other.now }
+    {
+        self.header.source == other.header.source
+            && (self.first() == other.end() || other.first() == self.end())
     }
 
     /// Returns whether a segment of its sender shows that it is forged: that segment has no data,
-    /// isn't behind it, and acknowledges more.
-    fn is_unsent_by(&self, segment: &Segment<'_>) -> bool {
+    /// isn't before it, and acknowledges more.
+    fn is_unsent_by(&self, segment: &Segment<'_>) -> bool
+        ensures { result ≡ is_unsent segment.now self.now }
+    {
         !self.is_of_syn()
             && !self.begins()
             && self.header.source == segment.source
             && !segment.takes_numbers()
-            && !is_behind(segment.first(), self.segment().first())
+            && !is_behind(segment.first(), self.first())
             && is_behind(segment.acknowledgment, self.header.acknowledgment)
     }
 
     /// Truncates it at this number, with its FIN.
-    fn cut(&mut self, number: u32) {
-        if is_behind(self.segment().end(), number) {
+    fn cut(&mut self, number: u32)
+        ensures { self.new ≡ cut_at number self.old }
+    {
+        if is_behind(self.end(), number) {
             let len = advance(number, self.header.sequence) as usize;
             self.payload.truncate(len);
             self.header = self.header.without_fin();
         }
     }
 
+    /// Truncates it at the bytes that a segment acknowledges, and at the other end's FIN.
+    fn cut_by(&mut self, ack: &Segment<'_>, known: AckContext)
+        ensures { self.new ≡ cut_by ack.now known self.old }
+    {
+        self.cut(ack.acknowledgment);
+        if let Some(number) = known.fin {
+            self.cut(number);
+        }
+    }
+
     /// Returns whether a segment of its receiver, behind the number `reached`, shows that it is
     /// forged. It does if this one acknowledged only a part of what is between that number and the
     /// segment's end, before the segment came.
-    fn is_belied_by(&self, segment: &Segment<'_>, reached: u32) -> bool {
+    fn is_belied_by(&self, segment: &Segment<'_>, reached: u32) -> bool
+        ensures { result ≡ is_belied segment.now reached self.now }
+    {
         let (number, first) = (self.header.acknowledgment, segment.first());
         let begin = if is_behind(first, reached) {
             reached
@@ -151,6 +256,13 @@ impl PendingSegment {
             && is_behind(number, begin)
             && is_behind(segment.behind(), number)
             && number != first
+    }
+
+    /// Returns whether it is the data of a SYN to this end.
+    fn is_data_of_syn_to(&self, receiver: End) -> bool
+        ensures { result ≡ is_data_of_syn_to receiver self.now }
+    {
+        self.is_of_syn() && self.header.destination == receiver
     }
 }
 
@@ -169,9 +281,11 @@ pub(crate) struct AckContext {
 
 impl AckContext {
     /// Returns whether the segment acknowledges no more than is known to be sent.
-    fn covers(self, teller: &Segment<'_>) -> bool {
+    fn covers(self, ack: &Segment<'_>) -> bool
+        ensures { result ≡ covers_sent self ack.now }
+    {
         match self.sent {
-            Some(next) => !is_behind(teller.acknowledgment, next),
+            Some(next) => !is_behind(ack.acknowledgment, next),
             None => false,
         }
     }
@@ -186,16 +300,192 @@ pub enum PendingOutcome {
     Had,
 }
 
+/// Returns how many bytes of data these have.
+fn bytes_of(list: &[PendingSegment]) -> usize
+    ensures { result ≡ with_bytes_of list.now 0 }
+{
+    let mut bytes = 0_usize;
+    for kept in list {
+        bytes = bytes.saturating_add(kept.payload.len());
+    }
+    bytes
+}
+
+/// Returns whether one of these is adjacent to a pending segment.
+fn is_beside_any(list: &[PendingSegment], kept: &PendingSegment) -> bool
+    ensures { result ≡ is_beside_one kept.now list.now }
+{
+    for other in list {
+        if kept.is_beside(other) {
+            return true;
+        }
+    }
+    false
+}
+
+/// Returns whether a pending segment may be genuine. If it begins beyond the window and the
+/// acknowledgement covers more than is known to be sent, it has to be adjacent to sent data or to
+/// another pending segment. A forged one isn't.
+fn is_in_row(
+    list: &[PendingSegment],
+    kept: &PendingSegment,
+    ack: &Segment<'_>,
+    known: AckContext,
+) -> bool
+    ensures { result ≡ stands_in_row list.now ack.now known kept.now }
+{
+    !kept.is_beyond
+        || known.covers(ack)
+        || known.sent == Some(kept.first())
+        || is_beside_any(list, kept)
+}
+
+/// Returns whether a segment acknowledges a pending one, which may be genuine.
+fn is_taken_by(
+    list: &[PendingSegment],
+    kept: &PendingSegment,
+    ack: &Segment<'_>,
+    known: AckContext,
+) -> bool
+    ensures { result ≡ is_taken list.now ack.now known kept.now }
+{
+    kept.is_acknowledged_by(ack, known) && is_in_row(list, kept, ack, known)
+}
+
+/// Returns the index of the first pending segment that `ack` acknowledges.
+fn place_acknowledged(
+    list: &[PendingSegment],
+    ack: &Segment<'_>,
+    known: AckContext,
+) -> Option<usize>
+    ensures is { result ≡ place_taken ack.now known list.now }
+    ensures within { IfSome result (λ place. place < length list.now) }
+{
+    for place in 0..list.len() {
+        if is_taken_by(list, &list[place], ack, known) {
+            return Some(place);
+        }
+    }
+    None
+}
+
+/// Returns the index of the SYN-ACK (`answers`), or of the SYN without ACK.
+fn place_syn(list: &[PendingSegment], answers: bool) -> Option<usize>
+    ensures is { result ≡ place_of_syn answers list.now }
+    ensures within { IfSome result (λ place. place < length list.now) }
+{
+    for place in 0..list.len() {
+        if list[place].is_syn(answers) {
+            return Some(place);
+        }
+    }
+    None
+}
+
+/// Removes and returns the segment at an index.
+fn remove_at(list: &mut Vec<PendingSegment>, place: usize) -> PendingSegment
+    requires { place < length list.old.items }
+    ensures taken { kept_at (Some place) list.old.items ≡ Some result }
+    ensures left { list.new.items ≡ without_at (Some place) list.old.items }
+{
+    list.remove(place)
+}
+
+/// Counts the segments that a segment of their sender shows to be forged.
+fn count_unsent(list: &[PendingSegment], segment: &Segment<'_>, dropped: &mut Dropped)
+    ensures { dropped.new ≡ with_counted (is_unsent segment.now) list.now dropped.old }
+{
+    for kept in list {
+        if let (true, Some(reason)) = (kept.is_unsent_by(segment), kept.reason) {
+            dropped.add(reason);
+        }
+    }
+}
+
+/// Counts the segments that a segment of their receiver, behind the number `reached`, shows to be
+/// forged.
+fn count_belied(list: &[PendingSegment], segment: &Segment<'_>, reached: u32, dropped: &mut Dropped)
+    ensures { dropped.new ≡ with_counted (is_belied segment.now reached) list.now dropped.old }
+{
+    for kept in list {
+        if let (true, Some(reason)) = (kept.is_belied_by(segment, reached), kept.reason) {
+            dropped.add(reason);
+        }
+    }
+}
+
+/// Counts the segments of this end.
+fn count_from(list: &[PendingSegment], sender: End, dropped: &mut Dropped)
+    ensures { dropped.new ≡ with_counted (is_from sender) list.now dropped.old }
+{
+    for kept in list {
+        if let (true, Some(reason)) = (kept.header.source == sender, kept.reason) {
+            dropped.add(reason);
+        }
+    }
+}
+
+/// Removes the segments that a segment of their sender shows to be forged.
+fn remove_unsent(list: &mut Vec<PendingSegment>, segment: &Segment<'_>)
+    ensures { list.new.items ≡ without (is_unsent segment.now) list.old.items }
+{
+    list.retain(|kept| !kept.is_unsent_by(segment));
+}
+
+/// Removes the segments that a segment of their receiver, behind the number `reached`, shows to be
+/// forged.
+fn remove_belied(list: &mut Vec<PendingSegment>, segment: &Segment<'_>, reached: u32)
+    ensures { list.new.items ≡ without (is_belied segment.now reached) list.old.items }
+{
+    list.retain(|kept| !kept.is_belied_by(segment, reached));
+}
+
+/// Removes the data of a SYN to this end.
+fn remove_data_of_syn(list: &mut Vec<PendingSegment>, receiver: End)
+    ensures { list.new.items ≡ without (is_data_of_syn_to receiver) list.old.items }
+{
+    list.retain(|kept| !kept.is_data_of_syn_to(receiver));
+}
+
+/// Removes the SYNs.
+fn remove_syns(list: &mut Vec<PendingSegment>)
+    ensures { list.new.items ≡ without is_any_syn list.old.items }
+{
+    list.retain(|kept| !kept.begins());
+}
+
+/// Returns the SYN-ACK (`answers`), or the SYN without ACK.
+fn find_syn(list: &[PendingSegment], answers: bool) -> Option<Segment<'static>>
+    ensures is { option_map header_of result ≡ syn_in answers list.now }
+    ensures bare { IfSome result (λ syn. syn.payload.now ≡ []) }
+{
+    for kept in list {
+        if kept.is_syn(answers) {
+            return Some(kept.segment().without_data());
+        }
+    }
+    None
+}
+
 /// The pending segments of a connection, in the order of arrival.
 #[derive(Drop)]
 pub(crate) struct PendingSegments {
     kept: Vec<PendingSegment>,
 }
 
+impl Model for PendingSegments {
+    ghost use Rattle.std.specs.Prelude.{List};
+    ghost use Rattle.connections.specs.Waiting.{Kept};
+
+    ghost Value = { List Kept };
+
+    ghost view = { λ p. p.kept.items };
+}
+
 impl PendingSegments {
     /// Returns an empty list.
     pub(crate) fn new(alloc: Global) -> PendingSegments
-        ensures { result.kept.items ≡ [] }
+        ensures { result ≡ [] }
     {
         PendingSegments {
             kept: Vec::new(alloc),
@@ -204,27 +494,18 @@ impl PendingSegments {
 
     /// Returns whether there are none.
     pub(crate) fn is_empty(&self) -> bool
-        ensures { are_some self.now.kept.items ≡ not result }
+        ensures { are_some self.now ≡ not result }
     {
         self.kept.is_empty()
     }
 
-    /// Returns how many bytes of data they have.
-    fn bytes(&self) -> usize {
-        let mut bytes = 0_usize;
-        for kept in &self.kept {
-            bytes = bytes.saturating_add(kept.payload.len());
-        }
-        bytes
-    }
-
     /// Returns an upper bound for their memory in bytes.
-    pub(crate) fn capacity(&self) -> usize {
-        let mut bytes = self.kept.capacity().saturating_mul(PENDING_COST);
-        for kept in &self.kept {
-            bytes = bytes.saturating_add(kept.payload.capacity());
-        }
-        bytes
+    pub(crate) fn capacity(&self) -> usize
+        ensures enough { with_bytes_of self.now 0 ≤ result }
+        ensures within { result ≤ with_bytes_of self.now 0 + PENDING_ROOM * PENDING_COST }
+    {
+        let entries = self.kept.capacity().min(PENDING_ROOM) * PENDING_COST;
+        bytes_of(self.kept.as_slice()).saturating_add(entries)
     }
 
     /// Keeps a segment, which may begin beyond its receiver's window. Returns whether there was
@@ -235,23 +516,33 @@ impl PendingSegments {
         segment: &Segment<'_>,
         reason: Option<DropReason>,
         is_beyond: bool,
-    ) -> Result<bool, AllocError> {
-        let is_unsure = reason == Some(DropReason::Acknowledgment) || is_beyond;
-        let (count, bytes) = if is_unsure {
+    ) -> Result<bool, AllocError>
+        ensures room { IfOk result
+            (λ kept. kept ≡ has_room (length segment.now.payload.now) reason is_beyond self.old) }
+        ensures keeps { OnOk result (self.new ≡ keeping segment.now reason is_beyond self.old) }
+        ensures err { OnErr result (self.new ≡ self.old) }
+    {
+        if !self.has_room(segment.payload.len(), reason, is_beyond) {
+            return Ok(false);
+        }
+        self.push(alloc, segment, reason, is_beyond)?;
+        Ok(true)
+    }
+
+    /// Returns whether there is room for a segment with so much data.
+    fn has_room(&self, len: usize, reason: Option<DropReason>, is_beyond: bool) -> bool
+        ensures { result ≡ has_room len reason is_beyond self.now }
+    {
+        let (count, bytes) = if is_unsure(reason, is_beyond) {
             (PENDING_FREE, BYTES_FREE)
         } else {
             (0, 0)
         };
         let count = self.kept.len().saturating_add(count);
-        let bytes = self
-            .bytes()
-            .saturating_add(segment.payload.len())
+        let bytes = bytes_of(self.kept.as_slice())
+            .saturating_add(len)
             .saturating_add(bytes);
-        if count >= MAX_PENDING || bytes > MAX_BYTES {
-            return Ok(false);
-        }
-        self.push(alloc, segment, reason, is_beyond)?;
-        Ok(true)
+        count < MAX_PENDING && bytes <= MAX_BYTES
     }
 
     /// Keeps a SYN without its data.
@@ -260,7 +551,10 @@ impl PendingSegments {
         alloc: Global,
         segment: &Segment<'_>,
         reason: DropReason,
-    ) -> Result<(), AllocError> {
+    ) -> Result<(), AllocError>
+        ensures keeps { OnOk result (self.new ≡ self.old ++ kept_syn segment.now reason ∷ []) }
+        ensures err { OnErr result (self.new ≡ self.old) }
+    {
         self.push(alloc, &segment.without_data(), Some(reason), false)
     }
 
@@ -271,8 +565,12 @@ impl PendingSegments {
         segment: &Segment<'_>,
         reason: Option<DropReason>,
         is_beyond: bool,
-    ) -> Result<(), AllocError> {
-        let mut payload = Vec::new(alloc);
+    ) -> Result<(), AllocError>
+        ensures keeps { OnOk result
+            (self.new ≡ self.old ++ kept_of segment.now reason is_beyond ∷ []) }
+        ensures err { OnErr result (self.new ≡ self.old) }
+    {
+        let mut payload = Vec::with_capacity(alloc, segment.payload.len())?;
         payload.extend_from_slice(segment.payload)?;
         let kept = PendingSegment {
             header: segment.header(),
@@ -286,25 +584,14 @@ impl PendingSegments {
         }
     }
 
-    /// Returns whether a pending segment may be genuine. If it begins beyond the window and the
-    /// acknowledgement covers more than is known to be sent, it has to be adjacent to sent data or
-    /// to another pending segment. A forged one isn't.
-    fn is_in_row(&self, kept: &PendingSegment, teller: &Segment<'_>, known: AckContext) -> bool {
-        !kept.is_beyond
-            || known.covers(teller)
-            || known.sent == Some(kept.segment().first())
-            || self.kept.iter().any(|other| kept.is_beside(other))
-    }
-
     /// Removes the segments that a segment of their sender shows to be forged, and counts them as
     /// dropped.
-    pub(crate) fn forget_unsent(&mut self, segment: &Segment<'_>, dropped: &mut Dropped) {
-        for kept in &self.kept {
-            if let (true, Some(reason)) = (kept.is_unsent_by(segment), kept.reason) {
-                dropped.add(reason);
-            }
-        }
-        self.kept.retain(|kept| !kept.is_unsent_by(segment));
+    pub(crate) fn forget_unsent(&mut self, segment: &Segment<'_>, dropped: &mut Dropped)
+        ensures left { self.new ≡ without (is_unsent segment.now) self.old }
+        ensures counted { dropped.new ≡ with_counted (is_unsent segment.now) self.old dropped.old }
+    {
+        count_unsent(self.kept.as_slice(), segment, dropped);
+        remove_unsent(&mut self.kept, segment);
     }
 
     /// Removes the segments that a segment of their receiver, behind the number `reached`, shows to
@@ -314,82 +601,62 @@ impl PendingSegments {
         segment: &Segment<'_>,
         reached: u32,
         dropped: &mut Dropped,
-    ) {
-        for kept in &self.kept {
-            if let (true, Some(reason)) = (kept.is_belied_by(segment, reached), kept.reason) {
-                dropped.add(reason);
-            }
-        }
-        self.kept
-            .retain(|kept| !kept.is_belied_by(segment, reached));
-    }
-
-    /// Returns the index of the first pending segment that `teller` acknowledges.
-    fn place_acknowledged(&self, teller: &Segment<'_>, known: AckContext) -> Option<usize>
-        ensures { IfSome result (λ place. place < length self.now.kept.items) }
+    )
+        ensures left { self.new ≡ without (is_belied segment.now reached) self.old }
+        ensures counted { dropped.new
+            ≡ with_counted (is_belied segment.now reached) self.old dropped.old }
     {
-        for place in 0..self.kept.len() {
-            let kept = &self.kept[place];
-            if kept.is_acknowledged_by(teller, known) && self.is_in_row(kept, teller, known) {
-                return Some(place);
-            }
-        }
-        None
+        count_belied(self.kept.as_slice(), segment, reached, dropped);
+        remove_belied(&mut self.kept, segment, reached);
     }
 
-    /// Removes and returns the first pending segment that `teller` acknowledges, truncated at the
+    /// Removes and returns the first pending segment that `ack` acknowledges, truncated at the
     /// acknowledged bytes and at the other end's FIN.
-    pub(crate) fn take(
-        &mut self,
-        teller: &Segment<'_>,
-        known: AckContext,
-    ) -> Option<PendingSegment> {
-        let place = self.place_acknowledged(teller, known)?;
-        let mut kept = self.kept.remove(place);
-        kept.cut(teller.acknowledgment);
-        if let Some(number) = known.fin {
-            kept.cut(number);
-        }
+    pub(crate) fn take(&mut self, ack: &Segment<'_>, known: AckContext) -> Option<PendingSegment>
+        ensures taken { result ≡ taken_out ack.now known self.old }
+        ensures left { self.new ≡ without_taken ack.now known self.old }
+    {
+        let place = place_acknowledged(self.kept.as_slice(), ack, known)?;
+        let mut kept = remove_at(&mut self.kept, place);
+        kept.cut_by(ack, known);
         Some(kept)
     }
 
     /// Removes the pending data of a SYN to this end, whose receiver acknowledged only the SYN.
-    pub(crate) fn forget_data_of_syn(&mut self, receiver: End) {
-        self.kept.retain(|kept| !(kept.is_of_syn() && kept.header.destination == receiver));
+    pub(crate) fn forget_data_of_syn(&mut self, receiver: End)
+        ensures { self.new ≡ without (is_data_of_syn_to receiver) self.old }
+    {
+        remove_data_of_syn(&mut self.kept, receiver);
     }
 
     /// Removes and returns the SYN-ACK (`answers`), or the SYN without ACK.
-    pub(crate) fn take_syn(&mut self, answers: bool) -> Option<PendingSegment> {
-        let place = self.kept.iter().position(|kept| kept.is_syn(answers))?;
-        Some(self.kept.remove(place))
+    pub(crate) fn take_syn(&mut self, answers: bool) -> Option<PendingSegment>
+        ensures taken { result ≡ taken_syn answers self.old }
+        ensures left { self.new ≡ without_syn answers self.old }
+    {
+        let place = place_syn(self.kept.as_slice(), answers)?;
+        Some(remove_at(&mut self.kept, place))
     }
 
     /// Removes both SYNs.
-    pub(crate) fn forget_syns(&mut self) {
-        self.kept.retain(|kept| !kept.begins());
+    pub(crate) fn forget_syns(&mut self)
+        ensures { self.new ≡ without is_any_syn self.old }
+    {
+        remove_syns(&mut self.kept);
     }
 
     /// Counts the pending segments of this end as dropped.
     pub(crate) fn count(&self, sender: End, dropped: &mut Dropped)
-        ensures { dropped.new ≡ with_pending sender self.now.kept.items dropped.old }
+        ensures { dropped.new ≡ with_pending sender self.now dropped.old }
     {
-        for kept in &self.kept {
-            if let (true, Some(reason)) = (kept.header.source == sender, kept.reason) {
-                dropped.add(reason);
-            }
-        }
+        count_from(self.kept.as_slice(), sender, dropped);
     }
 
     /// Returns the SYN-ACK (`answers`), or the SYN without ACK.
     pub(crate) fn syn(&self, answers: bool) -> Option<Segment<'static>>
-        ensures is { option_map header_of result ≡ syn_in answers self.now.kept.items }
+        ensures is { option_map header_of result ≡ syn_in answers self.now }
         ensures bare { IfSome result (λ syn. syn.payload.now ≡ []) }
     {
-        for kept in &self.kept {
-            if kept.is_syn(answers) {
-                return Some(kept.segment().without_data());
-            }
-        }
-        None
+        find_syn(self.kept.as_slice(), answers)
     }
 }

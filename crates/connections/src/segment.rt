@@ -1,6 +1,6 @@
 //! TCP segments.
 ghost use Rattle.std.specs.Prelude.{◌≡◌, ◌<◌};
-ghost use Rattle.connections.specs.Segment.{has_flag as is_set, ends, begins, breaks, acknowledges, asks, answers, first_of, behind_of, end_with_fin, five_tuple_of, begins_stream, begins_one, has_data, takes_numbers, urgent_of, data_of_syn, bytes_alone, without_flag as without_flag_of, header_of, IsWithoutData};
+ghost use Rattle.connections.specs.Segment.{has_flag as is_set, ends, begins, breaks, acknowledges, asks, answers, first_of, behind_of, end_with_fin, five_tuple_of, begins_stream, begins_one, has_data, takes_numbers, urgent_of, data_of_syn, bytes_alone, without_flag as without_flag_of, header_of, without_fin as without_fin_of, IsWithoutData};
 
 use crate::five_tuple::{End, FiveTuple, Protocol};
 
@@ -53,7 +53,7 @@ pub struct Options {
 pub struct Segment<'a> {
     /// The capture time, in nanoseconds since 1970-01-01 00:00 UTC.
     pub time: u64,
-    /// The number of the packet's network; 0 if networks aren't told apart.
+    /// The number of the packet's network; 0 if networks aren't distinguished.
     pub network: u64,
     /// The sender.
     pub source: End,
@@ -117,7 +117,9 @@ impl Header {
     }
 
     /// Returns the header with FIN cleared.
-    pub(crate) fn without_fin(self) -> Header {
+    pub(crate) fn without_fin(self) -> Header
+        ensures { result ≡ without_fin_of self }
+    {
         Header {
             flags: self.flags - self.flags % 2,
             ..self

@@ -1,5 +1,5 @@
 //! One direction of a connection.
-ghost use Rattle.std.specs.Prelude.{◌≡◌, ◌≤◌, ◌%◌, ◌^◌, length, false, OnOk, OnErr};
+ghost use Rattle.std.specs.Prelude.{◌≡◌, ◌≤◌, ◌%◌, ◌^◌, length, max, false, OnOk, OnErr};
 ghost use Rattle.connections.specs.Segment.{breaks, first_of};
 ghost use Rattle.connections.specs.Stream.{begun_at, came, differing_in_order, end_of, forgetting, front_of, handed_on, handing_on, has_urgent_next, held_in, is_cut_short, is_missing, is_over, lacks, next_bytes, noted, passed, passed_before, passing_behind, passing_urgent, silent_stream, stopped, unheard_from, unlike, with_more_disagreeing, with_numbers, with_urgent, HasPut, HasTaken};
 
@@ -83,8 +83,8 @@ fn count_unlike(bytes: &[u8], others: &[u8]) -> usize
     count
 }
 
-/// Returns at how many numbers a segment's byte differs from the in-order bytes in `standing`, the
-/// first of which has the number `next`.
+/// Returns at how many numbers a segment's byte differs from the in-order bytes in `standing`, whose
+/// first has the number `next`.
 fn count_differing(next: u32, standing: &[u8], segment: &Segment<'_>) -> usize
     ensures { result ≡ differing_in_order next standing.now segment.now }
 {
@@ -259,7 +259,8 @@ impl Stream {
     /// `AllocError` if there is no memory for the bytes. They are left out then too.
     pub fn accept(&mut self, segment: &Segment<'_>) -> Result<(), AllocError>
         ensures taken { OnOk result (HasTaken segment.now self.old self.new) }
-        ensures left_out { OnErr result ((breaks segment.now ≡ false) × (self.new ≡ noted segment.now self.old)) }
+        ensures left_out { OnErr result
+            ((breaks segment.now ≡ false) × (self.new ≡ noted segment.now self.old)) }
     {
         if segment.breaks() {
             self.is_broken = true;
@@ -385,7 +386,8 @@ impl Stream {
     /// more is passed on.
     pub fn pass<'a>(&mut self, segment: &Segment<'a>) -> &'a [u8]
         ensures bytes { result.now ≡ passed self.old.passing segment.now }
-        ensures passing { self.new ≡ record self.old { passing = passing_behind self.old.passing segment.now } }
+        ensures passing { self.new
+            ≡ record self.old { passing = passing_behind self.old.passing segment.now } }
     {
         let Some(next) = self.passing else {
             return &[];
@@ -449,12 +451,18 @@ impl Stream {
         }
     }
 
-    /// Returns an upper bound for its memory besides itself, in bytes.
-    pub(crate) fn capacity(&self) -> usize
-        ensures { held_in self.now.reading ≤ result }
+    /// Returns an upper bound for its memory besides itself, in bytes. It is at most `most`, unless
+    /// more bytes than that are stored.
+    pub(crate) fn capacity(&self, most: usize) -> usize
+        ensures enough { held_in self.now.reading ≤ result }
+        ensures within { result ≤ max most (held_in self.now.reading) }
     {
         match &self.reading {
-            Reading::Open(segments) => segments.capacity(),
+            Reading::Open(segments) => {
+                let in_order = segments.available().len();
+                let stored = in_order.saturating_add(segments.held_behind());
+                segments.capacity().min(most.max(stored))
+            }
             Reading::Unbegun | Reading::Over => 0,
         }
     }

@@ -3,8 +3,7 @@ ghost use Rattle.std.specs.Prelude.{◌≡◌, ◌-◌, ◌^◌, ◌≤◌, leng
 ghost use Rattle.std.specs.Borrow.{sem};
 ghost use Rattle.std.specs.Option.{option_copied_mut, option_map};
 ghost use Rattle.connections.specs.Segment.{five_tuple_of};
-ghost use Rattle.connections.specs.Table.{at, belongs, closed_behind, ended, others, promoting, without_ended, BeginsAfter, BeginsFirst, Drops, IsForgotten, IsOver, IsOverAmong, IsPut, LeavesOutAt, NoneIsOver, NoneToForget, Puts, Replaced, Restarts, TakesDatagram, WasLast};
-ghost use Rattle.connections.specs.Drops.{Counts};
+ghost use Rattle.connections.specs.Table.{at, belongs, closed_behind, ended, others, promoting, pending_outcome_in, with_dropped_segment, with_waiting_segment, without_earlier_syn, without_ended, without_pending_segment, AcceptsPending, BeginsAfter, BeginsFirst, IsForgotten, IsOver, IsOverAmong, IsPut, LeavesOutAt, LeavesOutPending, NoneIsOver, NoneToForget, Puts, Replaced, Restarts, TakesDatagram, WasLast};
 ghost use Rattle.connections.specs.Memory.{IsAccounted};
 ghost use Rattle.connections.specs.Datagram.{five_tuple_of_datagram};
 ghost use Rattle.connections.specs.Lends.{lends_connection, lends_first};
@@ -53,9 +52,11 @@ impl<T> Model for Connections<T> {
 
     ghost Value = { Table T };
 
-    ghost view = { λ c. record { live = c.live.entries; closed = c.closed.entries; held = c.held } };
+    ghost view = { λ c.
+        record { live = c.live.entries; closed = c.closed.entries; held = c.held } };
 
-    ghost invariant = { λ c. (c.live.cap ≡ 2 ^ 64 - 1) × (c.closed.cap ≡ 2 ^ 64 - 1) × (c.held < 2 ^ 63) };
+    ghost invariant = { λ c. (c.live.cap ≡ 2 ^ 64 - 1) × (c.closed.cap ≡ 2 ^ 64 - 1)
+        × (c.held < 2 ^ 63) };
 }
 
 /// Sets the value of a five-tuple.
@@ -123,8 +124,9 @@ impl<T: Attachment> Connections<T> {
         segment: &Segment<'_>,
         reason: DropReason,
     ) -> Result<(), AllocError>
-        ensures drops { Drops segment.now self.old self.new }
-        ensures counted { Counts segment.now reason self.old self.new }
+        ensures counted { OnOk result
+            (self.new ≡ with_dropped_segment reason segment.now self.old) }
+        ensures err { OnErr result (self.new ≡ without_earlier_syn reason segment.now self.old) }
         ensures accounted { IsAccounted self.old → IsAccounted self.new }
     {
         let (alloc, five_tuple) = (self.alloc, segment.between());
@@ -152,7 +154,8 @@ impl<T: Attachment> Connections<T> {
     ///
     /// `AllocError` if there is no memory for it.
     pub fn wait(&mut self, segment: &Segment<'_>, reason: DropReason) -> Result<(), AllocError>
-        ensures drops { Drops segment.now self.old self.new }
+        ensures waits { OnOk result (self.new ≡ with_waiting_segment reason segment.now self.old) }
+        ensures err { OnErr result (self.new ≡ self.old) }
         ensures accounted { IsAccounted self.old → IsAccounted self.new }
     {
         let (alloc, five_tuple) = (self.alloc, segment.between());
@@ -167,7 +170,8 @@ impl<T: Attachment> Connections<T> {
     ///
     /// Call it before this segment is accepted, until it returns `None`.
     pub fn take_pending(&mut self, segment: &Segment<'_>) -> Option<PendingOutcome>
-        ensures drops { Drops segment.now self.old self.new }
+        ensures outcome { result ≡ pending_outcome_in segment.now self.old }
+        ensures left { self.new ≡ without_pending_segment segment.now self.old }
         ensures accounted { IsAccounted self.old → IsAccounted self.new }
     {
         let five_tuple = segment.between();
@@ -181,9 +185,11 @@ impl<T: Attachment> Connections<T> {
     ///
     /// `AllocError` if there is no memory for its bytes. They are left out then.
     pub fn accept_pending(&mut self, kept: &PendingSegment) -> Result<(), AllocError>
-        ensures { IsAccounted self.old → IsAccounted self.new }
+        ensures taken { OnOk result (AcceptsPending kept.now self.old self.new) }
+        ensures left_out { OnErr result (LeavesOutPending kept.now self.old self.new) }
+        ensures accounted { IsAccounted self.old → IsAccounted self.new }
     {
-        let (alloc, five_tuple) = (self.alloc, kept.segment().between());
+        let (alloc, five_tuple) = (self.alloc, kept.between());
         if let Some(connection) = self.live.get_mut(&five_tuple) {
             return connection.get_mut().accept_pending(alloc, kept);
         }
@@ -194,7 +200,8 @@ impl<T: Attachment> Connections<T> {
     fn begin(&mut self, five_tuple: FiveTuple, segment: &Segment<'_>) -> Result<(), AllocError>
         ensures begun { OnOk result (BeginsFirst segment.now five_tuple self.old self.new) }
         ensures err { OnErr result (self.new ≡ self.old) }
-        ensures accounted { at five_tuple self.old.live ≡ None → IsAccounted self.old → IsAccounted self.new }
+        ensures accounted { at five_tuple self.old.live ≡ None → IsAccounted self.old
+            → IsAccounted self.new }
     {
         let alloc = self.alloc;
         let mut connection = Boxed::new(alloc, Connection::of_segment(alloc, segment))?;
@@ -210,17 +217,19 @@ impl<T: Attachment> Connections<T> {
     /// `AllocError` if there is no memory for a new connection or the segment's bytes. These are
     /// left out then.
     pub fn accept(&mut self, segment: &Segment<'_>) -> Result<bool, AllocError>
-        ensures belongs { IfOk result (λ belongs_to_one. belongs_to_one ≡ belongs segment.now self.old) }
+        ensures belongs { IfOk result
+            (λ belongs_to_one. belongs_to_one ≡ belongs segment.now self.old) }
         ensures put { IfOk result
             (λ belongs_to_one. Puts belongs_to_one segment.now self.old self.new) }
-        ensures others { others (five_tuple_of segment.now) self.new.live ≡ others (five_tuple_of segment.now)
-            self.old.live }
+        ensures others { others (five_tuple_of segment.now) self.new.live
+            ≡ others (five_tuple_of segment.now) self.old.live }
         ensures refused { OnErr result (belongs segment.now self.old ≡ true) }
         ensures left_out { OnErr result
             (LeavesOutAt segment.now (at (five_tuple_of segment.now) self.old.live) self.old.live
             self.new.live) }
         ensures closed { IfOk result
-            (λ belongs_to_one. self.new.closed ≡ closed_behind belongs_to_one segment.now self.old) }
+            (λ belongs_to_one.
+            self.new.closed ≡ closed_behind belongs_to_one segment.now self.old) }
         ensures accounted { IsAccounted self.old → IsAccounted self.new }
     {
         let five_tuple = segment.between();
@@ -328,7 +337,8 @@ impl<T: Attachment> Connections<T> {
     /// Returns whether a connection is over at this time, or a closed one is to be forgotten. If
     /// not, [`Connections::take_idle`] changes nothing.
     pub fn has_idle(&self, time: u64) -> bool
-        ensures none { result ≡ false → NoneIsOver time self.now.live × NoneToForget time self.now.closed }
+        ensures none { result ≡ false
+            → NoneIsOver time self.now.live × NoneToForget time self.now.closed }
         ensures one { NoneIsOver time self.now.live → NoneToForget time self.now.closed
             → result ≡ false }
     {
@@ -350,7 +360,8 @@ impl<T: Attachment> Connections<T> {
     pub fn take_idle(&mut self, time: u64) -> Option<Box<Connection<T>>>
         ensures taken { IfSome result (λ b. WasLast self.old.live self.new.live b.value
             × IsOver time self.old.live b.value.last_time) }
-        ensures none { IfNone result ((self.new.live ≡ self.old.live) × NoneIsOver time self.old.live) }
+        ensures none { IfNone result
+            ((self.new.live ≡ self.old.live) × NoneIsOver time self.old.live) }
         ensures closed { IsForgotten time self.old.closed self.new.closed }
         ensures none_to_forget { NoneToForget time self.new.closed }
         ensures held { IfSome result (λ b. self.new.held ≡ self.old.held - b.value.weight) }
@@ -407,7 +418,8 @@ impl<T: Attachment> Connections<T> {
         segment: &Segment<'_>,
     ) -> Result<Option<Box<Connection<T>>>, AllocError>
         ensures taken { IfOk result
-            (λ taken. option_map (λ b. b.value) taken ≡ ended (five_tuple_of segment.now) self.old) }
+            (λ taken.
+            option_map (λ b. b.value) taken ≡ ended (five_tuple_of segment.now) self.old) }
         ensures left { OnOk result
             (self.new ≡ without_ended (five_tuple_of segment.now) segment.now.time self.old) }
         ensures err { OnErr result (self.new ≡ self.old) }

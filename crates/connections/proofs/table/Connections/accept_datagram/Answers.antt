@@ -23,7 +23,7 @@ returns-clause-put g c =
     rw (← c.self.view_is)
     (put_new e (TakesDatagram d) xs c.of_datagram.result c.put_under.new.table.entries
     (rw c.between-five_tuple.ensures at c.in_default.ensures.value)
-    (c.of_datagram.ensures.begun, c.of_datagram.ensures.waits)
+    c.of_datagram.ensures.begun
     (rw (c.between-five_tuple.ensures, c.in_ok-exchange.ensures) at
     c.in_ok-put_under.ensures.put))
 

@@ -28,4 +28,4 @@ returns-clause-accounted g c =
     })
     c.accept.new.self c.pop.new.self.entries (sym h)
     (c.accept.ensures.weight ∙ ap (λ x. x.weight)
-    (c.get_mut.ensures.value ∙ c.in_ok-connection.ensures ∙ c.of_segment.ensures.0)))
+    (c.get_mut.ensures.value ∙ c.in_ok-connection.ensures ∙ c.of_segment.ensures)))

@@ -32,4 +32,4 @@ returns-clause-accounted g c =
     })
     c.in-Some.connection.now c.restart.new.self
     (rw c.between-five_tuple.ensures at c.in-Some.ensures.value)
-    (ap (λ x. x.weight) c.restart.ensures.is_silent ∙ ap (λ x. x.weight) c.get_mut.ensures.value))
+    (ap (λ x. x.weight) c.restart.ensures ∙ ap (λ x. x.weight) c.get_mut.ensures.value))

@@ -72,6 +72,6 @@ returns-clause-accounted g c =
     })
     c.in-Some.exchange.now c.after.result c.saturating_sub-self-inside.result
     (rw c.between-five_tuple.ensures at c.in-Some.ensures.value)
-    (ap (λ x. x.weight) c.after.ensures.is_silent)
+    (ap (λ x. x.weight) c.after.ensures)
     (rw (c.deref.ensures, c.into_box-over.ensures, c.replace.ensures.value) at
     c.saturating_sub-self-inside.ensures))

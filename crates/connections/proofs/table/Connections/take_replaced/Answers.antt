@@ -1,4 +1,5 @@
 use Rattle.std.proofs.Common.{ap, ◌∙◌}
+use Rattle.connections.specs.Connection.{without_syns}
 use Rattle.connections.specs.Segment.{five_tuple_of}
 use Rattle.connections.specs.declared.connection.Connection.{Connection}
 use Rattle.connections.proofs.MemoryLemmas.{accounted_replaced_first}
@@ -23,8 +24,7 @@ returns-clause-replaced g c =
     c.in-Some-another.ensures.bare c.in_ok-another.ensures.begun
     (rw c.between-five_tuple.ensures at c.in-Some.ensures)
     (rw c.between-five_tuple.ensures at c.in-Some-get_mut.ensures.value)
-    (c.forget_syns.ensures
-    ∙ ap {A = Connection _} (λ x. record x { waiting = c.forget_syns.new.self.waiting }) was)
+    (c.forget_syns.ensures ∙ ap {A = Connection _} without_syns was)
     (rw c.deref.ensures at c.saturating_sub-self-inside.ensures))
 
 pub returns-clause-accounted : goal.returns-clause-accounted
