@@ -1,4 +1,4 @@
--- Lists of which only the first 16 elements are kept.
+-- Lists that are cut to their first 16 elements.
 use Rattle.std.proofs.Common.{◌≡◌, ℕ, zero, suc, ◌<◌, ◌≤◌, List, [], ◌∷◌, ◌++◌, Ok, Err, length, take, refl, sym, ap, ◌∙◌, arith, append-nil, append_assoc, length-append, length-take, take_all}
 use Rattle.std.proofs.lemmas.List.{take-append-le}
 use Rattle.layouts.specs.Bytes.{Bytes}

@@ -7,6 +7,7 @@ ghost use Rattle.capture.specs.Pcapng.{packet_of as packet_of_layout, enhanced_p
 ghost use Rattle.capture.specs.Pcapng.{simple_packet, view_packet, captured_of};
 
 use crate::order::{Order, number2_by, number4_by};
+use crate::parsed::parsed;
 use layouts::{IResult, block};
 
 /// A packet read from a block.
@@ -28,11 +29,11 @@ pub struct BlockPacket<'a> {
 fn packet_of(i: &[u8], order: Order, interface: u32) -> IResult<&[u8], BlockPacket>
     ensures { Gives view_packet (packet_of_layout order interface) i.now result }
 {
-    let (i, upper) = number4_by(i, order)?;
-    let (i, lower) = number4_by(i, order)?;
-    let (i, captured) = number4_by(i, order)?;
-    let (i, original_length) = number4_by(i, order)?;
-    let (i, bytes) = block(i, captured as usize)?;
+    let (i, upper) = parsed!(number4_by(i, order));
+    let (i, lower) = parsed!(number4_by(i, order));
+    let (i, captured) = parsed!(number4_by(i, order));
+    let (i, original_length) = parsed!(number4_by(i, order));
+    let (i, bytes) = parsed!(block(i, captured as usize));
     let packet = BlockPacket {
         interface,
         units: upper as u64 * 4_294_967_296 + lower as u64,
@@ -50,7 +51,7 @@ fn packet_of(i: &[u8], order: Order, interface: u32) -> IResult<&[u8], BlockPack
 pub fn parse_enhanced_packet(i: &[u8], order: Order) -> IResult<&[u8], BlockPacket>
     ensures { Gives view_packet (enhanced_packet order) i.now result }
 {
-    let (i, interface) = number4_by(i, order)?;
+    let (i, interface) = parsed!(number4_by(i, order));
     packet_of(i, order, interface)
 }
 
@@ -62,8 +63,8 @@ pub fn parse_enhanced_packet(i: &[u8], order: Order) -> IResult<&[u8], BlockPack
 pub fn parse_obsolete_packet(i: &[u8], order: Order) -> IResult<&[u8], BlockPacket>
     ensures { Gives view_packet (obsolete_packet order) i.now result }
 {
-    let (i, interface) = number2_by(i, order)?;
-    let (i, _) = block(i, 2)?;
+    let (i, interface) = parsed!(number2_by(i, order));
+    let (i, _) = parsed!(block(i, 2));
     packet_of(i, order, interface as u32)
 }
 
@@ -86,8 +87,8 @@ fn captured_len(original: u32, snap_length: u32) -> u32
 pub fn parse_simple_packet(i: &[u8], order: Order, snap_length: u32) -> IResult<&[u8], BlockPacket>
     ensures { Gives view_packet (simple_packet order snap_length) i.now result }
 {
-    let (i, original_length) = number4_by(i, order)?;
-    let (i, bytes) = block(i, captured_len(original_length, snap_length) as usize)?;
+    let (i, original_length) = parsed!(number4_by(i, order));
+    let (i, bytes) = parsed!(block(i, captured_len(original_length, snap_length) as usize));
     let packet = BlockPacket {
         interface: 0,
         units: 0,

@@ -14,6 +14,7 @@ use crate::ip::{
     AUTHENTICATION, Address, IpDatagram, address_v6, fields_v4, front_v6, is_extension, lengths_v4,
     skipped, whole_protected, whole_v6,
 };
+use crate::parsed::parsed;
 use crate::transport::Content;
 use layouts::{Err, ErrorKind, IResult, block, number1, number2, number4, refused, rest};
 
@@ -77,14 +78,14 @@ enum PieceStep<'a> {
 pub fn parse_fragment_v4(i: &[u8]) -> IResult<&[u8], IpFragment>
     ensures { Gives view_fragment fragment_v4 i.now result }
 {
-    let (i, lengths) = lengths_v4(i)?;
-    let (_, identification) = number2(i)?;
-    let (i, fields) = fields_v4(i)?;
+    let (i, lengths) = parsed!(lengths_v4(i));
+    let (_, identification) = parsed!(number2(i));
+    let (i, fields) = parsed!(fields_v4(i));
     if fields.flags % 16384 < 1 {
         return refused(i, ErrorKind::Switch);
     }
-    let (i, options) = block(i, lengths.header - 20)?;
-    let (i, payload) = block(i, lengths.total.saturating_sub(lengths.header))?;
+    let (i, options) = parsed!(block(i, lengths.header - 20));
+    let (i, payload) = parsed!(block(i, lengths.total.saturating_sub(lengths.header)));
     let fragment = IpFragment {
         source: Address::V4(fields.source),
         destination: Address::V4(fields.destination),
@@ -105,11 +106,11 @@ pub fn parse_fragment_v4(i: &[u8]) -> IResult<&[u8], IpFragment>
 fn cut_or_further(i: &[u8]) -> IResult<&[u8], PieceStep>
     ensures { Gives view_piece_step piece_layout i.now result }
 {
-    let (i, next) = number1(i)?;
-    let (i, _) = block(i, 1)?;
-    let (i, offset) = number2(i)?;
-    let (i, identification) = number4(i)?;
-    let (_, payload) = rest(i)?;
+    let (i, next) = parsed!(number1(i));
+    let (i, _) = parsed!(block(i, 1));
+    let (i, offset) = parsed!(number2(i));
+    let (i, identification) = parsed!(number4(i));
+    let (_, payload) = parsed!(rest(i));
     if offset / 8 == 0 && offset % 2 == 0 {
         return Ok((i, PieceStep::Further(next)));
     }
@@ -128,11 +129,11 @@ fn piece_step(i: &[u8], next: u8) -> IResult<&[u8], PieceStep>
     ensures { Gives view_piece_step (piece_step_layout next) i.now result }
 {
     if is_extension(next) {
-        let (i, next) = skipped(i, 8)?;
+        let (i, next) = parsed!(skipped(i, 8));
         return Ok((i, PieceStep::Further(next)));
     }
     if next == AUTHENTICATION {
-        let (i, next) = skipped(i, 4)?;
+        let (i, next) = parsed!(skipped(i, 4));
         return Ok((i, PieceStep::Further(next)));
     }
     if next == FRAGMENT {
@@ -149,7 +150,7 @@ fn piece_behind(i: &[u8], next: u8, most: u8) -> IResult<&[u8], Piece>
     if most == 0 {
         return refused(i, ErrorKind::Switch);
     }
-    let (i, step) = piece_step(i, next)?;
+    let (i, step) = parsed!(piece_step(i, next));
     match step {
         PieceStep::Further(further) => piece_behind(i, further, most - 1),
         PieceStep::Cut(piece) => Ok((i, piece)),
@@ -179,11 +180,11 @@ fn whole_piece(i: &[u8], next: u8) -> IResult<&[u8], Piece>
 pub fn parse_fragment_v6(i: &[u8]) -> IResult<&[u8], IpFragment>
     ensures { Gives view_fragment fragment_v6 i.now result }
 {
-    let (i, (len, next)) = front_v6(i)?;
-    let (i, source) = address_v6(i)?;
-    let (i, destination) = address_v6(i)?;
-    let (i, held) = block(i, len as usize)?;
-    let (_, piece) = whole_piece(held, next)?;
+    let (i, (len, next)) = parsed!(front_v6(i));
+    let (i, source) = parsed!(address_v6(i));
+    let (i, destination) = parsed!(address_v6(i));
+    let (i, held) = parsed!(block(i, len as usize));
+    let (_, piece) = parsed!(whole_piece(held, next));
     let in_front = (len as usize)
         .saturating_sub(piece.payload.len())
         .saturating_sub(8);
@@ -232,7 +233,7 @@ pub fn parse_joined(
         (joined (view_address source) (view_address destination) protocol is_header_right)
         i.now result }
 {
-    let (i, content) = joined_content(i, source, protocol)?;
+    let (i, content) = parsed!(joined_content(i, source, protocol));
     let datagram = IpDatagram {
         source,
         destination,

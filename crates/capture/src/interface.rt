@@ -11,6 +11,7 @@ ghost use Rattle.capture.specs.Pcapng.{resolution_option as resolution_option_la
 ghost use Rattle.capture.specs.Pcapng.{units_of, interface, view_interface, moved_by as moved_by_seconds, nanoseconds_of};
 
 use crate::order::{Order, number2_by, number4_by, number8_by};
+use crate::parsed::parsed;
 use layouts::{ErrorKind, IResult, InPlace, Items, block, number1, refused};
 
 /// An interface of a pcapng section.
@@ -65,12 +66,12 @@ impl Interface {
 fn option_but(i: &[u8], order: Order, code: u16, size: u16) -> IResult<&[u8], ()>
     ensures { Gives (λ v. v) (option_but_layout order code size) i.now result }
 {
-    let (i, other) = number2_by(i, order)?;
-    let (i, len) = number2_by(i, order)?;
+    let (i, other) = parsed!(number2_by(i, order));
+    let (i, len) = parsed!(number2_by(i, order));
     if other == 0 || (other == code && len == size) {
         return refused(i, ErrorKind::Tag);
     }
-    let (i, _) = block(i, (len as usize + 3) / 4 * 4)?;
+    let (i, _) = parsed!(block(i, (len as usize + 3) / 4 * 4));
     Ok((i, ()))
 }
 
@@ -78,8 +79,8 @@ fn option_but(i: &[u8], order: Order, code: u16, size: u16) -> IResult<&[u8], ()
 fn option_front(i: &[u8], order: Order, code: u16, size: u16) -> IResult<&[u8], ()>
     ensures { Gives (λ v. v) (option_front_layout order code size) i.now result }
 {
-    let (i, other) = number2_by(i, order)?;
-    let (i, len) = number2_by(i, order)?;
+    let (i, other) = parsed!(number2_by(i, order));
+    let (i, len) = parsed!(number2_by(i, order));
     if other != code || len != size {
         return refused(i, ErrorKind::Tag);
     }
@@ -135,7 +136,7 @@ fn behind_options<const CODE: u16, const SIZE: u16>(i: &[u8], order: Order) -> &
 fn resolution_option(i: &[u8], order: Order) -> IResult<&[u8], u8>
     ensures { Gives (λ v. v) (resolution_option_layout order) i.now result }
 {
-    let (i, ()) = option_front(behind_options::<9, 1>(i, order), order, 9, 1)?;
+    let (i, ()) = parsed!(option_front(behind_options::<9, 1>(i, order), order, 9, 1));
     number1(i)
 }
 
@@ -153,8 +154,8 @@ fn resolution(i: &[u8], order: Order) -> IResult<&[u8], u8>
 fn offset_option(i: &[u8], order: Order) -> IResult<&[u8], i64>
     ensures { Gives (λ v. v) (offset_option_layout order) i.now result }
 {
-    let (i, ()) = option_front(behind_options::<14, 8>(i, order), order, 14, 8)?;
-    let (i, offset) = number8_by(i, order)?;
+    let (i, ()) = parsed!(option_front(behind_options::<14, 8>(i, order), order, 14, 8));
+    let (i, offset) = parsed!(number8_by(i, order));
     Ok((i, offset.cast_signed()))
 }
 
@@ -196,12 +197,12 @@ fn units(i: &[u8], resolution: u8) -> IResult<&[u8], u64>
 pub fn parse_interface(i: &[u8], order: Order) -> IResult<&[u8], Interface>
     ensures { Gives view_interface (interface order) i.now result }
 {
-    let (i, link_type) = number2_by(i, order)?;
-    let (i, _) = block(i, 2)?;
-    let (i, snap_length) = number4_by(i, order)?;
-    let (_, resolution) = resolution(i, order)?;
-    let (_, offset) = offset(i, order)?;
-    let (i, units) = units(i, resolution)?;
+    let (i, link_type) = parsed!(number2_by(i, order));
+    let (i, _) = parsed!(block(i, 2));
+    let (i, snap_length) = parsed!(number4_by(i, order));
+    let (_, resolution) = parsed!(resolution(i, order));
+    let (_, offset) = parsed!(offset(i, order));
+    let (i, units) = parsed!(units(i, resolution));
     let interface = Interface {
         link_type,
         snap_length,

@@ -1,10 +1,11 @@
 //! Datagrams of the Internet Protocol (RFC 791; RFC 8200).
 #![tactic(auto, using(layouts::proofs::OneAnswerLemmas::read_allowed), unfolding(crate::specs::Ip::content_v4, crate::specs::Ip::front_v6, crate::specs::Ip::skipped, crate::specs::Ip::protected, crate::specs::Ip::fragment_header, crate::specs::Ip::step, crate::specs::Ip::address_v6))]
 
-ghost use Rattle.std.specs.Prelude.{◌≡◌, ◌⊎◌, ◌<◌, ◌≤◌, ◌^◌, IfOk};
+ghost use Rattle.std.specs.Prelude.{◌≡◌, ◌⊎◌, ◌<◌, ◌≤◌, ◌+◌, ◌*◌, ◌^◌, IfOk};
 ghost use Rattle.layouts.specs.Layout.{complete};
 ghost use Rattle.layouts.specs.Answers.{Gives};
 ghost use Rattle.capture.specs.Transport.{view_content};
+ghost use Rattle.capture.specs.Words.{words4 as words4_of};
 ghost use Rattle.capture.specs.Ip.{content_v4 as content_v4_layout, ipv4, ipv6, view_datagram, view_address};
 ghost use Rattle.capture.specs.Ip.{skipped as skipped_layout, protected as protected_layout, lengths_v4 as lengths_v4_layout, view_lengths_v4, fields_v4 as fields_v4_layout, view_fields_v4, held_v4 as held_v4_layout};
 ghost use Rattle.capture.specs.Ip.{address_v6 as address_v6_layout, front_v6 as front_v6_layout, headers as headers_layout, step as step_layout, held_v6 as held_v6_layout};
@@ -12,6 +13,7 @@ ghost use Rattle.capture.specs.Ip.{fragment_header as fragment_header_layout, is
 
 use crate::checksum::{is_right, sum_of, words4};
 use crate::jumbo::payload_length;
+use crate::parsed::parsed;
 use crate::transport::{Content, TCP, transport};
 use layouts::{Err, ErrorKind, IResult, block, number1, number2, number4, number8, refused};
 
@@ -81,7 +83,7 @@ fn protected(i: &[u8], protocol: u8) -> IResult<&[u8], Content>
     ensures { Gives view_content (protected_layout protocol) i.now result }
 {
     if protocol == AUTHENTICATION {
-        let (i, next) = skipped(i, 4)?;
+        let (i, next) = parsed!(skipped(i, 4));
         return transport(i, next);
     }
     transport(i, protocol)
@@ -130,7 +132,7 @@ pub(crate) fn lengths_v4(i: &[u8]) -> IResult<&[u8], LengthsV4>
     ensures total { IfOk result (λ x. (x.1.total ≡ 0) ⊎ (x.1.header ≤ x.1.total)) }
     ensures words { IfOk result (λ x. x.1.words < 2 ^ 20) }
 {
-    let (i, first) = number1(i)?;
+    let (i, first) = parsed!(number1(i));
     if first / 16 != 4 {
         return refused(i, ErrorKind::Verify);
     }
@@ -138,8 +140,8 @@ pub(crate) fn lengths_v4(i: &[u8]) -> IResult<&[u8], LengthsV4>
         return refused(i, ErrorKind::LengthValue);
     }
     let header = (first % 16) as usize * 4;
-    let (i, service) = number1(i)?;
-    let (i, total) = number2(i)?;
+    let (i, service) = parsed!(number1(i));
+    let (i, total) = parsed!(number2(i));
     if total != 0 && header > total as usize {
         return refused(i, ErrorKind::LengthValue);
     }
@@ -151,6 +153,30 @@ pub(crate) fn lengths_v4(i: &[u8]) -> IResult<&[u8], LengthsV4>
     Ok((i, lengths))
 }
 
+/// Returns the sum of the 16-bit words of an IPv4 header behind its lengths.
+#[inline(always)]
+fn words_v4(
+    identification: u16,
+    flags: u16,
+    lifetime: u8,
+    protocol: u8,
+    checksum: u16,
+    source: u32,
+    destination: u32,
+) -> u64
+    ensures same { result ≡ identification + flags + (lifetime * 256 + protocol) + checksum
+        + words4_of source + words4_of destination }
+    ensures bound { result < 2 ^ 20 }
+{
+    let kind = u64::from(lifetime) * 256 + u64::from(protocol);
+    u64::from(identification)
+        + u64::from(flags)
+        + kind
+        + u64::from(checksum)
+        + words4(source)
+        + words4(destination)
+}
+
 /// Parses the fields of an IPv4 header behind its lengths, 16 bytes.
 #[tactic(auto, using(layouts::proofs::OneAnswerLemmas::read_allowed), unfolding(crate::specs::Ip::fields_v4))]
 #[inline(always)]
@@ -158,25 +184,27 @@ pub(crate) fn fields_v4(i: &[u8]) -> IResult<&[u8], FieldsV4>
     ensures gives { Gives view_fields_v4 fields_v4_layout i.now result }
     ensures words { IfOk result (λ x. x.1.words < 2 ^ 20) }
 {
-    let (i, identification) = number2(i)?;
-    let (i, flags) = number2(i)?;
-    let (i, lifetime) = number1(i)?;
-    let (i, protocol) = number1(i)?;
-    let (i, checksum) = number2(i)?;
-    let (i, source) = number4(i)?;
-    let (i, destination) = number4(i)?;
-    let kind = u64::from(lifetime) * 256 + u64::from(protocol);
+    let (i, identification) = parsed!(number2(i));
+    let (i, flags) = parsed!(number2(i));
+    let (i, lifetime) = parsed!(number1(i));
+    let (i, protocol) = parsed!(number1(i));
+    let (i, checksum) = parsed!(number2(i));
+    let (i, source) = parsed!(number4(i));
+    let (i, destination) = parsed!(number4(i));
     let fields = FieldsV4 {
         flags,
         protocol,
         source,
         destination,
-        words: u64::from(identification)
-            + u64::from(flags)
-            + kind
-            + u64::from(checksum)
-            + words4(source)
-            + words4(destination),
+        words: words_v4(
+            identification,
+            flags,
+            lifetime,
+            protocol,
+            checksum,
+            source,
+            destination,
+        ),
     };
     Ok((i, fields))
 }
@@ -193,8 +221,8 @@ fn held_v4<'a>(i: &'a [u8], lengths: LengthsV4, fields: FieldsV4) -> IResult<&'a
     if lengths.total == 0 {
         return whole_v4(i, fields.flags, fields.protocol);
     }
-    let (i, held) = block(i, lengths.total - lengths.header)?;
-    let (_, content) = whole_v4(held, fields.flags, fields.protocol)?;
+    let (i, held) = parsed!(block(i, lengths.total - lengths.header));
+    let (_, content) = parsed!(whole_v4(held, fields.flags, fields.protocol));
     Ok((i, content))
 }
 
@@ -215,10 +243,10 @@ fn held_v4<'a>(i: &'a [u8], lengths: LengthsV4, fields: FieldsV4) -> IResult<&'a
 pub fn parse_ipv4(i: &[u8]) -> IResult<&[u8], IpDatagram>
     ensures { Gives view_datagram ipv4 i.now result }
 {
-    let (i, lengths) = lengths_v4(i)?;
-    let (i, fields) = fields_v4(i)?;
-    let (i, options) = block(i, lengths.header - 20)?;
-    let (i, content) = held_v4(i, lengths, fields)?;
+    let (i, lengths) = parsed!(lengths_v4(i));
+    let (i, fields) = parsed!(fields_v4(i));
+    let (i, options) = parsed!(block(i, lengths.header - 20));
+    let (i, content) = parsed!(held_v4(i, lengths, fields));
     let datagram = IpDatagram {
         source: Address::V4(fields.source),
         destination: Address::V4(fields.destination),
@@ -234,9 +262,9 @@ pub(crate) fn skipped(i: &[u8], word: usize) -> IResult<&[u8], u8>
     requires { word < 16 }
     ensures { Gives (λ v. v) (skipped_layout word) i.now result }
 {
-    let (i, next) = number1(i)?;
-    let (i, len) = number1(i)?;
-    let (i, _) = block(i, len as usize * word + 6)?;
+    let (i, next) = parsed!(number1(i));
+    let (i, len) = parsed!(number1(i));
+    let (i, _) = parsed!(block(i, len as usize * word + 6));
     Ok((i, next))
 }
 
@@ -244,10 +272,10 @@ pub(crate) fn skipped(i: &[u8], word: usize) -> IResult<&[u8], u8>
 fn fragment_header(i: &[u8]) -> IResult<&[u8], Step>
     ensures { Gives (λ v. v) fragment_header_layout i.now result }
 {
-    let (i, next) = number1(i)?;
-    let (i, _) = block(i, 1)?;
-    let (i, offset) = number2(i)?;
-    let (i, _) = block(i, 4)?;
+    let (i, next) = parsed!(number1(i));
+    let (i, _) = parsed!(block(i, 1));
+    let (i, offset) = parsed!(number2(i));
+    let (i, _) = parsed!(block(i, 4));
     if offset / 8 == 0 && offset % 2 == 0 {
         return Ok((i, Step::Next(next)));
     }
@@ -267,11 +295,11 @@ fn step_at(i: &[u8], next: u8) -> IResult<&[u8], Step>
     ensures { Gives (λ v. v) (step_layout next) i.now result }
 {
     if is_extension(next) {
-        let (i, next) = skipped(i, 8)?;
+        let (i, next) = parsed!(skipped(i, 8));
         return Ok((i, Step::Next(next)));
     }
     if next == AUTHENTICATION {
-        let (i, next) = skipped(i, 4)?;
+        let (i, next) = parsed!(skipped(i, 4));
         return Ok((i, Step::Next(next)));
     }
     if next == 44 {
@@ -288,7 +316,7 @@ fn headers(i: &[u8], next: u8, most: u8) -> IResult<&[u8], Content>
     if most == 0 {
         return transport(i, next);
     }
-    let (i, step) = step_at(i, next)?;
+    let (i, step) = parsed!(step_at(i, next));
     match step {
         Step::Next(further) => headers(i, further, most - 1),
         Step::Part => Ok((i, Content::Fragment)),
@@ -311,8 +339,8 @@ pub(crate) fn whole_v6(i: &[u8], next: u8) -> IResult<&[u8], Content>
 pub(crate) fn address_v6(i: &[u8]) -> IResult<&[u8], Address>
     ensures { Gives view_address address_v6_layout i.now result }
 {
-    let (i, upper) = number8(i)?;
-    let (i, lower) = number8(i)?;
+    let (i, upper) = parsed!(number8(i));
+    let (i, lower) = parsed!(number8(i));
     Ok((i, Address::V6(upper, lower)))
 }
 
@@ -321,14 +349,14 @@ pub(crate) fn address_v6(i: &[u8]) -> IResult<&[u8], Address>
 pub(crate) fn front_v6(i: &[u8]) -> IResult<&[u8], (u16, u8)>
     ensures { Gives (λ v. v) front_v6_layout i.now result }
 {
-    let (i, first) = number1(i)?;
+    let (i, first) = parsed!(number1(i));
     if first / 16 != 6 {
         return refused(i, ErrorKind::Verify);
     }
-    let (i, _) = block(i, 3)?;
-    let (i, len) = number2(i)?;
-    let (i, next) = number1(i)?;
-    let (i, _) = block(i, 1)?;
+    let (i, _) = parsed!(block(i, 3));
+    let (i, len) = parsed!(number2(i));
+    let (i, next) = parsed!(number1(i));
+    let (i, _) = parsed!(block(i, 1));
     Ok((i, (len, next)))
 }
 
@@ -340,9 +368,9 @@ fn held_v6(i: &[u8], len: u16, next: u8) -> IResult<&[u8], Content>
     if len == 0 && next == TCP {
         return whole_v6(i, next);
     }
-    let (i, len) = payload_length(i, len, next)?;
-    let (i, held) = block(i, len as usize)?;
-    let (_, content) = whole_v6(held, next)?;
+    let (i, len) = parsed!(payload_length(i, len, next));
+    let (i, held) = parsed!(block(i, len as usize));
+    let (_, content) = parsed!(whole_v6(held, next));
     Ok((i, content))
 }
 
@@ -366,10 +394,10 @@ fn held_v6(i: &[u8], len: u16, next: u8) -> IResult<&[u8], Content>
 pub fn parse_ipv6(i: &[u8]) -> IResult<&[u8], IpDatagram>
     ensures { Gives view_datagram ipv6 i.now result }
 {
-    let (i, (len, next)) = front_v6(i)?;
-    let (i, source) = address_v6(i)?;
-    let (i, destination) = address_v6(i)?;
-    let (i, content) = held_v6(i, len, next)?;
+    let (i, (len, next)) = parsed!(front_v6(i));
+    let (i, source) = parsed!(address_v6(i));
+    let (i, destination) = parsed!(address_v6(i));
+    let (i, content) = parsed!(held_v6(i, len, next));
     let datagram = IpDatagram {
         source,
         destination,

@@ -6,6 +6,7 @@ ghost use Rattle.layouts.specs.Answers.{Gives};
 ghost use Rattle.capture.specs.Jumbo.{other_option, jumbo_option as jumbo_option_layout};
 ghost use Rattle.capture.specs.Jumbo.{jumbo_length as jumbo_length_layout, payload_length as payload_length_layout};
 
+use crate::parsed::parsed;
 use layouts::{Err, ErrorKind, IResult, InPlace, Items, block, number1, number4, refused};
 
 /// The type of the jumbo payload option.
@@ -24,15 +25,15 @@ impl<'a> InPlace<'a> for OtherOption {
     ghost layout = { other_option };
 
     fn read(i: &'a [u8]) -> IResult<&'a [u8], ()> {
-        let (i, kind) = number1(i)?;
+        let (i, kind) = parsed!(number1(i));
         if kind == JUMBO_PAYLOAD {
             return refused(i, ErrorKind::Tag);
         }
         if kind == 0 {
             return Ok((i, ()));
         }
-        let (i, len) = number1(i)?;
-        let (i, _) = block(i, len as usize)?;
+        let (i, len) = parsed!(number1(i));
+        let (i, _) = parsed!(block(i, len as usize));
         Ok((i, ()))
     }
 }
@@ -42,11 +43,11 @@ impl<'a> InPlace<'a> for OtherOption {
 fn jumbo_option(i: &[u8]) -> IResult<&[u8], u32>
     ensures { Gives (λ v. v) jumbo_option_layout i.now result }
 {
-    let (i, kind) = number1(Items::<OtherOption>::new(i).rest())?;
+    let (i, kind) = parsed!(number1(Items::<OtherOption>::new(i).rest()));
     if kind != JUMBO_PAYLOAD {
         return refused(i, ErrorKind::Tag);
     }
-    let (i, len) = number1(i)?;
+    let (i, len) = parsed!(number1(i));
     if len != 4 {
         return refused(i, ErrorKind::LengthValue);
     }
@@ -69,10 +70,10 @@ fn whole_option(i: &[u8]) -> IResult<&[u8], u32>
 fn jumbo_length(i: &[u8]) -> IResult<&[u8], u32>
     ensures { Gives (λ v. v) jumbo_length_layout i.now result }
 {
-    let (i, _) = block(i, 1)?;
-    let (i, words) = number1(i)?;
-    let (i, options) = block(i, words as usize * 8 + 6)?;
-    let (_, len) = whole_option(options)?;
+    let (i, _) = parsed!(block(i, 1));
+    let (i, words) = parsed!(number1(i));
+    let (i, options) = parsed!(block(i, words as usize * 8 + 6));
+    let (_, len) = parsed!(whole_option(options));
     if len < 65536 {
         return refused(i, ErrorKind::LengthValue);
     }
@@ -85,7 +86,7 @@ pub(crate) fn payload_length(i: &[u8], len: u16, next: u8) -> IResult<&[u8], u32
     ensures { Gives (λ v. v) (payload_length_layout len next) i.now result }
 {
     if len == 0 && next == 0 {
-        let (_, len) = jumbo_length(i)?;
+        let (_, len) = parsed!(jumbo_length(i));
         return Ok((i, len));
     }
     Ok((i, len as u32))

@@ -17,6 +17,7 @@ mod link;
 mod links;
 mod options;
 mod order;
+mod parsed;
 mod pcap;
 mod pcapng;
 mod transport;

@@ -15,6 +15,7 @@ ghost use Rattle.std.specs.Prelude.{◌≡◌};
 
 use crate::ip::{IpDatagram, parse_ipv4, parse_ipv6};
 use crate::links::links;
+use crate::parsed::parsed;
 use layouts::{ErrorKind, IResult, InPlace, Items, block, number1, number2, number4, refused};
 
 /// The EtherType of IPv4.
@@ -48,11 +49,11 @@ impl<'a> InPlace<'a> for VlanTag {
 
     #[tactic(auto, using(layouts::proofs::OneAnswerLemmas::read_allowed), unfolding(crate::specs::Link::vlan_tag))]
     fn read(i: &'a [u8]) -> IResult<&'a [u8], ()> {
-        let (i, kind) = number2(i)?;
+        let (i, kind) = parsed!(number2(i));
         if !is_vlan(kind) {
             return refused(i, ErrorKind::Tag);
         }
-        let (i, _) = block(i, 2)?;
+        let (i, _) = parsed!(block(i, 2));
         Ok((i, ()))
     }
 }
@@ -81,17 +82,17 @@ fn family_type(family: u32) -> u16
 fn loopback(i: &[u8]) -> IResult<&[u8], u16>
     ensures { Gives (λ v. v) loopback_layout i.now result }
 {
-    let (i, n) = number4(i)?;
+    let (i, n) = parsed!(number4(i));
     Ok((i, family_type(n)))
 }
 
-/// Returns the EtherType behind VLAN tags, of which the first one's type, `kind`, was already read.
+/// Returns the EtherType behind VLAN tags. `kind`, the type of the first one, was already read.
 #[tactic(auto, using(layouts::proofs::OneAnswerLemmas::read_allowed), unfolding(crate::specs::Link::behind_type))]
 fn behind_type(i: &[u8], kind: u16) -> IResult<&[u8], u16>
     ensures { Gives (λ v. v) (behind_type_layout kind) i.now result }
 {
     if is_vlan(kind) {
-        let (i, _) = block(i, 2)?;
+        let (i, _) = parsed!(block(i, 2));
         return ether_type(i);
     }
     Ok((i, kind))
@@ -102,8 +103,8 @@ fn behind_type(i: &[u8], kind: u16) -> IResult<&[u8], u16>
 fn sll2(i: &[u8]) -> IResult<&[u8], u16>
     ensures { Gives (λ v. v) sll2_layout i.now result }
 {
-    let (i, kind) = number2(i)?;
-    let (i, _) = block(i, 18)?;
+    let (i, kind) = parsed!(number2(i));
+    let (i, _) = parsed!(block(i, 18));
     behind_type(i, kind)
 }
 
@@ -112,7 +113,7 @@ fn sll2(i: &[u8]) -> IResult<&[u8], u16>
 fn raw_ip(i: &[u8]) -> IResult<&[u8], u16>
     ensures { Gives (λ v. v) raw_ip_layout i.now result }
 {
-    let (_, first) = number1(i)?;
+    let (_, first) = parsed!(number1(i));
     match first / 16 {
         4 => Ok((i, IPV4)),
         6 => Ok((i, IPV6)),
@@ -136,12 +137,12 @@ fn ppp_type(protocol: u16) -> u16
 fn ppp(i: &[u8]) -> IResult<&[u8], u16>
     ensures { Gives (λ v. v) ppp_layout i.now result }
 {
-    let (_, first) = number1(i)?;
+    let (_, first) = parsed!(number1(i));
     if first % 2 == 1 {
-        let (i, protocol) = number1(i)?;
+        let (i, protocol) = parsed!(number1(i));
         return Ok((i, ppp_type(protocol as u16)));
     }
-    let (i, protocol) = number2(i)?;
+    let (i, protocol) = parsed!(number2(i));
     Ok((i, ppp_type(protocol)))
 }
 
@@ -153,11 +154,11 @@ fn ppp_by(i: &[u8], front: u16) -> IResult<&[u8], u16>
 {
     match front {
         0xff03 => {
-            let (i, _) = block(i, 2)?;
+            let (i, _) = parsed!(block(i, 2));
             ppp(i)
         }
         0x0f00 | 0x8f00 => {
-            let (i, _) = block(i, 2)?;
+            let (i, _) = parsed!(block(i, 2));
             ether_type(i)
         }
         _ => ppp(i),
@@ -169,7 +170,7 @@ fn ppp_by(i: &[u8], front: u16) -> IResult<&[u8], u16>
 fn ppp_link(i: &[u8]) -> IResult<&[u8], u16>
     ensures { Gives (λ v. v) ppp_link_layout i.now result }
 {
-    let (_, front) = number2(i)?;
+    let (_, front) = parsed!(number2(i));
     ppp_by(i, front)
 }
 
@@ -185,7 +186,7 @@ fn carries(i: &[u8], kind: u16) -> IResult<&[u8], u16>
 fn behind(i: &[u8], count: usize) -> IResult<&[u8], u16>
     ensures { Gives (λ v. v) (behind_layout count) i.now result }
 {
-    let (i, _) = block(i, count)?;
+    let (i, _) = parsed!(block(i, count));
     ether_type(i)
 }
 
@@ -222,11 +223,11 @@ fn link(i: &[u8], link_type: u16) -> IResult<&[u8], u16>
 fn pppoe(i: &[u8]) -> IResult<&[u8], u16>
     ensures { Gives (λ v. v) pppoe_layout i.now result }
 {
-    let (i, front) = number2(i)?;
+    let (i, front) = parsed!(number2(i));
     if front != 0x1100 {
         return refused(i, ErrorKind::Verify);
     }
-    let (i, _) = block(i, 4)?;
+    let (i, _) = parsed!(block(i, 4));
     ppp(i)
 }
 
@@ -254,7 +255,7 @@ fn network(i: &[u8], kind: u16) -> IResult<&[u8], u16>
 pub fn parse_link(i: &[u8], link_type: u16) -> IResult<&[u8], u16>
     ensures { Gives (λ v. v) (carried link_type) i.now result }
 {
-    let (i, kind) = link(i, link_type)?;
+    let (i, kind) = parsed!(link(i, link_type));
     network(i, kind)
 }
 
@@ -265,11 +266,11 @@ fn datagram(i: &[u8], kind: u16) -> IResult<&[u8], Option<IpDatagram>>
 {
     match kind {
         IPV4 => {
-            let (i, datagram) = parse_ipv4(i)?;
+            let (i, datagram) = parsed!(parse_ipv4(i));
             Ok((i, Some(datagram)))
         }
         IPV6 => {
-            let (i, datagram) = parse_ipv6(i)?;
+            let (i, datagram) = parsed!(parse_ipv6(i));
             Ok((i, Some(datagram)))
         }
         _ => Ok((i, None)),
@@ -300,6 +301,6 @@ pub fn parse_packet(i: &[u8], link_type: u16) -> IResult<&[u8], Option<IpDatagra
     ensures gives { Gives view_packet (packet link_type) i.now result }
     ensures only_one { AllowsOne (packet link_type) i.now }
 {
-    let (i, kind) = parse_link(i, link_type)?;
+    let (i, kind) = parsed!(parse_link(i, link_type));
     datagram(i, kind)
 }

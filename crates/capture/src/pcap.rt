@@ -5,6 +5,7 @@ ghost use Rattle.layouts.specs.Answers.{Gives};
 ghost use Rattle.capture.specs.Pcap.{format_of, view_format, header, view_header, packet, view_packet, nanoseconds};
 
 use crate::order::{Order, number2_by, number4_by};
+use crate::parsed::parsed;
 use layouts::{ErrorKind, IResult, block, number4, refused};
 
 /// The longest packet in a file, in bytes (`MAXIMUM_SNAPLEN` of libpcap).
@@ -88,15 +89,15 @@ pub fn parse_pcap_header(i: &[u8]) -> IResult<&[u8], PcapHeader>
     ensures gives { Gives view_header header i.now result }
     ensures only_one { AllowsOne header i.now }
 {
-    let (i, magic) = number4(i)?;
-    let (i, format) = format_by_magic(i, magic)?;
-    let (i, major) = number2_by(i, format.order)?;
+    let (i, magic) = parsed!(number4(i));
+    let (i, format) = parsed!(format_by_magic(i, magic));
+    let (i, major) = parsed!(number2_by(i, format.order));
     if major != 2 {
         return refused(i, ErrorKind::Verify);
     }
-    let (i, _) = block(i, 10)?;
-    let (i, snap_length) = number4_by(i, format.order)?;
-    let (i, link) = number4_by(i, format.order)?;
+    let (i, _) = parsed!(block(i, 10));
+    let (i, snap_length) = parsed!(number4_by(i, format.order));
+    let (i, link) = parsed!(number4_by(i, format.order));
     let header = PcapHeader {
         format,
         snap_length,
@@ -117,14 +118,14 @@ pub fn parse_pcap_packet(i: &[u8], format: Format) -> IResult<&[u8], Captured>
     ensures gives { Gives view_packet (packet (view_format format)) i.now result }
     ensures only_one { AllowsOne (packet (view_format format)) i.now }
 {
-    let (i, seconds) = number4_by(i, format.order)?;
-    let (i, fraction) = number4_by(i, format.order)?;
-    let (i, captured) = number4_by(i, format.order)?;
-    let (i, original_length) = number4_by(i, format.order)?;
+    let (i, seconds) = parsed!(number4_by(i, format.order));
+    let (i, fraction) = parsed!(number4_by(i, format.order));
+    let (i, captured) = parsed!(number4_by(i, format.order));
+    let (i, original_length) = parsed!(number4_by(i, format.order));
     if captured > MAX_PACKET_LEN {
         return refused(i, ErrorKind::TooLarge);
     }
-    let (i, bytes) = block(i, captured as usize)?;
+    let (i, bytes) = parsed!(block(i, captured as usize));
     let time = seconds as u64 * 1_000_000_000 + fraction as u64 * format.unit.nanoseconds();
     Ok((
         i,

@@ -8,6 +8,7 @@ ghost use Rattle.capture.specs.Pcapng.{order_next as order_next_layout};
 ghost use Rattle.capture.specs.Pcapng.{block_by as block_by_layout, next_block, view_block};
 
 use crate::order::{Order, number4_by};
+use crate::parsed::parsed;
 use layouts::{ErrorKind, IResult, block, number4, refused};
 
 /// The longest block, in bytes.
@@ -55,8 +56,8 @@ fn order_by_magic(i: &[u8], magic: u32) -> IResult<&[u8], Order>
 fn section_order(i: &[u8]) -> IResult<&[u8], Order>
     ensures { Gives (λ v. v) section_order_layout i.now result }
 {
-    let (i, _) = block(i, 8)?;
-    let (i, magic) = number4(i)?;
+    let (i, _) = parsed!(block(i, 8));
+    let (i, magic) = parsed!(number4(i));
     order_by_magic(i, magic)
 }
 
@@ -64,9 +65,9 @@ fn section_order(i: &[u8]) -> IResult<&[u8], Order>
 fn order_next(i: &[u8], order: Order) -> IResult<&[u8], Order>
     ensures { Gives (λ v. v) (order_next_layout order) i.now result }
 {
-    let (_, kind) = number4(i)?;
+    let (_, kind) = parsed!(number4(i));
     if kind == SECTION_HEADER {
-        let (_, order) = section_order(i)?;
+        let (_, order) = parsed!(section_order(i));
         return Ok((i, order));
     }
     Ok((i, order))
@@ -76,16 +77,16 @@ fn order_next(i: &[u8], order: Order) -> IResult<&[u8], Order>
 fn block_by(i: &[u8], order: Order) -> IResult<&[u8], Block>
     ensures { Gives view_block (block_by_layout order) i.now result }
 {
-    let (i, kind) = number4_by(i, order)?;
-    let (i, total) = number4_by(i, order)?;
+    let (i, kind) = parsed!(number4_by(i, order));
+    let (i, total) = parsed!(number4_by(i, order));
     if total < 12 || total % 4 != 0 {
         return refused(i, ErrorKind::LengthValue);
     }
     if total > MAX_BLOCK_LEN {
         return refused(i, ErrorKind::TooLarge);
     }
-    let (i, body) = block(i, total as usize - 12)?;
-    let (i, again) = number4_by(i, order)?;
+    let (i, body) = parsed!(block(i, total as usize - 12));
+    let (i, again) = parsed!(number4_by(i, order));
     if again != total {
         return refused(i, ErrorKind::LengthValue);
     }
@@ -108,6 +109,6 @@ pub fn parse_block(i: &[u8], order: Order) -> IResult<&[u8], Block>
     ensures gives { Gives view_block (next_block order) i.now result }
     ensures only_one { AllowsOne (next_block order) i.now }
 {
-    let (i, order) = order_next(i, order)?;
+    let (i, order) = parsed!(order_next(i, order));
     block_by(i, order)
 }

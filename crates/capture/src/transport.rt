@@ -5,6 +5,7 @@ ghost use Rattle.capture.specs.Transport.{tcp as tcp_layout, view_segment, udp a
 ghost use Rattle.capture.specs.Transport.{numbers as numbers_layout, view_numbers, control_fields as control_fields_layout, view_control};
 ghost use Rattle.capture.specs.Transport.{transport as transport_layout, view_content};
 
+use crate::parsed::parsed;
 use layouts::{ErrorKind, IResult, block, number1, number2, number4, refused, rest};
 
 /// The protocol number of TCP.
@@ -94,10 +95,10 @@ pub enum Content<'a> {
 fn read_numbers(i: &[u8]) -> IResult<&[u8], Numbers>
     ensures { Gives view_numbers numbers_layout i.now result }
 {
-    let (i, source) = number2(i)?;
-    let (i, destination) = number2(i)?;
-    let (i, sequence) = number4(i)?;
-    let (i, acknowledgment) = number4(i)?;
+    let (i, source) = parsed!(number2(i));
+    let (i, destination) = parsed!(number2(i));
+    let (i, sequence) = parsed!(number4(i));
+    let (i, acknowledgment) = parsed!(number4(i));
     let numbers = Numbers {
         source,
         destination,
@@ -115,11 +116,11 @@ fn control_fields(i: &[u8]) -> IResult<&[u8], Control>
     ensures gives { Gives view_control control_fields_layout i.now result }
     ensures fits { IfOk result (λ x. 80 ≤ x.1.offset) }
 {
-    let (i, offset) = number1(i)?;
-    let (i, flags) = number1(i)?;
-    let (i, window) = number2(i)?;
-    let (i, checksum) = number2(i)?;
-    let (i, urgent_pointer) = number2(i)?;
+    let (i, offset) = parsed!(number1(i));
+    let (i, flags) = parsed!(number1(i));
+    let (i, window) = parsed!(number2(i));
+    let (i, checksum) = parsed!(number2(i));
+    let (i, urgent_pointer) = parsed!(number2(i));
     if offset / 16 < 5 {
         return refused(i, ErrorKind::LengthValue);
     }
@@ -143,10 +144,10 @@ fn control_fields(i: &[u8]) -> IResult<&[u8], Control>
 pub fn parse_tcp(i: &[u8]) -> IResult<&[u8], TcpSegment>
     ensures { Gives view_segment tcp_layout i.now result }
 {
-    let (i, numbers) = read_numbers(i)?;
-    let (i, control) = control_fields(i)?;
-    let (i, options) = block(i, (control.offset / 16) as usize * 4 - 20)?;
-    let (i, payload) = rest(i)?;
+    let (i, numbers) = parsed!(read_numbers(i));
+    let (i, control) = parsed!(control_fields(i));
+    let (i, options) = parsed!(block(i, (control.offset / 16) as usize * 4 - 20));
+    let (i, payload) = parsed!(rest(i));
     let segment = TcpSegment {
         source: numbers.source,
         destination: numbers.destination,
@@ -171,14 +172,14 @@ pub fn parse_tcp(i: &[u8]) -> IResult<&[u8], TcpSegment>
 pub fn parse_udp(i: &[u8]) -> IResult<&[u8], UdpDatagram>
     ensures { Gives view_datagram udp_layout i.now result }
 {
-    let (i, source) = number2(i)?;
-    let (i, destination) = number2(i)?;
-    let (i, length) = number2(i)?;
-    let (i, checksum) = number2(i)?;
+    let (i, source) = parsed!(number2(i));
+    let (i, destination) = parsed!(number2(i));
+    let (i, length) = parsed!(number2(i));
+    let (i, checksum) = parsed!(number2(i));
     if length < 8 {
         return refused(i, ErrorKind::LengthValue);
     }
-    let (i, payload) = block(i, length as usize - 8)?;
+    let (i, payload) = parsed!(block(i, length as usize - 8));
     let datagram = UdpDatagram {
         source,
         destination,
@@ -197,15 +198,15 @@ pub(crate) fn transport(i: &[u8], protocol: u8) -> IResult<&[u8], Content>
 {
     match protocol {
         TCP => {
-            let (i, segment) = parse_tcp(i)?;
+            let (i, segment) = parsed!(parse_tcp(i));
             Ok((i, Content::Tcp(segment)))
         }
         UDP => {
-            let (i, datagram) = parse_udp(i)?;
+            let (i, datagram) = parsed!(parse_udp(i));
             Ok((i, Content::Udp(datagram)))
         }
         _ => {
-            let (i, payload) = rest(i)?;
+            let (i, payload) = parsed!(rest(i));
             Ok((i, Content::Other(protocol, payload)))
         }
     }

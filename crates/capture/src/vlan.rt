@@ -8,6 +8,7 @@ ghost use Rattle.capture.specs.Vlan.{found_in, hdlc_front as hdlc_front_layout, 
 
 use crate::link::is_vlan;
 use crate::links::links;
+use crate::parsed::parsed;
 use layouts::{ErrorKind, IResult, block, number2, refused};
 
 /// The most VLAN tags that are returned for a packet.
@@ -25,11 +26,11 @@ pub struct VlanTags {
 fn vlan(i: &[u8]) -> IResult<&[u8], u16>
     ensures { Gives (λ v. v) vlan_layout i.now result }
 {
-    let (i, kind) = number2(i)?;
+    let (i, kind) = parsed!(number2(i));
     if !is_vlan(kind) {
         return refused(i, ErrorKind::Tag);
     }
-    let (i, control) = number2(i)?;
+    let (i, control) = parsed!(number2(i));
     Ok((i, control % 4096))
 }
 
@@ -39,12 +40,12 @@ fn vlan(i: &[u8]) -> IResult<&[u8], u16>
 fn sll2_front(i: &[u8]) -> IResult<&[u8], Option<u16>>
     ensures { Gives (λ v. v) sll2_front_layout i.now result }
 {
-    let (i, kind) = number2(i)?;
+    let (i, kind) = parsed!(number2(i));
     if !is_vlan(kind) {
         return refused(i, ErrorKind::Tag);
     }
-    let (i, _) = block(i, 18)?;
-    let (i, control) = number2(i)?;
+    let (i, _) = parsed!(block(i, 18));
+    let (i, control) = parsed!(number2(i));
     Ok((i, Some(control % 4096)))
 }
 
@@ -53,7 +54,7 @@ fn sll2_front(i: &[u8]) -> IResult<&[u8], Option<u16>>
 fn hdlc_front(i: &[u8]) -> IResult<&[u8], Option<u16>>
     ensures { Gives (λ v. v) hdlc_front_layout i.now result }
 {
-    let (i, front) = number2(i)?;
+    let (i, front) = parsed!(number2(i));
     if front != 0x0f00 && front != 0x8f00 {
         return refused(i, ErrorKind::Switch);
     }
@@ -65,7 +66,7 @@ fn hdlc_front(i: &[u8]) -> IResult<&[u8], Option<u16>>
 fn tags_behind(i: &[u8], count: usize) -> IResult<&[u8], Option<u16>>
     ensures { Gives (λ v. v) (tags_behind_layout count) i.now result }
 {
-    let (i, _) = block(i, count)?;
+    let (i, _) = parsed!(block(i, count));
     Ok((i, None))
 }
 

@@ -323,8 +323,8 @@ macro_rules! rows {
                 /// absent: none is known
                 "orig_disagreeing_bytes", "resp_disagreeing_bytes": Count = Disagreeing =>
                     |sender| Ok(some_count(sender.party.stream.disagreeing()));
-                /// the packets of each side of which the other took nothing (docs/CAPTURES.md,
-                /// "Which packets count"). No other field tells of them
+                /// the packets of each side that the other side dropped (docs/CAPTURES.md, "Which
+                /// packets count"). No other field counts them
                 /// RFC: 9293, 3.10.7.4; 5961; 7323, 5
                 /// absent: there were none
                 "orig_dropped_pkts", "resp_dropped_pkts": Count = Dropped =>
@@ -336,8 +336,8 @@ macro_rules! rows {
                 /// absent: there were none
                 "orig_dropped_for", "resp_dropped_for": Texts = DroppedFor =>
                     |sender| reasons_cell(sender.alloc, &sender.party.dropped);
-                /// how many bytes of each side stand in front of its TLS: those of STARTTLS, of a
-                /// proxy, or of another protocol (docs/CAPTURES.md, "Where TLS begins")
+                /// how many bytes of each side come before its TLS: those of STARTTLS, of a proxy,
+                /// or of another protocol (docs/CAPTURES.md, "Where TLS begins")
                 /// absent: there are none; DTLS
                 "orig_preamble_bytes", "resp_preamble_bytes": Count = Preamble =>
                     |sender| Ok(some_count(sender.party.preamble));
@@ -386,7 +386,8 @@ macro_rules! rows {
                 /// RFC: 3749, 2
                 /// Zeek: the same; with `--format zeek` by name, as there
                 "client_comp_methods": Methods = Compressions =>
-                    |context| some_numbers(Numbers::Codes(context.handshake.client_compressions().bytes()));
+                    |context| some_numbers(
+                        Numbers::Codes(context.handshake.client_compressions().bytes()));
                 /// the types of its extensions, in order
                 /// RFC: 8446, 4.2
                 /// Zeek: the same
@@ -405,13 +406,15 @@ macro_rules! rows {
                 /// Zeek: the same; with `--format zeek` by name, as there
                 /// absent: no such extension
                 "point_formats": PointFormats = PointFormats =>
-                    |context| some_numbers(Numbers::Codes(context.handshake.client_point_formats()));
+                    |context| some_numbers(
+                        Numbers::Codes(context.handshake.client_point_formats()));
                 /// the signature schemes that it offers
                 /// RFC: 8446, 4.2.3
                 /// Zeek: the second half of each
                 /// absent: no such extension
                 "sigalgs": Texts = SignatureAlgorithms =>
-                    |context| some_texts(Texts::Schemes(context.handshake.client_signature_algorithms()));
+                    |context| some_texts(
+                        Texts::Schemes(context.handshake.client_signature_algorithms()));
                 /// the application protocols that it offers
                 /// RFC: 7301, 3.1
                 /// Zeek: the same
@@ -423,7 +426,8 @@ macro_rules! rows {
                 /// Zeek: the same
                 /// absent: it has none
                 "client_key_share_groups": Texts = KeyShareGroups =>
-                    |context| some_texts(Texts::Shares(context.handshake.client_key_shares().bytes()));
+                    |context| some_texts(
+                        Texts::Shares(context.handshake.client_key_shares().bytes()));
                 /// by number: 0 is psk_ke, 1 psk_dhe_ke
                 /// RFC: 8446, 4.2.9
                 /// Zeek: the same; with `--format zeek` by name, as there
@@ -624,8 +628,7 @@ macro_rules! rows {
                     ClientFaults => |context| faults_cell(context.alloc, client_chain(context));
             }
             Print {
-                /// the JA3 of the ClientHello, and the text of which it is the MD5 ("Fingerprints",
-                /// below)
+                /// the JA3 of the ClientHello, and the text whose MD5 it is ("Fingerprints", below)
                 /// Zeek: `ja3` of a package
                 /// absent: no ClientHello
                 "ja3": Text = Ja3 => |context| ja3_cell(context);

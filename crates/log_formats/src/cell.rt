@@ -52,7 +52,7 @@ impl Serialize for StopCell {
 pub struct PrintCell {
     /// The fingerprint.
     pub hash: String,
-    /// The text of which it is the digest.
+    /// The text that was hashed.
     pub string: String,
 }
 

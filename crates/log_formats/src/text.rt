@@ -198,8 +198,8 @@ fn dotted(address: Ipv4Addr) -> ([u8; 15], usize) {
     (text, len)
 }
 
-/// Serializes an address. IPv4 addresses, of which each line has two, don't go through the
-/// formatting buffer.
+/// Serializes an address. IPv4 addresses, two in each line, don't go through the formatting
+/// buffer.
 fn serialize_address<S: Serializer>(address: IpAddr, out: &mut S) -> Result<(), S::Error> {
     if let IpAddr::V4(four) = address {
         let (text, len) = dotted(four);

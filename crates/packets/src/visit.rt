@@ -24,7 +24,8 @@ pub trait PacketVisitor {
 
     /// Takes the next packet. An error refuses it and ends the visit.
     fn visit(&mut self, packet: Packet<'_>) -> Result<(), Self::Error>
-        ensures visits { Visits (taken self.old) (taken self.new) result (view_packet packet.entry) }
+        ensures visits { Visits (taken self.old) (taken self.new) result
+            (view_packet packet.entry) }
         ensures sound { is_sound self.old ≡ true → OnOk result (is_sound self.new ≡ true) };
 }
 
@@ -71,7 +72,8 @@ fn visit_front<V: PacketVisitor>(
     ensures goes { Goes (front capture.old buffer.old) (V.taken visitor.old) (V.taken visitor.new)
         capture.old capture.new
         buffer.old buffer.new (as_visited result) }
-    ensures sound { StaysSound (V.is_sound visitor.old) (V.is_sound visitor.new) (as_visited result) }
+    ensures sound { StaysSound (V.is_sound visitor.old) (V.is_sound visitor.new)
+        (as_visited result) }
 {
     match capture.step(buffer.held()) {
         Ok(Step::Packet(packet, rest)) => {

@@ -55,7 +55,8 @@ fn fill_each(marks: &mut [bool], bytes: &mut [u8], new: &[u8]) -> usize
     requires bytes { length bytes.old ≡ length marks.old }
     requires new { length new.now ≡ length marks.old }
     ensures filled { marked marks.new bytes.new ≡ fill (marked marks.old bytes.old) new.now }
-    ensures counted { known (marked marks.new bytes.new) ≡ known (marked marks.old bytes.old) + result }
+    ensures counted { known (marked marks.new bytes.new)
+        ≡ known (marked marks.old bytes.old) + result }
     ensures within { result ≤ length new.now }
 {
     let mut count = 0;
@@ -77,7 +78,8 @@ pub(crate) fn fill_empty(standing: usize, marks: &mut [bool], bytes: &mut [u8], 
     requires new { length new.now ≡ length marks.old }
     requires standing { standing ≡ known (marked marks.old bytes.old) }
     ensures filled { marked marks.new bytes.new ≡ fill (marked marks.old bytes.old) new.now }
-    ensures counted { known (marked marks.new bytes.new) ≡ known (marked marks.old bytes.old) + result }
+    ensures counted { known (marked marks.new bytes.new)
+        ≡ known (marked marks.old bytes.old) + result }
     ensures within { result ≤ length new.now }
 {
     if standing == new.len() {

@@ -255,7 +255,8 @@ impl TcpReassembler {
     fn add(&mut self, ahead: u32, bytes: &[u8]) -> Result<(), SegmentError>
         ensures ok { OnOk result (self.new ≡ with_located (ahead, bytes.now) self.old) }
         ensures err { OnErr result (self.new ≡ self.old) }
-        ensures too_much { (result ≡ Err segment_error.TooMuch) ↔ IsBeyond (ahead, bytes.now) self.old }
+        ensures too_much { (result ≡ Err segment_error.TooMuch)
+            ↔ IsBeyond (ahead, bytes.now) self.old }
     {
         if bytes.is_empty() {
             return Ok(());

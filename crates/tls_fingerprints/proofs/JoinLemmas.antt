@@ -49,7 +49,7 @@ pub left_none : {X : Type 0} (c : ℕ) (f : X → List ℕ) (first : Bool) → l
 left_none c f true = refl
 left_none c f false = refl
 
--- a hasher that has the front of a text, of which this is the rest
+-- a hasher that has the front of a text; this is the rest of it
 pub record IsAhead {H : Type 0} (Holds : H → List ℕ → Type 0) (h : H)
     (whole rest : List ℕ) : Type 0 where
   pub text : List ℕ

@@ -217,7 +217,8 @@ impl ClientHelloParts<'_> {
             (λ p. IsPart p.0 p.1 (without_grease (types_in (view_client self.now).extensions))
             (ja4_types_of (view_client self.now))) }
         ensures none { IfNone result
-            (length room.old < length (without_grease (types_in (view_client self.now).extensions))) }
+            (length room.old
+            < length (without_grease (types_in (view_client self.now).extensions))) }
     {
         let types = other_types_in(extension_types(self.ext), room)?;
         let mut text = Sha256::new();

@@ -61,7 +61,8 @@ pub(crate) fn other_types_in(types: Items<ExtensionType>, room: &mut [u16]) -> O
         × IsFilled room.new t.others
         (other_types (without_grease (items_in extension_type types.entry.bytes.now)))) }
     ensures none { IfNone result
-        (length room.old < length (without_grease (items_in extension_type types.entry.bytes.now))) }
+        (length room.old
+        < length (without_grease (items_in extension_type types.entry.bytes.now))) }
 {
     let mut all = 0;
     let mut others = 0;

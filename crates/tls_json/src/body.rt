@@ -83,7 +83,8 @@ fn chain(alloc: Global, list: &[u8]) -> Result<Value, AllocError>
 /// Adds the signature algorithms, if the request has them.
 fn with_algorithms(alloc: Global, table: Table, algorithms: Option<Items<'_, u16>>) -> Table
     ensures { (es : Entries) → HasFields es table
-        → HasFields (es ++ list_if (codes "supported_signature_algorithms") algorithms.entry) result }
+        → HasFields (es ++ list_if (codes "supported_signature_algorithms") algorithms.entry)
+        result }
 {
     match algorithms {
         Some(list) => table.add(

@@ -22,7 +22,8 @@ fn with_field(
     name: &'static str,
     value: Result<Value, AllocError>,
 ) -> Result<Vec<Field>, AllocError>
-    ensures fields { (es : Entries) → (d : Data) → IfOk fields.entry (HasEntries es) → IfOk value (Shows d)
+    ensures fields { (es : Entries) → (d : Data) → IfOk fields.entry (HasEntries es)
+        → IfOk value (Shows d)
         → IfOk result (HasEntries (es ++ (name.now, d) ∷ [])) }
     ensures names { (ns : List (List ℕ)) → IfOk fields.entry (IsNamed ns)
         → IfOk result (IsNamed (ns ++ name.now ∷ [])) }

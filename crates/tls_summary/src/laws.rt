@@ -9,7 +9,8 @@ ghost use Rattle.tls_summary.specs.HandshakeSummary.{HandshakeSummary as Known, 
 /// another; and no message of the server ever does. The same holds for the ServerHello, with the
 /// sides exchanged.
 pub fn hellos_stand()
-    ensures messages { (side : Side) (b : Bytes) (f : Known) → KeepsHellos side f (of_bytes side b f) }
+    ensures messages { (side : Side) (b : Bytes) (f : Known)
+        → KeepsHellos side f (of_bytes side b f) }
     ensures ssl2_hellos { (side : Side) (h : Ssl2ClientHello) (f : Known)
         → KeepsHellos side f (asked_in_ssl2 side h f) }
     ensures datagram_messages { (side : Side) (n : ℕ) (b : Bytes) (f : Known)

@@ -208,7 +208,8 @@ pub(crate) fn chain_of(
     list: &[u8],
     known: Option<&mut CertificateCache>,
 ) -> Result<Chain, AllocError>
-    ensures summaries { IfOk result (λ c. c.summaries.items ≡ summaries_of_all (items_in (counted 3) list.now)) }
+    ensures summaries { IfOk result
+        (λ c. c.summaries.items ≡ summaries_of_all (items_in (counted 3) list.now)) }
     ensures own { IfOk result
         (λ c. option_map (λ x. x.items) c.own ≡ first_of (items_in (counted 3) list.now)) }
 {

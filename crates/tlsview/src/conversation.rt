@@ -36,7 +36,7 @@ impl ViewedSide {
 }
 
 impl ViewedConversation {
-    /// A conversation of which nothing was read.
+    /// A conversation before its first byte.
     pub fn new(alloc: Global) -> ViewedConversation
         ensures { result ≡ silence }
     {

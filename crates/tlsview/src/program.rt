@@ -38,7 +38,8 @@ pub fn run<R: Read, W: Write>(
         ⊎ (((e ≡ TransferFailure.Reading)
         × ((r.new.has_failed ≡ true) ⊎ (r.new.calls ≡ most_reads)))
         ⊎ ((e ≡ TransferFailure.Writing) × (w.new.has_failed ≡ true)))) }
-    ensures unwritten { IfErr result (λ e. e ≢ TransferFailure.Writing → w.new.writer.now ≡ w.old.writer.now) }
+    ensures unwritten { IfErr result
+        (λ e. e ≢ TransferFailure.Writing → w.new.writer.now ≡ w.old.writer.now) }
     ensures partly_written { IfErr result (λ e. e ≡ TransferFailure.Writing
         → WritesFront R.remaining W.contents r.old.reader.now r.new.reader.now w.old.writer.now
         w.new.writer.now) }

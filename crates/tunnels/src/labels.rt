@@ -60,8 +60,8 @@ pub fn parse_mpls(i: &[u8]) -> IResult<&[u8], Header>
     carrying(i, tunnel, type_behind_labels(first / 16))
 }
 
-/// Parses an I-TAG behind its type (IEEE 802.1Q, section 9.7): 4 bytes, of which the lower 3 are
-/// the service, and the customer's Ethernet frame.
+/// Parses an I-TAG behind its type (IEEE 802.1Q, section 9.7): 4 bytes, whose lower 3 are the
+/// service, and the customer's Ethernet frame.
 ///
 /// `Incomplete`, with the count of missing bytes of the first 4.
 #[tactic(auto, using(layouts::proofs::OneAnswerLemmas::read_allowed), unfolding(crate::specs::Labels::backbone))]

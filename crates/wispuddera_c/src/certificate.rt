@@ -86,7 +86,8 @@ fn in_numbers(
     places: &CertificatePlaces,
     rest: &[u8],
 ) -> X509
-    ensures shows { CertificateStands bytes.now certificate.now places.now → EndsWith bytes.now rest.now
+    ensures shows { CertificateStands bytes.now certificate.now places.now
+        → EndsWith bytes.now rest.now
         → ShowsX509 bytes.now result (view_certificate certificate.now) rest.now }
     ensures missing { result.missing ≡ 0 }
 {

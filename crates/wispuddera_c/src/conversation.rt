@@ -122,7 +122,8 @@ fn chooses_tls13(event: FlowEvent) -> bool
 #[unsafe(no_mangle)]
 pub extern "C" fn wispuddera_conversation_start(conversation: &mut Conversation, limit: usize)
     ensures begun { (x y : Bytes) → IsBegun limit (joined x y conversation.new) }
-    ensures within { (room : ℕ) (to_server : Bool) → IsWithin room (side_at to_server conversation.new) }
+    ensures within { (room : ℕ) (to_server : Bool)
+        → IsWithin room (side_at to_server conversation.new) }
     ensures events { AreEvents [] conversation.new }
 {
     *conversation = Conversation {

@@ -241,7 +241,8 @@ impl Side {
     ) -> Option<ReadEvent>
         requires within { IsWithin (length buffer.old) self.old }
         requires speaks { self.old.is_over ≡ false }
-        ensures some { IfSome result (λ h. IsHeardAs side known buffer.old self.old buffer.new self.new h) }
+        ensures some { IfSome result
+            (λ h. IsHeardAs side known buffer.old self.old buffer.new self.new h) }
         ensures none { IfNone result (Waits known buffer.old self.old buffer.new self.new) }
         ensures within { IsWithin (length buffer.new) self.new }
     {

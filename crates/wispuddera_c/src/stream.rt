@@ -83,8 +83,8 @@ fn place_of_rest(buffer: &[u8], held: Place, bytes: &[u8], rest: &[u8]) -> Place
 #[tactic(auto, using(layouts::proofs::OneAnswerLemmas::read_allowed, layouts::proofs::PlaceLemmas::ends_here, crate::proofs::StatusLemmas::answered))]
 #[unsafe(no_mangle)]
 pub extern "C" fn wispuddera_next_record(buffer: &[u8], held: &mut Place, out: &mut Record) -> u32
-    ensures read { IsTaken raw_record (TakesRecord buffer.now held.new out.new) buffer.now held.old result
-        out.new.missing }
+    ensures read { IsTaken raw_record (TakesRecord buffer.now held.new out.new) buffer.now held.old
+        result out.new.missing }
     ensures stays { result ≢ 0 → held.new ≡ held.old }
     ensures behind { LiesBehind buffer.now held.old → (result ≡ outside) × (out.new.missing ≡ 0) }
 {
@@ -123,8 +123,8 @@ pub extern "C" fn wispuddera_next_record(buffer: &[u8], held: &mut Place, out: &
 #[tactic(auto, using(layouts::proofs::OneAnswerLemmas::read_allowed, layouts::proofs::PlaceLemmas::ends_here, crate::proofs::StatusLemmas::answered))]
 #[unsafe(no_mangle)]
 pub extern "C" fn wispuddera_next_message(buffer: &[u8], held: &mut Place, out: &mut Part) -> u32
-    ensures read { IsTaken raw_handshake (TakesPart buffer.now held.new out.new) buffer.now held.old result
-        out.new.missing }
+    ensures read { IsTaken raw_handshake (TakesPart buffer.now held.new out.new) buffer.now held.old
+        result out.new.missing }
     ensures stays { result ≢ 0 → held.new ≡ held.old }
     ensures behind { LiesBehind buffer.now held.old → (result ≡ outside) × (out.new.missing ≡ 0) }
 {

@@ -92,7 +92,7 @@ impl<'a> InPlace<'a> for PositiveBits {
     }
 }
 
-/// The content of an RSAPublicKey, of which the modulus's bit length is returned.
+/// The content of an RSAPublicKey. Reading it returns the bit length of the modulus.
 struct RsaContent;
 
 impl<'a> InPlace<'a> for RsaContent {

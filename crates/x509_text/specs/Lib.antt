@@ -1,8 +1,12 @@
 pub mod Object
 pub mod DirectoryAttributes
+pub mod FurtherDirectoryAttributes
 pub mod OtherAttributes
 pub mod Algorithms
+pub mod NistAlgorithms
+pub mod NationalAlgorithms
 pub mod Curves
+pub mod FurtherCurves
 pub mod Purposes
 pub mod Extensions
 pub mod Hexadecimal

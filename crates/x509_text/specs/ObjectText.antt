@@ -7,8 +7,12 @@ use Rattle.layouts.specs.Bytes.{Bytes}
 use Rattle.der.specs.ObjectIdentifier.{arcs_of}
 use Rattle.x509_text.specs.Object.{NamedObject}
 use Rattle.x509_text.specs.Algorithms.{algorithms}
+use Rattle.x509_text.specs.NationalAlgorithms.{national_algorithms}
+use Rattle.x509_text.specs.NistAlgorithms.{nist_algorithms}
 use Rattle.x509_text.specs.Curves.{curves}
+use Rattle.x509_text.specs.FurtherCurves.{further_curves}
 use Rattle.x509_text.specs.DirectoryAttributes.{directory_attributes}
+use Rattle.x509_text.specs.FurtherDirectoryAttributes.{further_directory_attributes}
 use Rattle.x509_text.specs.Extensions.{extensions}
 use Rattle.x509_text.specs.Hexadecimal.{dump_text}
 use Rattle.x509_text.specs.OtherAttributes.{other_attributes}
@@ -27,9 +31,13 @@ first_known (None ∷ os) = first_known os
 unfoldable pub object_of : Bytes → Option NamedObject
 object_of content = first_known (
     found_in directory_attributes content
+    ∷ found_in further_directory_attributes content
     ∷ found_in other_attributes content
     ∷ found_in algorithms content
+    ∷ found_in nist_algorithms content
+    ∷ found_in national_algorithms content
     ∷ found_in curves content
+    ∷ found_in further_curves content
     ∷ found_in purposes content
     ∷ found_in extensions content
     ∷ [])

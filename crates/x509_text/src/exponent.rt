@@ -39,7 +39,7 @@ impl<'a> InPlace<'a> for Natural {
     }
 }
 
-/// The content of an RSAPublicKey, of which the exponent is returned.
+/// The content of an RSAPublicKey. Reading it returns the exponent.
 struct ExponentContent;
 
 impl<'a> InPlace<'a> for ExponentContent {

@@ -1,6 +1,8 @@
 //! Names in extensions as texts (RFC 5280, section 4.2.1.6).
-ghost use Rattle.std.specs.Prelude.{◌≡◌, ◌++◌, IfOk, OnOk};
+ghost use Rattle.std.specs.Prelude.{◌≡◌, ◌++◌, ◌∷◌, [], IfOk, OnOk};
 ghost use Rattle.std.specs.String.{string_bytes};
+ghost use Rattle.std.specs.Net.Addr.{segments_of};
+ghost use Rattle.std.specs.Net.Text.{ipv4_text, ipv6_text};
 ghost use Rattle.x509.specs.GeneralName.{view_general_name};
 ghost use Rattle.x509_text.specs.GeneralName.{address_text, ascii_byte, ascii_text, general_name_text as general_name_text_of, kind_of};
 
@@ -34,22 +36,36 @@ fn add_ascii(text: &mut String, bytes: &[u8]) -> Result<(), AllocError>
     Ok(())
 }
 
+/// Appends an IPv4 address.
+fn add_four(alloc: Global, text: &mut String, a: u8, b: u8, c: u8, d: u8) -> Result<(), AllocError>
+    ensures { OnOk result
+        (string_bytes text.new ≡ string_bytes text.old ++ ipv4_text (a ∷ b ∷ c ∷ d ∷ [])) }
+{
+    let shown = format!(in alloc; "{}", Ipv4Addr::new(a, b, c, d))?;
+    text.push_str(shown.as_str())
+}
+
+/// Appends an IPv6 address.
+fn add_sixteen(alloc: Global, text: &mut String, octets: [u8; 16]) -> Result<(), AllocError>
+    ensures { OnOk result
+        (string_bytes text.new ≡ string_bytes text.old ++ ipv6_text (segments_of octets)) }
+{
+    let shown = format!(in alloc; "{}", Ipv6Addr::from(octets))?;
+    text.push_str(shown.as_str())
+}
+
 /// Appends an IP address.
 fn add_address(alloc: Global, text: &mut String, address: &[u8]) -> Result<(), AllocError>
     ensures { OnOk result
         (string_bytes text.new ≡ string_bytes text.old ++ address_text address.now) }
 {
     match address {
-        [a, b, c, d] => {
-            let shown = format!(in alloc; "{}", Ipv4Addr::new(*a, *b, *c, *d))?;
-            text.push_str(shown.as_str())
-        }
+        [a, b, c, d] => add_four(alloc, text, *a, *b, *c, *d),
         [a, b, c, d, e, f, g, h, i, j, k, l, m, n, o, p] => {
             let octets = [
                 *a, *b, *c, *d, *e, *f, *g, *h, *i, *j, *k, *l, *m, *n, *o, *p,
             ];
-            let shown = format!(in alloc; "{}", Ipv6Addr::from(octets))?;
-            text.push_str(shown.as_str())
+            add_sixteen(alloc, text, octets)
         }
         _ => {
             text.push_str("iPAddress:")?;

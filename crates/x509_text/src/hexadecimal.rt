@@ -38,7 +38,8 @@ pub(crate) fn lower_hex_digit(digit: u8) -> char
 
 /// Appends bytes in upper-case hexadecimal.
 pub(crate) fn add_hex(alloc: Global, text: &mut String, bytes: &[u8]) -> Result<(), AllocError>
-    ensures { OnOk result (string_bytes text.new ≡ string_bytes text.old ++ encode_upper bytes.now) }
+    ensures { OnOk result
+        (string_bytes text.new ≡ string_bytes text.old ++ encode_upper bytes.now) }
 {
     let digits = hex::encode_upper(alloc, bytes)?;
     text.push_str(digits.as_str())

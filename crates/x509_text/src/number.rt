@@ -1,5 +1,5 @@
 //! Serial numbers as texts (RFC 5280, section 4.1.2.2).
-ghost use Rattle.std.specs.Prelude.{◌≡◌, ◌++◌, true, IfOk};
+ghost use Rattle.std.specs.Prelude.{◌≡◌, ◌-◌, ◌%◌, ◌++◌, true, IfOk, if◌then◌else◌};
 ghost use Rattle.std.specs.String.{string_bytes};
 ghost use Rattle.x509_text.specs.Number.{is_negative as is_negative_number, negated as negated_of, serial_number_text as serial_number_text_of, without_padding as without_padding_of};
 
@@ -26,6 +26,16 @@ pub(crate) fn without_padding(number: &[u8]) -> &[u8]
     }
 }
 
+/// A byte of a negative number's absolute value. `zeros` is whether all lower bytes are 0.
+fn negated_byte(byte: u8, zeros: bool) -> u8
+    ensures { result ≡ (if zeros then (256 - byte) % 256 else 255 - byte) }
+{
+    if zeros {
+        return ((256 - byte as u16) % 256) as u8;
+    }
+    255 - byte
+}
+
 /// The bytes of the absolute value of a negative number.
 fn negated(alloc: Global, number: &[u8]) -> Result<Vec<u8>, AllocError>
     ensures { IfOk result (λ v. v.items ≡ negated_of number.now) }
@@ -35,11 +45,7 @@ fn negated(alloc: Global, number: &[u8]) -> Result<Vec<u8>, AllocError>
     let mut negated = Vec::new(alloc);
     let mut zeros = true;
     for byte in from_lowest.as_slice() {
-        negated.push(if zeros {
-            ((256 - *byte as u16) % 256) as u8
-        } else {
-            255 - *byte
-        })?;
+        negated.push(negated_byte(*byte, zeros))?;
         zeros = zeros && *byte == 0;
     }
     negated.as_mut_slice().reverse();

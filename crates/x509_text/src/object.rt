@@ -4,8 +4,12 @@ ghost use Rattle.std.specs.String.{string_bytes};
 ghost use Rattle.std.specs.Option.{option_map};
 ghost use Rattle.x509_text.specs.Object.{view_object};
 ghost use Rattle.x509_text.specs.Algorithms.{algorithms};
+ghost use Rattle.x509_text.specs.NistAlgorithms.{nist_algorithms};
+ghost use Rattle.x509_text.specs.NationalAlgorithms.{national_algorithms};
 ghost use Rattle.x509_text.specs.Curves.{curves};
+ghost use Rattle.x509_text.specs.FurtherCurves.{further_curves};
 ghost use Rattle.x509_text.specs.DirectoryAttributes.{directory_attributes};
+ghost use Rattle.x509_text.specs.FurtherDirectoryAttributes.{further_directory_attributes};
 ghost use Rattle.x509_text.specs.Extensions.{extensions};
 ghost use Rattle.x509_text.specs.OtherAttributes.{other_attributes};
 ghost use Rattle.x509_text.specs.Purposes.{purposes};
@@ -14,7 +18,9 @@ ghost use Rattle.der.specs.ObjectIdentifier.{arcs_of, view_arc};
 
 use crate::hexadecimal::add_dump;
 use crate::tables::{
-    ALGORITHMS, CURVES, DIRECTORY_ATTRIBUTES, EXTENSIONS, OTHER_ATTRIBUTES, Object, PURPOSES,
+    ALGORITHMS, CURVES, DIRECTORY_ATTRIBUTES, EXTENSIONS, FURTHER_CURVES,
+    FURTHER_DIRECTORY_ATTRIBUTES, NATIONAL_ALGORITHMS, NIST_ALGORITHMS, OTHER_ATTRIBUTES, Object,
+    PURPOSES,
 };
 use der::{ArcNumber, Element, ObjectIdentifier, tag};
 use itoa::Buffer;
@@ -39,6 +45,13 @@ fn directory_attribute(content: &[u8]) -> Option<Object>
     find_object(DIRECTORY_ATTRIBUTES, content)
 }
 
+#[tactic(auto, unfolding(crate::specs::FurtherDirectoryAttributes::further_directory_attributes))]
+fn further_directory_attribute(content: &[u8]) -> Option<Object>
+    ensures { option_map view_object result ≡ found_in further_directory_attributes content.now }
+{
+    find_object(FURTHER_DIRECTORY_ATTRIBUTES, content)
+}
+
 #[tactic(auto, unfolding(crate::specs::OtherAttributes::other_attributes))]
 fn other_attribute(content: &[u8]) -> Option<Object>
     ensures { option_map view_object result ≡ found_in other_attributes content.now }
@@ -53,11 +66,32 @@ fn algorithm(content: &[u8]) -> Option<Object>
     find_object(ALGORITHMS, content)
 }
 
+#[tactic(auto, unfolding(crate::specs::NistAlgorithms::nist_algorithms))]
+fn nist_algorithm(content: &[u8]) -> Option<Object>
+    ensures { option_map view_object result ≡ found_in nist_algorithms content.now }
+{
+    find_object(NIST_ALGORITHMS, content)
+}
+
+#[tactic(auto, unfolding(crate::specs::NationalAlgorithms::national_algorithms))]
+fn national_algorithm(content: &[u8]) -> Option<Object>
+    ensures { option_map view_object result ≡ found_in national_algorithms content.now }
+{
+    find_object(NATIONAL_ALGORITHMS, content)
+}
+
 #[tactic(auto, unfolding(crate::specs::Curves::curves))]
 fn curve(content: &[u8]) -> Option<Object>
     ensures { option_map view_object result ≡ found_in curves content.now }
 {
     find_object(CURVES, content)
+}
+
+#[tactic(auto, unfolding(crate::specs::FurtherCurves::further_curves))]
+fn further_curve(content: &[u8]) -> Option<Object>
+    ensures { option_map view_object result ≡ found_in further_curves content.now }
+{
+    find_object(FURTHER_CURVES, content)
 }
 
 #[tactic(auto, unfolding(crate::specs::Purposes::purposes))]
@@ -82,13 +116,25 @@ fn known(content: &[u8]) -> Option<Object>
     if let Some(object) = directory_attribute(content) {
         return Some(object);
     }
+    if let Some(object) = further_directory_attribute(content) {
+        return Some(object);
+    }
     if let Some(object) = other_attribute(content) {
         return Some(object);
     }
     if let Some(object) = algorithm(content) {
         return Some(object);
     }
+    if let Some(object) = nist_algorithm(content) {
+        return Some(object);
+    }
+    if let Some(object) = national_algorithm(content) {
+        return Some(object);
+    }
     if let Some(object) = curve(content) {
+        return Some(object);
+    }
+    if let Some(object) = further_curve(content) {
         return Some(object);
     }
     if let Some(object) = purpose(content) {

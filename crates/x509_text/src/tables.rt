@@ -5,6 +5,10 @@ mod curve_sizes;
 mod curves;
 mod directory_attributes;
 mod extensions;
+mod further_curves;
+mod further_directory_attributes;
+mod national_algorithms;
+mod nist_algorithms;
 mod other_attributes;
 mod purposes;
 
@@ -13,6 +17,10 @@ pub(crate) use curve_sizes::CURVE_SIZES;
 pub(crate) use curves::CURVES;
 pub(crate) use directory_attributes::DIRECTORY_ATTRIBUTES;
 pub(crate) use extensions::EXTENSIONS;
+pub(crate) use further_curves::FURTHER_CURVES;
+pub(crate) use further_directory_attributes::FURTHER_DIRECTORY_ATTRIBUTES;
+pub(crate) use national_algorithms::NATIONAL_ALGORITHMS;
+pub(crate) use nist_algorithms::NIST_ALGORITHMS;
 pub(crate) use other_attributes::OTHER_ATTRIBUTES;
 pub(crate) use purposes::PURPOSES;
 

@@ -63,7 +63,8 @@ fn add_placed(text: &mut String, byte: u8, first: bool, last: bool) -> Result<()
 
 /// Appends a string in UTF-8, escaped.
 fn add_escaped(text: &mut String, string: &[u8]) -> Result<(), AllocError>
-    ensures { OnOk result (string_bytes text.new ≡ string_bytes text.old ++ escaped true string.now) }
+    ensures { OnOk result
+        (string_bytes text.new ≡ string_bytes text.old ++ escaped true string.now) }
 {
     let mut first = true;
     let mut rest = string;
@@ -136,7 +137,8 @@ fn bmp_string(alloc: Global, content: &[u8]) -> Result<Option<String>, AllocErro
 
 /// The string of a UniversalString in UTF-8; `None` if its bytes aren't characters.
 fn universal_string(alloc: Global, content: &[u8]) -> Result<Option<String>, AllocError>
-    ensures { IfOk result (λ o. option_map string_bytes o ≡ utf8_of universal_character content.now) }
+    ensures { IfOk result
+        (λ o. option_map string_bytes o ≡ utf8_of universal_character content.now) }
 {
     let characters = Items::<UniversalCharacter>::new(content);
     if !characters.rest().is_empty() {
@@ -163,7 +165,8 @@ fn latin1_string(alloc: Global, content: &[u8]) -> Result<String, AllocError>
 /// The string of a value, by its tag; `None` for a UTF8String, whose content is the string already,
 /// and if it isn't a string.
 fn converted(alloc: Global, value: Element) -> Result<Option<String>, AllocError>
-    ensures { IfOk result (λ o. option_map string_bytes o ≡ converted_of (view_element value.entry)) }
+    ensures { IfOk result
+        (λ o. option_map string_bytes o ≡ converted_of (view_element value.entry)) }
 {
     match value.tag {
         NUMERIC_STRING

@@ -72,7 +72,8 @@ pub(crate) fn append_extension(out: &mut Vec<u8>, extension: &TlsExtension, len:
 /// Appends the encodings of extensions, one after another.
 pub(crate) fn append_extensions(out: &mut Vec<u8>, extensions: &[TlsExtension])
     requires fits { FitsExtensions (map view extensions.now) }
-    requires room { vec_len out.old + length (joined_text (map view extensions.now)) ≤ vec_capacity out.old }
+    requires room { vec_len out.old + length (joined_text (map view extensions.now))
+        ≤ vec_capacity out.old }
     ensures items { out.new.items ≡ out.old.items ++ joined_text (map view extensions.now) }
     ensures range { All InRangeExtension (map view extensions.now) }
 {

@@ -3,10 +3,6 @@ use Rattle.layouts.proofs.OneAnswerLemmas.{read_allowed}
 use Rattle.capture.specs.Pcapng.{enhanced_packet}
 use Rattle.capture.proofs.block_packet.parse_enhanced_packet.Goals as goal
 
-pub returns-in_err-i : goal.returns-in_err-i
-unfolding enhanced_packet
-returns-in_err-i c = grind (arith, read_allowed)
-
 pub returns : goal.returns
 unfolding enhanced_packet
 returns c = grind (arith, read_allowed)

@@ -3,14 +3,6 @@ use Rattle.layouts.proofs.OneAnswerLemmas.{read_allowed}
 use Rattle.capture.specs.Pcapng.{offset_option}
 use Rattle.capture.proofs.interface.offset_option.Goals as goal
 
-pub returns-in_err-i : goal.returns-in_err-i
-unfolding offset_option
-returns-in_err-i c = grind (arith, read_allowed)
-
-pub returns-in_err-i-2 : goal.returns-in_err-i-2
-unfolding offset_option
-returns-in_err-i-2 c = grind (arith, read_allowed)
-
 pub returns : goal.returns
 unfolding offset_option
 returns c = grind (arith, read_allowed)

@@ -3,10 +3,6 @@ use Rattle.layouts.proofs.OneAnswerLemmas.{read_allowed}
 use Rattle.capture.specs.Pcapng.{resolution_option}
 use Rattle.capture.proofs.interface.resolution_option.Goals as goal
 
-pub returns-in_err-i : goal.returns-in_err-i
-unfolding resolution_option
-returns-in_err-i c = grind (arith, read_allowed)
-
 pub returns : goal.returns
 unfolding resolution_option
 returns c = grind (arith, read_allowed)

@@ -3,14 +3,6 @@ use Rattle.layouts.proofs.OneAnswerLemmas.{read_allowed}
 use Rattle.capture.specs.Ip.{address_v6}
 use Rattle.capture.proofs.ip.address_v6.Goals as goal
 
-pub returns-in_err-i : goal.returns-in_err-i
-unfolding address_v6
-returns-in_err-i c = grind (arith, read_allowed)
-
-pub returns-in_err-i-2 : goal.returns-in_err-i-2
-unfolding address_v6
-returns-in_err-i-2 c = grind (arith, read_allowed)
-
 pub returns : goal.returns
 unfolding address_v6
 returns c = grind (arith, read_allowed)

@@ -3,54 +3,12 @@ use Rattle.layouts.proofs.OneAnswerLemmas.{read_allowed, one_answer}
 use Rattle.capture.specs.Pcap.{header}
 use Rattle.capture.proofs.pcap.parse_pcap_header.Goals as goal
 
-pub returns-in_err-i-clause-gives : goal.returns-in_err-i-clause-gives
-unfolding header
-returns-in_err-i-clause-gives c = grind (arith, read_allowed)
-
-pub returns-in_err-i-clause-only_one : goal.returns-in_err-i-clause-only_one
-returns-in_err-i-clause-only_one c = grind (arith, one_answer)
-
-pub returns-in_err-i-2-clause-gives : goal.returns-in_err-i-2-clause-gives
-unfolding header
-returns-in_err-i-2-clause-gives c = grind (arith, read_allowed)
-
-pub returns-in_err-i-2-clause-only_one : goal.returns-in_err-i-2-clause-only_one
-returns-in_err-i-2-clause-only_one c = grind (arith, one_answer)
-
-pub returns-in_err-i-3-clause-gives : goal.returns-in_err-i-3-clause-gives
-unfolding header
-returns-in_err-i-3-clause-gives c = grind (arith, read_allowed)
-
-pub returns-in_err-i-3-clause-only_one : goal.returns-in_err-i-3-clause-only_one
-returns-in_err-i-3-clause-only_one c = grind (arith, one_answer)
-
 pub returns-then-major-ne2-clause-gives : goal.returns-then-major-ne2-clause-gives
 unfolding header
 returns-then-major-ne2-clause-gives c = grind (arith, read_allowed)
 
 pub returns-then-major-ne2-clause-only_one : goal.returns-then-major-ne2-clause-only_one
 returns-then-major-ne2-clause-only_one c = grind (arith, one_answer)
-
-pub returns-in_err-i-4-clause-gives : goal.returns-in_err-i-4-clause-gives
-unfolding header
-returns-in_err-i-4-clause-gives c = grind (arith, read_allowed)
-
-pub returns-in_err-i-4-clause-only_one : goal.returns-in_err-i-4-clause-only_one
-returns-in_err-i-4-clause-only_one c = grind (arith, one_answer)
-
-pub returns-in_err-i-5-clause-gives : goal.returns-in_err-i-5-clause-gives
-unfolding header
-returns-in_err-i-5-clause-gives c = grind (arith, read_allowed)
-
-pub returns-in_err-i-5-clause-only_one : goal.returns-in_err-i-5-clause-only_one
-returns-in_err-i-5-clause-only_one c = grind (arith, one_answer)
-
-pub returns-in_err-i-6-clause-gives : goal.returns-in_err-i-6-clause-gives
-unfolding header
-returns-in_err-i-6-clause-gives c = grind (arith, read_allowed)
-
-pub returns-in_err-i-6-clause-only_one : goal.returns-in_err-i-6-clause-only_one
-returns-in_err-i-6-clause-only_one c = grind (arith, one_answer)
 
 pub returns-clause-gives : goal.returns-clause-gives
 unfolding header

@@ -3,14 +3,6 @@ use Rattle.layouts.proofs.OneAnswerLemmas.{read_allowed}
 use Rattle.capture.specs.Pcapng.{block_by}
 use Rattle.capture.proofs.pcapng.block_by.Goals as goal
 
-pub returns-in_err-i : goal.returns-in_err-i
-unfolding block_by
-returns-in_err-i c = grind (arith, read_allowed)
-
-pub returns-in_err-i-2 : goal.returns-in_err-i-2
-unfolding block_by
-returns-in_err-i-2 c = grind (arith, read_allowed)
-
 pub returns-then-total-lt12 : goal.returns-then-total-lt12
 unfolding block_by
 returns-then-total-lt12 c = grind (arith, read_allowed)
@@ -18,14 +10,6 @@ returns-then-total-lt12 c = grind (arith, read_allowed)
 pub returns-then-total-gt-MAX_BLOCK_LEN : goal.returns-then-total-gt-MAX_BLOCK_LEN
 unfolding block_by
 returns-then-total-gt-MAX_BLOCK_LEN c = grind (arith, read_allowed)
-
-pub returns-in_err-i-3 : goal.returns-in_err-i-3
-unfolding block_by
-returns-in_err-i-3 c = grind (arith, read_allowed)
-
-pub returns-in_err-i-4 : goal.returns-in_err-i-4
-unfolding block_by
-returns-in_err-i-4 c = grind (arith, read_allowed)
 
 pub returns-then-again-total : goal.returns-then-again-total
 unfolding block_by

@@ -31,7 +31,8 @@ loop-segment-preserved c =
     ∙ ap (λ b. c.loop-segment.out.items ++ b) (front ∙ ap (λ h. run h.cells) is) in
     let new = c.take.ensures ∙ ap (λ b. without_front (length b) h1) front
     ∙ ap (λ h. without_front (length (run h.cells)) h) is in
-    let next = take_more ss i (0, record { ref_ptr = (0, 0); now = [] }) c.loop-segment-test.true in (
+    let next = take_more ss i (0, record { ref_ptr = (0, 0); now = [] })
+    c.loop-segment-test.true in (
       ap (λ h. h.first) new ∙ c.loop-segment.invariant.0,
       λ stream short parts.
           subst (λ o. IsHandingOut stream (IsCovered f (take (i + 1) ss)) o c.take.new.self)

@@ -23,7 +23,8 @@ returns-clause-shows c = λ there end.
       key_algorithm = in_c_stands b _ c.in_c-key_algorithm.result _ c.in_c-key_algorithm.ensures
           t.key.algorithm.algorithm;
       key_parameters = subst (λ y. StandsAt b c.held_in_c-key_parameters.result (held y))
-          (viewed c.args.certificate.now.tbs_certificate.subject_public_key_info.algorithm.parameters)
+          (viewed
+          c.args.certificate.now.tbs_certificate.subject_public_key_info.algorithm.parameters)
           (c.held_in_c-key_parameters.ensures b _ (may_stand b _ _ t.key.algorithm.parameters));
       public_key = in_c_stands b _ c.in_c-public_key.result _ c.in_c-public_key.ensures t.key.key;
       extensions =
