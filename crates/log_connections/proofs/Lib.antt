@@ -1,2 +1,3 @@
 mod FrontLemmas
 mod LogLemmas
+mod SinkLemmas

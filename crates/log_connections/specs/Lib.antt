@@ -1,3 +1,4 @@
 pub mod Fronts
 pub mod Analysis
 pub mod Log
+pub mod Sink

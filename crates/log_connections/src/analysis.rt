@@ -45,6 +45,13 @@ pub enum PieceKind {
     Chains,
 }
 
+impl PieceKind {
+    /// Returns whether they are passed on as they come, and not with the connection.
+    pub(crate) fn are_passed(self) -> bool {
+        !matches!(self, PieceKind::Chains)
+    }
+}
+
 /// Keeps the pieces of a connection until they are taken. It gets each event that counts.
 pub trait PieceCollector: Drop + Observer {
     /// Returns the collector for a new connection.

@@ -1,22 +1,26 @@
-//! Follows the TLS and DTLS connections of a capture, arrival by arrival.
+//! Follows the TLS and DTLS connections of a capture, packet by packet.
 //!
-//! [`Log`] is a table of connections. Each TCP segment or UDP datagram that its reader
-//! ([`arrivals::ArrivalReader`]) finds goes to its connection, whose analysis ([`TlsAnalysis`]) then
-//! processes the sender's new bytes. For messages or certificates one by one, a [`PieceCollector`]
-//! collects them from each TLS or DTLS connection.
+//! [`Log`] is a table of connections. Give it each packet by [`Log::packet`], and call
+//! [`Log::finish`] at the end: it passes each connection that is over to a [`Sink`]. Each TCP
+//! segment or UDP datagram that its reader ([`arrivals::ArrivalReader`]) finds in a packet goes to
+//! its connection, whose analysis ([`TlsAnalysis`]) then processes the sender's new bytes. For
+//! messages or certificates one by one, a [`PieceCollector`] collects them from each TLS or DTLS
+//! connection.
 //!
 //! Promise: `Log` in `specs/` defines which connection an arrival changes and which bytes its
 //! analysis gets, `TlsAnalysis` what the analysis does with them, and `Fronts` where TLS begins in
-//! a stream. Collected pieces and memory limits have no clauses, only tests.
+//! a stream, and `Sink` which connections are passed on. Collected pieces and memory limits have no clauses, only tests.
 #![tactic(auto)]
 
 mod analysis;
 mod audience;
+mod drive;
 mod found;
 mod fronts;
 mod log;
 mod memory;
+mod sink;
 
 pub use analysis::{ANALYSIS_COST, PieceCollector, PieceKind, TlsAnalysis};
-pub use found::add_found;
 pub use log::Log;
+pub use sink::{LogError, Sink};

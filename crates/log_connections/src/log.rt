@@ -1,8 +1,10 @@
 //! What a capture's arrivals add to the log.
-ghost use Rattle.std.specs.Prelude.{◌≡◌, IfOk, OnOk, is_some};
+ghost use Rattle.std.specs.Prelude.{◌≡◌, ◌<◌, IfOk, IfSome, OnOk, is_some, length};
+ghost use Rattle.std.specs.Option.{option_map};
 ghost use Rattle.connections.specs.Connection.{side_of};
 ghost use Rattle.log_connections.specs.Analysis.{HearsNext, HearsOn, direction_of as direction};
 ghost use Rattle.log_connections.specs.Log.{HearsFrom, HearsSide, Logs, LogsDatagram, LogsExchange, LogsOpen};
+ghost use Rattle.log_connections.specs.Sink.{EndsAs, EndsIdle, EndsLast, IsEnded};
 
 use crate::analysis::{PieceCollector, PieceKind, TlsAnalysis};
 use crate::memory::SPARE;
@@ -62,7 +64,9 @@ enum Delivery {
 fn analyze_last<K: PieceCollector>(
     connection: &mut Connection<TlsAnalysis<K>>,
     known: &mut CertificateCache,
-) -> Result<(), AllocError> {
+) -> Result<(), AllocError>
+    ensures { OnOk result (IsEnded connection.old connection.new) }
+{
     let is_opened = connection.has_opening();
     let heard = &mut connection.attachment;
     let stream = &mut connection.from_originator;
@@ -75,7 +79,10 @@ fn analyze_last<K: PieceCollector>(
 pub(crate) fn with_last<K: PieceCollector>(
     known: &mut CertificateCache,
     taken: Option<Box<Connection<TlsAnalysis<K>>>>,
-) -> Result<Option<Box<Connection<TlsAnalysis<K>>>>, AllocError> {
+) -> Result<Option<Box<Connection<TlsAnalysis<K>>>>, AllocError>
+    ensures { IfOk result (λ ended. EndsAs (option_map (λ b. b.value) taken)
+        (option_map (λ b. b.value) ended)) }
+{
     match taken {
         Some(mut connection) => {
             analyze_last(&mut connection, known)?;
@@ -197,23 +204,32 @@ impl<K: PieceCollector> Log<K> {
         })
     }
 
-    /// Removes and returns a connection that is over before the arrival. Call it until it returns
-    /// `None`.
-    pub fn take_over(
+    /// Removes and returns a connection that timed out by this time.
+    pub(crate) fn take_over(
         &mut self,
-        arrival: &Arrival<'_>,
-    ) -> Result<Option<Box<Connection<TlsAnalysis<K>>>>, AllocError> {
-        if !self.connections.has_idle(arrival.time()) {
+        time: u64,
+    ) -> Result<Option<Box<Connection<TlsAnalysis<K>>>>, AllocError>
+        ensures idle { IfOk result (λ o. EndsIdle time self.old.connections.live
+            self.new.connections.live (option_map (λ b. b.value) o)) }
+        ensures fewer { IfOk result (λ o. IfSome o (λ _.
+            length self.new.connections.live < length self.old.connections.live)) }
+    {
+        if !self.connections.has_idle(time) {
             return Ok(None);
         }
-        self.take_idle(arrival.time())
+        self.take_idle(time)
     }
 
     /// Removes and returns an idle connection, when there may be one.
     fn take_idle(
         &mut self,
         time: u64,
-    ) -> Result<Option<Box<Connection<TlsAnalysis<K>>>>, AllocError> {
+    ) -> Result<Option<Box<Connection<TlsAnalysis<K>>>>, AllocError>
+        ensures idle { IfOk result (λ o. EndsIdle time self.old.connections.live
+            self.new.connections.live (option_map (λ b. b.value) o)) }
+        ensures fewer { IfOk result (λ o. IfSome o (λ _.
+            length self.new.connections.live < length self.old.connections.live)) }
+    {
         with_last(&mut self.known, self.connections.take_idle(time))
     }
 
@@ -221,7 +237,7 @@ impl<K: PieceCollector> Log<K> {
     /// returns a connection that is over then.
     ///
     /// `AllocError` if there is no memory for it. [`Log::take_refused`] then ends its connection.
-    pub fn accept(
+    pub(crate) fn accept(
         &mut self,
         arrival: &Arrival<'_>,
     ) -> Result<Option<Box<Connection<TlsAnalysis<K>>>>, AllocError> {
@@ -540,13 +556,20 @@ impl<K: PieceCollector> Log<K> {
     }
 
     /// Returns the open connection of an arrival.
-    pub fn connection(&mut self, arrival: &Arrival<'_>) -> Option<&mut Connection<TlsAnalysis<K>>> {
+    pub(crate) fn connection(
+        &mut self,
+        arrival: &Arrival<'_>,
+    ) -> Option<&mut Connection<TlsAnalysis<K>>> {
         self.connections.get_mut(&arrival.between())
     }
 
     /// Adds the count of bytes that disagreed in a datagram's fragments to the sender of an
     /// arrival, if its connection is open. Returns whether it is.
-    pub fn note_disagreeing(&mut self, arrival: &Arrival<'_>, joined: &CompletedDatagram) -> bool {
+    pub(crate) fn note_disagreeing(
+        &mut self,
+        arrival: &Arrival<'_>,
+        joined: &CompletedDatagram,
+    ) -> bool {
         let count = joined.disagreeing();
         let source = arrival.source();
         let Some(connection) = self.connection(arrival) else {
@@ -559,12 +582,23 @@ impl<K: PieceCollector> Log<K> {
         true
     }
 
-    /// Removes and returns one of the remaining connections. At the end of the capture, call it
-    /// until it returns `None`.
-    pub fn take_remaining(
+    /// Returns whether pieces are passed on with each packet.
+    pub(crate) fn passes_pieces(&self) -> bool {
+        match self.kept {
+            Some(pieces) => pieces.are_passed(),
+            None => false,
+        }
+    }
+
+    /// Removes and returns one of the remaining connections, and analyzes its last bytes.
+    pub(crate) fn take_remaining(
         &mut self,
-    ) -> Result<Option<Box<Connection<TlsAnalysis<K>>>>, AllocError> {
-        self.arrivals.count_cut();
+    ) -> Result<Option<Box<Connection<TlsAnalysis<K>>>>, AllocError>
+        ensures last { IfOk result (λ o. EndsLast self.old.connections.live
+            self.new.connections.live (option_map (λ b. b.value) o)) }
+        ensures fewer { IfOk result (λ o. IfSome o (λ _.
+            length self.new.connections.live < length self.old.connections.live)) }
+    {
         with_last(&mut self.known, self.connections.take_remaining())
     }
 }

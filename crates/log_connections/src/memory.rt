@@ -31,9 +31,10 @@ impl<K: PieceCollector> Log<K> {
         }
     }
 
-    /// Removes and returns the longest-idle connection if all exceed the memory limit. Call it
-    /// after each arrival until it returns `None`.
-    pub fn take_crowded(&mut self) -> Result<Option<Box<Connection<TlsAnalysis<K>>>>, AllocError> {
+    /// Removes and returns the longest-idle connection if all exceed the memory limit.
+    pub(crate) fn take_crowded(
+        &mut self,
+    ) -> Result<Option<Box<Connection<TlsAnalysis<K>>>>, AllocError> {
         if !self.connections.is_crowded(self.memory) {
             return Ok(None);
         }
@@ -43,7 +44,7 @@ impl<K: PieceCollector> Log<K> {
 
     /// Removes and returns the connection of an arrival for which there was no memory. Frees the
     /// reserve, until [`Log::spare`] allocates it again.
-    pub fn take_refused(
+    pub(crate) fn take_refused(
         &mut self,
         arrival: &Arrival<'_>,
     ) -> Result<Option<Box<Connection<TlsAnalysis<K>>>>, AllocError> {
@@ -53,13 +54,15 @@ impl<K: PieceCollector> Log<K> {
     }
 
     /// Removes and returns the longest-idle connection, when the system refuses memory.
-    pub fn take_oldest(&mut self) -> Result<Option<Box<Connection<TlsAnalysis<K>>>>, AllocError> {
+    pub(crate) fn take_oldest(
+        &mut self,
+    ) -> Result<Option<Box<Connection<TlsAnalysis<K>>>>, AllocError> {
         let taken = self.connections.take_remaining();
         self.end_early(taken)
     }
 
     /// Allocates the reserve again, if there is enough memory.
-    pub fn spare(&mut self) {
+    pub(crate) fn spare(&mut self) {
         if let Ok(spare) = Vec::with_capacity(self.alloc, SPARE) {
             self.spare = spare;
         }

@@ -1,13 +1,14 @@
 //! Logs captures: packets in, lines out.
 ghost use Rattle.std.specs.Prelude.{◌≡◌, Bool};
 ghost use Rattle.log_io.specs.Output.{Tells};
+ghost use Rattle.tlslog.specs.Failures.{line_error_of};
 ghost use Rattle.log_io.specs.Run.{EndsBy, Exits, HasFailed, HasWritten, IsAsBefore, IsNotOfCapture, StaysSound};
 
 use crate::analysis::{Analysis, CollectedPieces, summary, take_certificates, take_messages};
-use arrivals::{Arrival, Checksums, CompletedDatagram, Counts, add_one};
+use arrivals::{Checksums, Counts};
 use connection_parts::Part;
-use connections::{Connection, Protocol};
-use log_connections::{Log, PieceKind, add_found};
+use connections::Connection;
+use log_connections::{Log, LogError, PieceKind, Sink};
 use log_io::{
     Exit, Failure, LineError, Opener, Output, ProgressReader, STANDARD_INPUT, STANDARD_INPUT_NAME,
     Source, report,
@@ -21,51 +22,29 @@ use std::hash::RandomState;
 use std::io::{Read, Write};
 use std::random::RandomSource;
 use std::rt::Runtime;
-use tunnels::MAX_TUNNELS;
 
 /// The name in messages of captures that are logged as one.
 const JOINED_NAME: &str = "all captures";
 
-/// Counts a connection that is over. Prints its line if it speaks TLS or DTLS and connections are
+/// Prints the line of a connection that is over, if it speaks TLS or DTLS and connections are
 /// logged.
 fn print_line<W: Write>(
     alloc: Global,
     style: &Style,
-    counts: &mut Counts,
     connection: &Connection<Analysis>,
     out: &mut Output<W>,
 ) -> Result<(), LineError>
     ensures { Tells out.old.has_failed out.new.has_failed result }
 {
     if !connection.attachment.is_tls_or_dtls() {
-        add_one(&mut counts.other_connections);
         return Ok(());
     }
-    let summary = summary(connection);
-    add_found(counts, summary.protocol == Protocol::Udp, summary.outcome);
-    if summary.gap().is_some() {
-        add_one(&mut counts.gaps);
-    }
     match &style.lines {
-        Lines::Connections(places) => print_row(alloc, style, places.as_slice(), &summary, out),
+        Lines::Connections(places) => {
+            print_row(alloc, style, places.as_slice(), &summary(connection), out)
+        }
         Lines::Messages(_) | Lines::Certificates(_) => Ok(()),
     }
-}
-
-/// Prints the connection's line and frees it. (`drop` by hand: freeing at each exit of the body
-/// would triple its code.)
-fn print_one<W: Write>(
-    alloc: Global,
-    style: &Style,
-    counts: &mut Counts,
-    connection: Box<Connection<Analysis>>,
-    out: &mut Output<W>,
-) -> Result<(), LineError>
-    ensures { Tells out.old.has_failed out.new.has_failed result }
-{
-    let told = print_line(alloc, style, counts, &connection, out);
-    drop(connection);
-    told
 }
 
 /// Prints and forgets the messages of a connection that were complete at this time.
@@ -128,11 +107,10 @@ fn print_pieces<W: Write>(
     }
 }
 
-/// Counts a connection that is over, and prints its last messages or certificates, or its line.
-fn print_both<W: Write>(
+/// Prints the last messages or certificates of a connection that is over, or its line.
+fn print_last<W: Write>(
     alloc: Global,
     style: &Style,
-    counts: &mut Counts,
     connection: &mut Connection<Analysis>,
     time: u64,
     out: &mut Output<W>,
@@ -140,273 +118,70 @@ fn print_both<W: Write>(
     ensures { Tells out.old.has_failed out.new.has_failed result }
 {
     print_pieces(alloc, style, connection, time, out)?;
-    print_line(alloc, style, counts, connection, out)
+    print_line(alloc, style, connection, out)
 }
 
-/// Prints what is left of a connection that is over, and frees it.
-fn print_last<W: Write>(
+/// Prints what a log finds.
+#[derive(Drop)]
+struct Printer<'a, W> {
     alloc: Global,
-    style: &Style,
-    counts: &mut Counts,
-    connection: Box<Connection<Analysis>>,
-    time: u64,
-    out: &mut Output<W>,
-) -> Result<(), LineError>
-    ensures { Tells out.old.has_failed out.new.has_failed result }
-{
-    let mut connection = connection;
-    let told = print_both(alloc, style, counts, &mut connection, time, out);
-    drop(connection);
-    told
+    style: &'a Style,
+    out: Output<W>,
 }
 
-/// Prints the messages or certificates that an arrival completed, if those are logged.
-fn print_spoken<W: Write>(
-    alloc: Global,
-    style: &Style,
-    log: &mut Log<CollectedPieces>,
-    arrival: &Arrival<'_>,
-    out: &mut Output<W>,
-) -> Result<(), LineError>
-    ensures { Tells out.old.has_failed out.new.has_failed result }
-{
-    if matches!(style.lines, Lines::Connections(_)) {
-        return Ok(());
+impl<'a, W: Write> Sink<CollectedPieces> for Printer<'a, W> {
+    type Error = LineError;
+
+    ghost use Rattle.std.specs.Prelude.{not};
+
+    // No write failed.
+    ghost is_sound = { λ p. not p.out.has_failed };
+
+    // (`drop` by hand: freeing at each exit of the body would triple its code)
+    fn connection(&mut self, over: Box<Connection<Analysis>>, time: u64) -> Result<(), LineError> {
+        let mut over = over;
+        let printed = print_last(self.alloc, self.style, &mut over, time, &mut self.out);
+        drop(over);
+        printed
     }
-    match log.connection(arrival) {
-        Some(connection) => print_pieces(alloc, style, connection, arrival.time(), out),
-        None => Ok(()),
+
+    fn pieces(&mut self, open: &mut Connection<Analysis>, time: u64) -> Result<(), LineError> {
+        print_pieces(self.alloc, self.style, open, time, &mut self.out)
     }
 }
 
-/// Logs one packet.
-fn log_packet<W: Write>(
-    alloc: Global,
-    style: &Style,
-    log: &mut Log<CollectedPieces>,
-    packet: Packet<'_>,
-    out: &mut Output<W>,
-) -> Result<(), LineError>
-    ensures { Tells out.old.has_failed out.new.has_failed result }
+/// Returns why a packet wasn't logged.
+fn line_error(e: LogError<LineError>) -> LineError
+    ensures { result ≡ line_error_of e }
 {
-    if let Some(arrival) = log.arrivals.plain_arrival(packet) {
-        return log_arrival(alloc, style, log, &arrival, out);
+    match e {
+        LogError::OutOfMemory => LineError::OutOfMemory,
+        LogError::Sink(e) => e,
     }
-    log_other_packet(alloc, style, log, packet, out)
-}
-
-/// Logs a packet that isn't plain TCP: tunnels, fragments, UDP. (Not inlined: its large locals are
-/// zeroed at entry.)
-#[inline(never)]
-fn log_other_packet<W: Write>(
-    alloc: Global,
-    style: &Style,
-    log: &mut Log<CollectedPieces>,
-    packet: Packet<'_>,
-    out: &mut Output<W>,
-) -> Result<(), LineError>
-    ensures { Tells out.old.has_failed out.new.has_failed result }
-{
-    match log.arrivals.arrival(packet)? {
-        Some(arrival) => log_arrival(alloc, style, log, &arrival, out),
-        None => log_joined_datagram(alloc, style, log, packet, out),
-    }
-}
-
-/// Logs a segment or datagram, after the connections that timed out before it.
-fn log_arrival<W: Write>(
-    alloc: Global,
-    style: &Style,
-    log: &mut Log<CollectedPieces>,
-    arrival: &Arrival<'_>,
-    out: &mut Output<W>,
-) -> Result<(), LineError>
-    ensures { Tells out.old.has_failed out.new.has_failed result }
-{
-    'over: for _ in 0..u64::MAX {
-        match log.take_over(arrival)? {
-            Some(connection) => print_one(alloc, style, &mut log.arrivals.counts, connection, out)?,
-            None => break,
-        }
-    }
-    analyze_arrival(alloc, style, log, arrival, out)?;
-    end_crowded(alloc, style, log, arrival.time(), out)
-}
-
-/// Passes an arrival to its connection. If memory is refused, connections are closed early.
-fn analyze_arrival<W: Write>(
-    alloc: Global,
-    style: &Style,
-    log: &mut Log<CollectedPieces>,
-    arrival: &Arrival<'_>,
-    out: &mut Output<W>,
-) -> Result<(), LineError>
-    ensures { Tells out.old.has_failed out.new.has_failed result }
-{
-    match log.accept(arrival) {
-        Ok(Some(connection)) => print_last(
-            alloc,
-            style,
-            &mut log.arrivals.counts,
-            connection,
-            arrival.time(),
-            out,
-        ),
-        Ok(None) => print_spoken(alloc, style, log, arrival, out),
-        Err(_) => end_refused(alloc, style, log, arrival, out),
-    }
-}
-
-/// Closes the longest-idle connections until the rest fit the memory limit.
-fn end_crowded<W: Write>(
-    alloc: Global,
-    style: &Style,
-    log: &mut Log<CollectedPieces>,
-    time: u64,
-    out: &mut Output<W>,
-) -> Result<(), LineError>
-    ensures { Tells out.old.has_failed out.new.has_failed result }
-{
-    'crowded: for _ in 0..u64::MAX {
-        match log.take_crowded()? {
-            Some(connection) => print_last(
-                alloc,
-                style,
-                &mut log.arrivals.counts,
-                connection,
-                time,
-                out,
-            )?,
-            None => break,
-        }
-    }
-    Ok(())
-}
-
-/// Closes the connection of an arrival that memory was refused for. Returns whether there was one.
-fn end_own<W: Write>(
-    alloc: Global,
-    style: &Style,
-    log: &mut Log<CollectedPieces>,
-    arrival: &Arrival<'_>,
-    out: &mut Output<W>,
-) -> Result<bool, LineError>
-    ensures { Tells out.old.has_failed out.new.has_failed result }
-{
-    match log.take_refused(arrival)? {
-        Some(connection) => {
-            print_last(
-                alloc,
-                style,
-                &mut log.arrivals.counts,
-                connection,
-                arrival.time(),
-                out,
-            )?;
-            Ok(true)
-        }
-        None => Ok(false),
-    }
-}
-
-/// Closes the longest-idle connection. Returns whether there was one.
-fn end_oldest<W: Write>(
-    alloc: Global,
-    style: &Style,
-    log: &mut Log<CollectedPieces>,
-    time: u64,
-    out: &mut Output<W>,
-) -> Result<bool, LineError>
-    ensures { Tells out.old.has_failed out.new.has_failed result }
-{
-    match log.take_oldest()? {
-        Some(connection) => {
-            print_last(
-                alloc,
-                style,
-                &mut log.arrivals.counts,
-                connection,
-                time,
-                out,
-            )?;
-            Ok(true)
-        }
-        None => Ok(false),
-    }
-}
-
-/// Closes the arrival's own connection and the longest-idle one. Without either, memory ran out.
-fn end_refused<W: Write>(
-    alloc: Global,
-    style: &Style,
-    log: &mut Log<CollectedPieces>,
-    arrival: &Arrival<'_>,
-    out: &mut Output<W>,
-) -> Result<(), LineError>
-    ensures { Tells out.old.has_failed out.new.has_failed result }
-{
-    let has_own = end_own(alloc, style, log, arrival, out)?;
-    let has_other = end_oldest(alloc, style, log, arrival.time(), out)?;
-    if !has_own && !has_other {
-        return Err(LineError::OutOfMemory);
-    }
-    log.spare();
-    Ok(())
-}
-
-/// Logs what a reassembled datagram holds. Returns whether it holds a segment or datagram.
-fn log_inside<W: Write>(
-    alloc: Global,
-    style: &Style,
-    log: &mut Log<CollectedPieces>,
-    packet: Packet<'_>,
-    joined: &CompletedDatagram,
-    out: &mut Output<W>,
-) -> Result<bool, LineError>
-    ensures { Tells out.old.has_failed out.new.has_failed result }
-{
-    let Some(arrival) = log.arrivals.arrival_in(packet, joined)? else {
-        return Ok(false);
-    };
-    let is_noted = log.note_disagreeing(&arrival, joined);
-    log_arrival(alloc, style, log, &arrival, out)?;
-    if !is_noted {
-        log.note_disagreeing(&arrival, joined);
-    }
-    Ok(true)
-}
-
-/// Logs the datagram that a fragment completed, if it did. It may hold another fragment, in a
-/// tunnel.
-fn log_joined_datagram<W: Write>(
-    alloc: Global,
-    style: &Style,
-    log: &mut Log<CollectedPieces>,
-    packet: Packet<'_>,
-    out: &mut Output<W>,
-) -> Result<(), LineError>
-    ensures { Tells out.old.has_failed out.new.has_failed result }
-{
-    let mut whole = log.arrivals.join(packet)?;
-    'inside: for _ in 0..MAX_TUNNELS + 1 {
-        let Some(joined) = whole else {
-            break;
-        };
-        if log_inside(alloc, style, log, packet, &joined, out)? {
-            break;
-        }
-        whole = log.arrivals.join_inner(&joined)?;
-    }
-    Ok(())
 }
 
 /// Logs each packet of a capture.
 #[derive(Drop)]
 struct Logger<'a, W> {
-    alloc: Global,
-    style: &'a Style,
     log: Log<CollectedPieces>,
-    out: Output<W>,
+    printer: Printer<'a, W>,
+}
+
+impl<'a, W: Write> Logger<'a, W> {
+    /// Returns a logger that writes to `out`.
+    fn new(
+        alloc: Global,
+        style: &'a Style,
+        log: Log<CollectedPieces>,
+        out: Output<W>,
+    ) -> Logger<'a, W>
+        ensures { result.printer.out ≡ out }
+    {
+        Logger {
+            log,
+            printer: Printer { alloc, style, out },
+        }
+    }
 }
 
 impl<'a, W: Write> PacketVisitor for Logger<'a, W> {
@@ -415,40 +190,25 @@ impl<'a, W: Write> PacketVisitor for Logger<'a, W> {
     ghost use Rattle.std.specs.Prelude.{not};
 
     // No write failed.
-    ghost is_sound = { λ l. not l.out.has_failed };
+    ghost is_sound = { λ l. not l.printer.out.has_failed };
 
     fn visit(&mut self, packet: Packet<'_>) -> Result<(), LineError> {
-        log_packet(self.alloc, self.style, &mut self.log, packet, &mut self.out)
+        match self.log.packet(packet, &mut self.printer) {
+            Ok(()) => Ok(()),
+            Err(e) => Err(line_error(e)),
+        }
     }
 }
 
 /// Logs the packets of a source.
 fn log_packets<I: Read, W: Write>(logger: &mut Logger<'_, W>, reader: &mut I) -> Result<(), Failure>
     ensures ends { EndsBy (I.remaining reader.old) (I.remaining reader.new) result }
-    ensures sound { StaysSound logger.old.out.has_failed logger.new.out.has_failed result }
+    ensures sound { StaysSound logger.old.printer.out.has_failed logger.new.printer.out.has_failed result }
 {
-    match visit_packets(logger.alloc, reader, logger) {
+    match visit_packets(logger.printer.alloc, reader, logger) {
         Ok(()) => Ok(()),
         Err(e) => Err(Failure::from(e)),
     }
-}
-
-/// Prints the connections that are still open.
-fn print_left<W: Write>(
-    alloc: Global,
-    style: &Style,
-    log: &mut Log<CollectedPieces>,
-    out: &mut Output<W>,
-) -> Result<(), LineError>
-    ensures { Tells out.old.has_failed out.new.has_failed result }
-{
-    'left: for _ in 0..u64::MAX {
-        match log.take_remaining()? {
-            Some(connection) => print_one(alloc, style, &mut log.arrivals.counts, connection, out)?,
-            None => break,
-        }
-    }
-    Ok(())
 }
 
 /// Logs the packets of a source, and reports a failure.
@@ -459,7 +219,7 @@ fn log_source<R: Runtime + AllocGlobal, I: Read + Source, W: Write>(
     reader: &mut I,
 ) -> Exit
     ensures exits { Exits (I.remaining reader.old) (I.remaining reader.new) result }
-    ensures written { HasWritten logger.old.out.has_failed result logger.new.out.has_failed }
+    ensures written { HasWritten logger.old.printer.out.has_failed result logger.new.printer.out.has_failed }
 {
     match log_packets(logger, reader) {
         Ok(()) => Exit::Clean,
@@ -477,16 +237,14 @@ fn log_left<R: Runtime + AllocGlobal, W: Write>(
     logger: &mut Logger<'_, W>,
 ) -> Exit
     ensures cause { IsNotOfCapture result }
-    ensures written { HasWritten logger.old.out.has_failed result logger.new.out.has_failed }
+    ensures written { HasWritten logger.old.printer.out.has_failed result logger.new.printer.out.has_failed }
 {
-    match print_left(logger.alloc, logger.style, &mut logger.log, &mut logger.out) {
+    match logger.log.finish(&mut logger.printer) {
         Ok(()) => Exit::Clean,
-        Err(e) => report(
-            rt,
-            name,
-            Failure::from(e),
-            logger.log.arrivals.counts.packets,
-        ),
+        Err(e) => {
+            let failure = Failure::from(line_error(e));
+            report(rt, name, failure, logger.log.arrivals.counts.packets)
+        }
     }
 }
 
@@ -498,7 +256,7 @@ fn log_whole<R: Runtime + AllocGlobal, I: Read + Source, W: Write>(
     reader: &mut I,
 ) -> Exit
     ensures exits { Exits (I.remaining reader.old) (I.remaining reader.new) result }
-    ensures written { HasWritten logger.old.out.has_failed result logger.new.out.has_failed }
+    ensures written { HasWritten logger.old.printer.out.has_failed result logger.new.printer.out.has_failed }
 {
     let exit = log_source(rt, name, logger, reader);
     if matches!(exit, Exit::Failed | Exit::Closed) {
@@ -607,18 +365,12 @@ pub fn log_input<R: Runtime + AllocGlobal + RandomSource, I: Read + Source, W: W
         Ok(log) => log,
         Err(exit) => return (exit, out),
     };
-    let alloc = rt.alloc();
-    let mut logger = Logger {
-        alloc,
-        style: &asked.style,
-        log,
-        out,
-    };
+    let mut logger = Logger::new(rt.alloc(), &asked.style, log, out);
     let exit = log_whole(rt, name, &mut logger, reader);
-    let Logger { log, out, .. } = logger;
+    let Logger { log, printer } = logger;
     let exit = tell_counts(rt, name, &log.arrivals.counts, exit);
     drop(log);
-    (exit, out)
+    (exit, printer.out)
 }
 
 /// Opens and logs the next of the captures that are logged as one.
@@ -629,7 +381,7 @@ fn log_next<R: Runtime + AllocGlobal, O: Opener, W: Write>(
     name: &str,
     logger: &mut Logger<'_, W>,
 ) -> Exit
-    ensures { HasWritten logger.old.out.has_failed result logger.new.out.has_failed }
+    ensures { HasWritten logger.old.printer.out.has_failed result logger.new.printer.out.has_failed }
 {
     match opener.open(number) {
         Ok(mut reader) => log_source(rt, name, logger, &mut reader),
@@ -643,10 +395,10 @@ fn log_last<R: Runtime + AllocGlobal, W: Write>(
     exit: Exit,
     logger: &mut Logger<'_, W>,
 ) -> Exit
-    ensures { (was : Bool) → HasWritten was exit logger.old.out.has_failed
-        → HasWritten was result logger.new.out.has_failed }
+    ensures { (was : Bool) → HasWritten was exit logger.old.printer.out.has_failed
+        → HasWritten was result logger.new.printer.out.has_failed }
 {
-    if matches!(exit, Exit::Closed) || logger.out.has_failed() {
+    if matches!(exit, Exit::Closed) || logger.printer.out.has_failed() {
         return exit;
     }
     exit.and(log_left(rt, JOINED_NAME, logger))
@@ -666,12 +418,7 @@ pub fn log_joined<R: Runtime + AllocGlobal + RandomSource, O: Opener, W: Write>(
         Ok(log) => log,
         Err(exit) => return (exit, out),
     };
-    let mut logger = Logger {
-        alloc: rt.alloc(),
-        style: &asked.style,
-        log,
-        out,
-    };
+    let mut logger = Logger::new(rt.alloc(), &asked.style, log, out);
     let mut exit = Exit::Clean;
     'captures: for number in 0..usize::MAX {
         let Some(name) = opener.name(number) else {
@@ -683,10 +430,10 @@ pub fn log_joined<R: Runtime + AllocGlobal + RandomSource, O: Opener, W: Write>(
         }
     }
     let exit = log_last(rt, exit, &mut logger);
-    let Logger { log, out, .. } = logger;
+    let Logger { log, printer } = logger;
     let exit = tell_counts(rt, JOINED_NAME, &log.arrivals.counts, exit);
     drop(log);
-    (exit, out)
+    (exit, printer.out)
 }
 
 /// Logs the capture in a file. Its progress is shown on a terminal.

@@ -1,0 +1,76 @@
+-- What a sink received of the connections that ended.
+use Rattle.std.proofs.Common.{◌≡◌, List, [], ◌∷◌, ◌++◌, Option, Some, None, sym, ◌∙◌, ap, append_assoc}
+use Rattle.std.proofs.lemmas.List.{append-nil}
+use Rattle.std.specs.Prelude.{IfSome, IfNone, ℕ}
+use Rattle.std.specs.Option.{option_map}
+use Rattle.connections.specs.Table.{IsOver, NoneIsOver, Table, WasLast}
+use Rattle.connections.specs.declared.five_tuple.FiveTuple.{FiveTuple}
+use Rattle.connections.specs.declared.connection.Connection.{Connection}
+use Rattle.log_connections.specs.Sink.{Adds, EndInTurn, EndsAs, EndsIdle, EndsLast, IsLastEnded, PassesEnded, none, one}
+use Rattle.log_connections.specs.declared.analysis.TlsAnalysis.{TlsAnalysis}
+
+module _ {X : Type 0} where
+  adds_none : (r : Option (List X)) → Adds r r []
+  adds_none None = tt
+  adds_none (Some xs) = sym (append-nil xs)
+
+  adds_then : (a b c : Option (List X)) (xs ys : List X) → Adds a b xs → Adds b c ys
+      → Adds a c (xs ++ ys)
+  adds_then None b c xs ys h k = tt
+  adds_then (Some before) None c xs ys h k = absurd h
+  adds_then (Some before) (Some mid) None xs ys h k = absurd k
+  adds_then (Some before) (Some mid) (Some after) xs ys h k =
+      k ∙ ap (λ t. t ++ ys) h ∙ append_assoc before xs ys
+
+module _ {K : Type 0}
+    (Is : List (FiveTuple × Connection (TlsAnalysis K)) → Connection (TlsAnalysis K) → Type 0) where
+  pub none_ended : (xs : List (FiveTuple × Connection (TlsAnalysis K)))
+      (r : Option (List (Connection (TlsAnalysis K)))) → PassesEnded Is xs xs r r
+  none_ended xs r = record { outs = []; ended = none; received = adds_none r }
+
+  pub one_more_ended : (xs ys zs : List (FiveTuple × Connection (TlsAnalysis K)))
+      (c c' : Connection (TlsAnalysis K)) (r s t : Option (List (Connection (TlsAnalysis K))))
+      → PassesEnded Is xs ys r s → Is ys c → IsLastEnded ys zs c c' → Adds s t (c' ∷ [])
+      → PassesEnded Is xs zs r t
+  one_more_ended xs ys zs c c' r s t before is last received = record {
+    outs = before.outs ++ c' ∷ [];
+    ended = one ys zs before.outs c c' before.ended is last;
+    received = adds_then r s t before.outs (c' ∷ []) before.received received;
+  }
+
+-- What a call took out, as the analysis of its last bytes left it.
+module _ {K B : Type 0} (value : B → Connection (TlsAnalysis K)) (t u : Table (TlsAnalysis K)) where
+  pub ends_idle : (time : ℕ) (taken ended : Option B)
+      → IfSome taken (λ b. WasLast t.live u.live (value b) × IsOver time t.live (value b).last_time)
+      → IfNone taken ((u.live ≡ t.live) × NoneIsOver time t.live)
+      → EndsAs (option_map value taken) (option_map value ended)
+      → EndsIdle time t.live u.live (option_map value ended)
+  ends_idle time None None some unless ends = unless
+  ends_idle time None (Some d) some unless ends = absurd ends
+  ends_idle time (Some b) None some unless ends = absurd ends
+  ends_idle time (Some b) (Some d) some unless ends = (
+    value b,
+    record {
+      five_tuple = some.0.five_tuple;
+      stood = some.0.stood;
+      ended = ends;
+    },
+    some.1,
+  )
+
+  pub ends_last : (taken ended : Option B)
+      → IfSome taken (λ b. WasLast t.live u.live (value b))
+      → IfNone taken (t.live ≡ []) → IfNone taken (u ≡ t)
+      → EndsAs (option_map value taken) (option_map value ended)
+      → EndsLast t.live u.live (option_map value ended)
+  ends_last None None some empty same ends = (empty, ap (λ x. x.live) same ∙ empty)
+  ends_last None (Some d) some empty same ends = absurd ends
+  ends_last (Some b) None some empty same ends = absurd ends
+  ends_last (Some b) (Some d) some empty same ends = (
+    value b,
+    record {
+      five_tuple = some.five_tuple;
+      stood = some.stood;
+      ended = ends;
+    },
+  )

@@ -1,0 +1,23 @@
+use Rattle.log_connections.proofs.SinkLemmas.{none_ended, one_more_ended}
+use Rattle.log_connections.specs.Sink.{IsIdle}
+use Rattle.log_connections.proofs.log.Log.end_idle.Goals as goal
+
+pub loop-over-init : goal.loop-over-init
+loop-over-init g c = record {
+  ended = none_ended (IsIdle c.args.time) c.args.self.now.connections.live (g.S.Sink.received c.args.sink.now);
+  sound = λ h. h;
+}
+
+pub loop-over-preserved : goal.loop-over-preserved
+loop-over-preserved g c =
+    let last = rw c.in-Some.is at c.in_ok-over.ensures.idle in
+    rw c.in_ok-end_connection.ensures.same
+    (record {
+      ended =
+          one_more_ended (IsIdle c.args.time) c.args.self.now.connections.live c.loop-over.self.connections.live
+          c.take_over.new.self.connections.live last.0 c.in-Some.over.value
+          (g.S.Sink.received c.args.sink.now) (g.S.Sink.received c.loop-over.sink)
+          (g.S.Sink.received c.end_connection.new.sink) c.loop-over.invariant.ended last.2 last.1
+          c.in_ok-end_connection.ensures.received;
+      sound = λ h. c.in_ok-end_connection.ensures.sound (c.loop-over.invariant.sound h);
+    })

@@ -1,0 +1,23 @@
+use Rattle.log_connections.proofs.SinkLemmas.{none_ended, one_more_ended}
+use Rattle.log_connections.specs.Sink.{IsOpen}
+use Rattle.log_connections.proofs.log.Log.finish.Goals as goal
+
+pub loop-over-init : goal.loop-over-init
+loop-over-init g c = record {
+  ended = none_ended IsOpen c.args.self.now.connections.live (g.S.Sink.received c.args.sink.now);
+  sound = λ h. h;
+}
+
+pub loop-over-preserved : goal.loop-over-preserved
+loop-over-preserved g c =
+    let last = rw c.in-Some.is at c.in_ok-over.ensures.last in
+    rw c.in_ok-end_connection.ensures.same
+    (record {
+      ended =
+          one_more_ended IsOpen c.args.self.now.connections.live c.loop-over.self.connections.live
+          c.take_remaining.new.self.connections.live last.0 c.in-Some.over.value
+          (g.S.Sink.received c.args.sink.now) (g.S.Sink.received c.loop-over.sink)
+          (g.S.Sink.received c.end_connection.new.sink) c.loop-over.invariant.ended tt last.1
+          c.in_ok-end_connection.ensures.received;
+      sound = λ h. c.in_ok-end_connection.ensures.sound (c.loop-over.invariant.sound h);
+    })

@@ -1,0 +1,14 @@
+use Rattle.std.specs.Prelude.{◌≡◌, true, length}
+use Rattle.log_connections.specs.Sink.{IsOpen, PassesEnded}
+use Rattle.log_connections.proofs.log.Log.finish.Given as goal
+
+-- The sink received those that ended so far, and is sound.
+abbrev pub invariant-loop-over : goal.invariant-loop-over
+invariant-loop-over g l = record {
+  ended : PassesEnded IsOpen l.initial.self.connections.live l.self.connections.live
+      (g.S.Sink.received l.initial.sink) (g.S.Sink.received l.sink);
+  sound : g.S.Sink.is_sound l.initial.sink ≡ true → g.S.Sink.is_sound l.sink ≡ true;
+}
+
+abbrev pub decreases-loop-over : goal.decreases-loop-over
+decreases-loop-over g l = length l.self.connections.live

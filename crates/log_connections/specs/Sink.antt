@@ -1,0 +1,105 @@
+-- The connections that a log passes to its sink.
+use Rattle.std.specs.Prelude.{◌≡◌, ⊤, ℕ, Bool, true, Result, Ok, Err, List, [], ◌∷◌, ◌++◌, Option, Some, None}
+use Rattle.connections.specs.Table.{IsOver, NoneIsOver}
+use Rattle.connections.specs.declared.five_tuple.FiveTuple.{FiveTuple}
+use Rattle.connections.specs.declared.connection.Connection.{Connection}
+use Rattle.connections.specs.declared.connection.Side.TheVariants.{Originator, Responder}
+use Rattle.log_connections.specs.Analysis.{HearsStream, direction_of}
+use Rattle.log_connections.specs.declared.analysis.TlsAnalysis.{TlsAnalysis}
+use Rattle.log_connections.specs.declared.analysis.TransportAnalyzer.{TransportAnalyzer}
+use Rattle.log_connections.specs.declared.sink.LogError.{LogError}
+use Rattle.log_connections.specs.declared.sink.LogError.TheVariants.{OutOfMemory, Sink}
+
+-- A sink stays sound unless it fails.
+abbrev pub StaysSound : {A E : Type 0} → Bool → Bool → Result A (LogError E) → Type 0
+StaysSound old new (Ok a) = old ≡ true → new ≡ true
+StaysSound old new (Err OutOfMemory) = old ≡ true → new ≡ true
+StaysSound old new (Err (Sink e)) = ⊤
+
+module _ {X : Type 0} where
+  -- What is known of a sink grows by these.
+  abbrev pub Adds : Option (List X) → Option (List X) → List X → Type 0
+  Adds None new xs = ⊤
+  Adds (Some before) None xs = ⊥
+  Adds (Some before) (Some after) xs = after ≡ before ++ xs
+
+  -- A sink received it, or failed and has what it had.
+  abbrev pub Receives : {E : Type 0} → Option (List X) → Option (List X) → Result Unit E → X → Type 0
+  Receives old new (Ok u) x = Adds old new (x ∷ [])
+  Receives old new (Err e) x = Adds old new []
+
+module _ {K : Type 0} where
+  -- The last bytes of both streams, which were held back, were analyzed. All else stays.
+  pub record IsEnded (c c' : Connection (TlsAnalysis K)) : Type 0 where
+    pub turned : Bool
+    pub between : TransportAnalyzer
+    pub originator :
+        HearsStream Originator true (direction_of turned Originator) c.from_originator
+        c'.from_originator c.attachment.said between
+    pub responder :
+        HearsStream Responder true (direction_of c'.attachment.is_turned Responder) c.from_responder
+        c'.from_responder between c'.attachment.said
+    pub same :
+        c' ≡ record c {
+          from_originator = c'.from_originator;
+          from_responder = c'.from_responder;
+          attachment = c'.attachment;
+        }
+
+  abbrev pub EndsAs : Option (Connection (TlsAnalysis K)) → Option (Connection (TlsAnalysis K))
+      → Type 0
+  EndsAs None None = ⊤
+  EndsAs (Some c) (Some c') = IsEnded c c'
+  EndsAs c c' = ⊥
+
+  -- The longest-idle of these connections ended.
+  pub record IsLastEnded (xs ys : List (FiveTuple × Connection (TlsAnalysis K)))
+      (c c' : Connection (TlsAnalysis K)) : Type 0 where
+    pub five_tuple : FiveTuple
+    pub stood : xs ≡ ys ++ (five_tuple, c) ∷ []
+    pub ended : IsEnded c c'
+
+  -- The longest-idle one ended, or there is none.
+  abbrev pub EndsLast : List (FiveTuple × Connection (TlsAnalysis K))
+      → List (FiveTuple × Connection (TlsAnalysis K)) → Option (Connection (TlsAnalysis K)) → Type 0
+  EndsLast xs ys None = (xs ≡ []) × (ys ≡ [])
+  EndsLast xs ys (Some c') = (c : Connection (TlsAnalysis K)) × IsLastEnded xs ys c c'
+
+  -- It ended if it was idle for longer than the limit, or there are too many. Else none did.
+  abbrev pub EndsIdle : ℕ → List (FiveTuple × Connection (TlsAnalysis K))
+      → List (FiveTuple × Connection (TlsAnalysis K)) → Option (Connection (TlsAnalysis K)) → Type 0
+  EndsIdle time xs ys None = (ys ≡ xs) × NoneIsOver time xs
+  EndsIdle time xs ys (Some c') = (c : Connection (TlsAnalysis K)) × IsLastEnded xs ys c c'
+      × IsOver time xs c.last_time
+
+  -- Connections ended one after the other, each the longest-idle one and for this reason.
+  pub data EndInTurn
+      (Is : List (FiveTuple × Connection (TlsAnalysis K)) → Connection (TlsAnalysis K) → Type 0)
+      (xs : List (FiveTuple × Connection (TlsAnalysis K)))
+      : List (FiveTuple × Connection (TlsAnalysis K)) → List (Connection (TlsAnalysis K))
+      → Type 0 where
+    none : EndInTurn Is xs xs []
+    one :
+        (ys zs : List (FiveTuple × Connection (TlsAnalysis K)))
+        (outs : List (Connection (TlsAnalysis K))) (c c' : Connection (TlsAnalysis K))
+        → EndInTurn Is xs ys outs → Is ys c → IsLastEnded ys zs c c'
+        → EndInTurn Is xs zs (outs ++ c' ∷ [])
+
+  -- The sink received those that ended.
+  pub record PassesEnded
+      (Is : List (FiveTuple × Connection (TlsAnalysis K)) → Connection (TlsAnalysis K) → Type 0)
+      (xs ys : List (FiveTuple × Connection (TlsAnalysis K)))
+      (old new : Option (List (Connection (TlsAnalysis K)))) : Type 0 where
+    pub outs : List (Connection (TlsAnalysis K))
+    pub ended : EndInTurn Is xs ys outs
+    pub received : Adds old new outs
+
+  -- All connections end with the capture.
+  abbrev pub IsOpen : List (FiveTuple × Connection (TlsAnalysis K)) → Connection (TlsAnalysis K)
+      → Type 0
+  IsOpen xs c = ⊤
+
+  -- A connection was idle for longer than the limit, or there were too many.
+  abbrev pub IsIdle : ℕ → List (FiveTuple × Connection (TlsAnalysis K))
+      → Connection (TlsAnalysis K) → Type 0
+  IsIdle time xs c = IsOver time xs c.last_time

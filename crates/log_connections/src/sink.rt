@@ -1,0 +1,90 @@
+//! Who receives what a log finds.
+ghost use Rattle.std.specs.Prelude.{◌≡◌, Bool, true, List, [], Option, None, OnOk};
+ghost use Rattle.connections.specs.declared.connection.Connection.{Connection};
+ghost use Rattle.log_connections.specs.Sink.{Adds, Receives, StaysSound};
+ghost use Rattle.log_connections.specs.declared.analysis.TlsAnalysis.{TlsAnalysis};
+
+use crate::analysis::TlsAnalysis;
+use connections::Connection;
+use std::alloc::AllocError;
+
+/// Receives the connections of a log.
+pub trait Sink<K> {
+    /// Why it takes no more.
+    type Error;
+
+    // Whether it is sound, if a contract needs that. It stays so unless it fails.
+    ghost is_sound: { Self → Bool } = { λ _. true };
+
+    // The connections that are over and that it received, first to last, if a contract needs them.
+    ghost received: { Self → Option (List (Connection (TlsAnalysis K))) } = { λ _. None };
+
+    /// Receives a connection that is over, with the pieces that weren't taken from its collector.
+    /// `time` is that of the packet that ended it, or of its own last packet.
+    fn connection(
+        &mut self,
+        over: Box<Connection<TlsAnalysis<K>>>,
+        time: u64,
+    ) -> Result<(), Self::Error>
+        ensures received { Receives (received self.old) (received self.new) result over.value }
+        ensures sound { is_sound self.old ≡ true → OnOk result (is_sound self.new ≡ true) };
+
+    /// Receives an open connection after its packet of this time, if messages or certificates are
+    /// kept. It takes the pieces from the collector.
+    fn pieces(
+        &mut self,
+        open: &mut Connection<TlsAnalysis<K>>,
+        time: u64,
+    ) -> Result<(), Self::Error>
+        ensures received { Adds (received self.old) (received self.new) [] }
+        ensures sound { is_sound self.old ≡ true → OnOk result (is_sound self.new ≡ true) };
+}
+
+/// Why a packet wasn't logged.
+#[derive(Drop)]
+pub enum LogError<E> {
+    /// Memory ran out, and there is no connection to end.
+    OutOfMemory,
+    /// The sink failed.
+    Sink(E),
+}
+
+impl<E> From<AllocError> for LogError<E> {
+    ghost use Rattle.log_connections.specs.declared.sink.LogError.TheVariants.{OutOfMemory};
+
+    ghost from_gives = { λ _ e. e ≡ OutOfMemory };
+
+    fn from(_e: AllocError) -> LogError<E> {
+        LogError::OutOfMemory
+    }
+}
+
+/// Passes a connection that is over to the sink.
+pub(crate) fn hand_over<K, S: Sink<K>>(
+    over: Box<Connection<TlsAnalysis<K>>>,
+    time: u64,
+    sink: &mut S,
+) -> Result<(), LogError<S::Error>>
+    ensures received { Receives (S.received sink.old) (S.received sink.new) result over.value }
+    ensures sound { StaysSound (S.is_sound sink.old) (S.is_sound sink.new) result }
+{
+    match sink.connection(over, time) {
+        Ok(()) => Ok(()),
+        Err(e) => Err(LogError::Sink(e)),
+    }
+}
+
+/// Passes the new pieces of an open connection to the sink.
+pub(crate) fn hand_pieces<K, S: Sink<K>>(
+    open: &mut Connection<TlsAnalysis<K>>,
+    time: u64,
+    sink: &mut S,
+) -> Result<(), LogError<S::Error>>
+    ensures received { Adds (S.received sink.old) (S.received sink.new) [] }
+    ensures sound { StaysSound (S.is_sound sink.old) (S.is_sound sink.new) result }
+{
+    match sink.pieces(open, time) {
+        Ok(()) => Ok(()),
+        Err(e) => Err(LogError::Sink(e)),
+    }
+}
