@@ -1,5 +1,5 @@
 -- What a packet does to its connection.
-use Rattle.std.proofs.Common.{◌≡◌, refl, sym, ap, ◌∙◌, subst, Option, Some, None, List, ◌∷◌, Bool, true, false, Result, Ok, Err}
+use Rattle.std.proofs.Common.{◌≡◌, refl, sym, ap, ◌∙◌, subst, Option, Some, None, List, ◌∷◌, Bool, true, false}
 use Rattle.std.specs.Prelude.{is_some, not}
 use Rattle.std.specs.Option.{unwrap_or}
 use Rattle.std.specs.Map.{set_value}

@@ -1,12 +1,13 @@
 -- What a sink received of the connections that ended.
-use Rattle.std.proofs.Common.{◌≡◌, List, [], ◌∷◌, ◌++◌, Option, Some, None, sym, ◌∙◌, ap, append_assoc}
+use Rattle.std.proofs.Common.{◌≡◌, List, [], ◌∷◌, ◌++◌, Option, Some, None, true, sym, subst, ◌∙◌, ap, append_assoc}
 use Rattle.std.proofs.lemmas.List.{append-nil}
-use Rattle.std.specs.Prelude.{IfSome, IfNone, ℕ}
+use Rattle.std.specs.Prelude.{IfSome, IfNone, ℕ, ◌<◌, ◌≤◌}
 use Rattle.std.specs.Option.{option_map}
+use Rattle.connections.specs.Memory.{IsAccounted, IsTakenOut, open_part, total}
 use Rattle.connections.specs.Table.{IsOver, NoneIsOver, Table, WasLast}
 use Rattle.connections.specs.declared.five_tuple.FiveTuple.{FiveTuple}
 use Rattle.connections.specs.declared.connection.Connection.{Connection}
-use Rattle.log_connections.specs.Sink.{Adds, EndInTurn, EndsAs, EndsIdle, EndsLast, IsLastEnded, PassesEnded, none, one}
+use Rattle.log_connections.specs.Sink.{Adds, EndsAs, EndsCrowded, EndsIdle, EndsLast, IsEnded, IsLastEnded, PassesEnded, none, one}
 use Rattle.log_connections.specs.declared.analysis.TlsAnalysis.{TlsAnalysis}
 
 module _ {X : Type 0} where
@@ -37,6 +38,25 @@ module _ {K : Type 0}
     ended = one ys zs before.outs c c' before.ended is last;
     received = adds_then r s t before.outs (c' ∷ []) before.received received;
   }
+
+-- A connection that ended, and is marked.
+module _ {K : Type 0} where
+  pub marked : (c d e : Connection (TlsAnalysis K)) → IsEnded c d
+      → e ≡ record d { attachment = record d.attachment { is_ended_early = true } } → IsEnded c e
+  marked c d e ends is = subst (IsEnded c) (sym is) (record {
+    turned = ends.turned;
+    between = ends.between;
+    originator = ends.originator;
+    responder = ends.responder;
+    same = ap {A = Connection (TlsAnalysis K)} (λ x. record x { attachment = record d.attachment { is_ended_early = true } }) ends.same;
+  })
+
+  pub marked_as : {B : Type 0} (value : B → Connection (TlsAnalysis K)) (taken : Option B)
+      (d e : Connection (TlsAnalysis K)) → EndsAs (option_map value taken) (Some d)
+      → e ≡ record d { attachment = record d.attachment { is_ended_early = true } }
+      → EndsAs (option_map value taken) (Some e)
+  marked_as value None d e ends is = ends
+  marked_as value (Some b) d e ends is = marked (value b) d e ends is
 
 -- What a call took out, as the analysis of its last bytes left it.
 module _ {K B : Type 0} (value : B → Connection (TlsAnalysis K)) (t u : Table (TlsAnalysis K)) where
@@ -73,4 +93,23 @@ module _ {K B : Type 0} (value : B → Connection (TlsAnalysis K)) (t u : Table 
       stood = some.stood;
       ended = ends;
     },
+  )
+
+  pub ends_crowded : (limit : ℕ) (taken ended : Option B)
+      → IfSome taken (λ b. IsTakenOut t u (value b)) → IfSome taken (λ b. open_part limit < t.held)
+      → IfNone taken ((u.live ≡ t.live) × (u.held ≡ t.held))
+      → IfNone taken (IsAccounted t → total u.live ≤ open_part limit)
+      → EndsAs (option_map value taken) (option_map value ended)
+      → EndsCrowded limit t u (option_map value ended)
+  ends_crowded limit None None some crowded same within ends = (same.0, within)
+  ends_crowded limit None (Some d) some crowded same within ends = absurd ends
+  ends_crowded limit (Some b) None some crowded same within ends = absurd ends
+  ends_crowded limit (Some b) (Some d) some crowded same within ends = (
+    value b,
+    record {
+      five_tuple = some.last.five_tuple;
+      stood = some.last.stood;
+      ended = ends;
+    },
+    crowded,
   )

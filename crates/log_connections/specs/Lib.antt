@@ -2,3 +2,4 @@ pub mod Fronts
 pub mod Analysis
 pub mod Log
 pub mod Sink
+pub mod Accessors

@@ -1,6 +1,7 @@
 -- The connections that a log passes to its sink.
-use Rattle.std.specs.Prelude.{◌≡◌, ⊤, ℕ, Bool, true, Result, Ok, Err, List, [], ◌∷◌, ◌++◌, Option, Some, None}
-use Rattle.connections.specs.Table.{IsOver, NoneIsOver}
+use Rattle.std.specs.Prelude.{◌≡◌, ⊤, ℕ, ◌<◌, ◌≤◌, IfSome, Bool, true, Result, Ok, Err, List, [], ◌∷◌, ◌++◌, Option, Some, None}
+use Rattle.connections.specs.Memory.{IsAccounted, open_part, total}
+use Rattle.connections.specs.Table.{IsOver, NoneIsOver, Table}
 use Rattle.connections.specs.declared.five_tuple.FiveTuple.{FiveTuple}
 use Rattle.connections.specs.declared.connection.Connection.{Connection}
 use Rattle.connections.specs.declared.connection.Side.TheVariants.{Originator, Responder}
@@ -71,6 +72,19 @@ module _ {K : Type 0} where
   EndsIdle time xs ys None = (ys ≡ xs) × NoneIsOver time xs
   EndsIdle time xs ys (Some c') = (c : Connection (TlsAnalysis K)) × IsLastEnded xs ys c c'
       × IsOver time xs c.last_time
+
+  -- It ended if the open connections exceed their part of the memory limit. Else none did, and they
+  -- are within it.
+  abbrev pub EndsCrowded : ℕ → Table (TlsAnalysis K) → Table (TlsAnalysis K)
+      → Option (Connection (TlsAnalysis K)) → Type 0
+  EndsCrowded limit t u None = (u.live ≡ t.live)
+      × (IsAccounted t → total u.live ≤ open_part limit)
+  EndsCrowded limit t u (Some c') = (c : Connection (TlsAnalysis K)) × IsLastEnded t.live u.live c c'
+      × (open_part limit < t.held)
+
+  -- A connection that memory ran short for ended early.
+  abbrev pub AreEarly : Option (Connection (TlsAnalysis K)) → Type 0
+  AreEarly o = IfSome o (λ c. c.attachment.is_ended_early ≡ true)
 
   -- Connections ended one after the other, each the longest-idle one and for this reason.
   pub data EndInTurn

@@ -2,6 +2,8 @@
 ghost use Rattle.std.specs.Prelude.{◌≡◌, ◌||◌, OnOk, drop};
 ghost use Rattle.tls_detection.specs.Front.{held_datagram as held_datagram_of};
 ghost use Rattle.connections.specs.Stream.{is_cut_short};
+ghost use Rattle.tls_summary.specs.HandshakeSummary.{view_summary};
+ghost use Rattle.log_connections.specs.Accessors.{HasHandshake, HasHistory, HasOutcome, HasStop, IsEstablishedBy, IsResumedBy, LacksFront, records_of};
 ghost use Rattle.log_connections.specs.Analysis.{HearsAt, HearsDatagram, HearsNone, HearsStream, HearsSsl2, IsSpokenBy, PassesOver, begins_in, direction_of as direction_by, is_over_in, preamble_of};
 
 use crate::audience::Audience;
@@ -182,7 +184,9 @@ impl<K: PieceCollector> TlsAnalysis<K> {
     }
 
     /// Returns the handshake summary.
-    pub fn handshake(&self) -> &HandshakeSummary {
+    pub fn handshake(&self) -> &HandshakeSummary
+        ensures { HasHandshake (view_summary result.now) self.now.said }
+    {
         match &self.said {
             TransportAnalyzer::Stream(analyzer, _) => analyzer.handshake(),
             TransportAnalyzer::Datagrams(analyzer) => analyzer.handshake(),
@@ -190,7 +194,9 @@ impl<K: PieceCollector> TlsAnalysis<K> {
     }
 
     /// Returns a letter for each event, as in Zeek's ssl_history.
-    pub fn history(&self) -> &[u8] {
+    pub fn history(&self) -> &[u8]
+        ensures { HasHistory result.now self.now.said }
+    {
         match &self.said {
             TransportAnalyzer::Stream(analyzer, _) => analyzer.history(),
             TransportAnalyzer::Datagrams(analyzer) => analyzer.history(),
@@ -198,7 +204,9 @@ impl<K: PieceCollector> TlsAnalysis<K> {
     }
 
     /// Returns the state of the handshake.
-    pub fn outcome(&self) -> Outcome {
+    pub fn outcome(&self) -> Outcome
+        ensures { HasOutcome result self.now.said }
+    {
         match &self.said {
             TransportAnalyzer::Stream(analyzer, _) => analyzer.outcome(),
             TransportAnalyzer::Datagrams(analyzer) => analyzer.outcome(),
@@ -206,7 +214,9 @@ impl<K: PieceCollector> TlsAnalysis<K> {
     }
 
     /// Returns the event that ended the handshake without success, if one did.
-    pub fn stop(&self) -> Option<Stop> {
+    pub fn stop(&self) -> Option<Stop>
+        ensures { HasStop result self.now.said }
+    {
         match &self.said {
             TransportAnalyzer::Stream(analyzer, _) => analyzer.stop(),
             TransportAnalyzer::Datagrams(analyzer) => analyzer.stop(),
@@ -214,7 +224,9 @@ impl<K: PieceCollector> TlsAnalysis<K> {
     }
 
     /// Returns whether the readable part of the handshake is complete.
-    pub fn is_established(&self) -> bool {
+    pub fn is_established(&self) -> bool
+        ensures { IsEstablishedBy result self.now.said }
+    {
         match &self.said {
             TransportAnalyzer::Stream(analyzer, _) => analyzer.is_established(),
             TransportAnalyzer::Datagrams(analyzer) => analyzer.is_established(),
@@ -222,7 +234,9 @@ impl<K: PieceCollector> TlsAnalysis<K> {
     }
 
     /// Returns whether a session was resumed.
-    pub fn is_resumed(&self) -> bool {
+    pub fn is_resumed(&self) -> bool
+        ensures { IsResumedBy result self.now.said }
+    {
         match &self.said {
             TransportAnalyzer::Stream(analyzer, _) => analyzer.is_resumed(),
             TransportAnalyzer::Datagrams(analyzer) => analyzer.is_resumed(),
@@ -231,7 +245,9 @@ impl<K: PieceCollector> TlsAnalysis<K> {
 
     /// Returns whether the first messages of a side weren't captured, by the message numbers of
     /// DTLS.
-    pub fn lacks_front(&self, side: Side) -> bool {
+    pub fn lacks_front(&self, side: Side) -> bool
+        ensures { LacksFront result (direction_by self.now.is_turned side) self.now.said }
+    {
         match &self.said {
             TransportAnalyzer::Stream(_, _) => false,
             TransportAnalyzer::Datagrams(analyzer) => analyzer.lacks_front(self.direction(side)),
@@ -296,7 +312,9 @@ impl<K: PieceCollector> TlsAnalysis<K> {
 
     /// Returns how many records a side sent: over TCP up to the first missing bytes, over UDP those
     /// of all its datagrams.
-    pub fn records(&self, side: Side) -> u64 {
+    pub fn records(&self, side: Side) -> u64
+        ensures { result ≡ records_of self.now.protocol side self.now }
+    {
         match (self.protocol, side) {
             (Protocol::Tcp, Side::Originator) => self.from_originator.count(),
             (Protocol::Tcp, Side::Responder) => self.from_responder.count(),

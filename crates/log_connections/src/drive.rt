@@ -1,5 +1,6 @@
 //! What drives a log: [`Log::packet`] for each packet, and [`Log::finish`] at the end.
-ghost use Rattle.std.specs.Prelude.{◌≡◌, [], OnOk};
+ghost use Rattle.std.specs.Prelude.{◌≡◌, ◌≤◌, [], OnOk};
+ghost use Rattle.connections.specs.Memory.{IsAccounted, open_part, total};
 ghost use Rattle.connections.specs.Table.{NoneIsOver};
 ghost use Rattle.log_connections.specs.Sink.{IsIdle, IsOpen, PassesEnded, Receives, StaysSound};
 
@@ -157,13 +158,15 @@ impl<K: PieceCollector> Log<K> {
 
     /// Ends the longest-idle connections until the rest fit the memory limit.
     fn end_crowded<S: Sink<K>>(&mut self, time: u64, sink: &mut S) -> Result<(), LogError<S::Error>>
-        ensures { StaysSound (S.is_sound sink.old) (S.is_sound sink.new) result }
+        ensures ended { OnOk result
+            (PassesEnded IsOpen self.old.connections.live self.new.connections.live
+            (S.received sink.old) (S.received sink.new)) }
+        ensures within { OnOk result (IsAccounted self.old.connections
+            → total self.new.connections.live ≤ open_part self.old.memory) }
+        ensures sound { StaysSound (S.is_sound sink.old) (S.is_sound sink.new) result }
     {
-        'crowded: for _ in 0..u64::MAX {
-            match self.take_crowded()? {
-                Some(over) => self.end_connection(over, time, sink)?,
-                None => break,
-            }
+        while let Some(over) = self.take_crowded()? {
+            self.end_connection(over, time, sink)?;
         }
         Ok(())
     }

@@ -1,7 +1,17 @@
-use Rattle.std.specs.Prelude.{◌≡◌, true}
+use Rattle.std.specs.Prelude.{◌≡◌, true, length}
+use Rattle.connections.specs.Memory.{IsAccounted}
+use Rattle.log_connections.specs.Sink.{IsOpen, PassesEnded}
 use Rattle.log_connections.proofs.log.Log.end_crowded.Given as goal
 
--- The sink is sound so far.
-abbrev pub invariant-crowded : goal.invariant-crowded
-invariant-crowded g l =
-    g.S.Sink.is_sound l.initial.sink ≡ true → g.S.Sink.is_sound l.sink ≡ true
+-- The sink received those that ended so far, and is sound.
+abbrev pub invariant-loop-over : goal.invariant-loop-over
+invariant-loop-over g l = record {
+  ended : PassesEnded IsOpen l.initial.self.connections.live l.self.connections.live
+      (g.S.Sink.received l.initial.sink) (g.S.Sink.received l.sink);
+  accounted : IsAccounted l.initial.self.connections → IsAccounted l.self.connections;
+  memory : l.self.memory ≡ l.initial.self.memory;
+  sound : g.S.Sink.is_sound l.initial.sink ≡ true → g.S.Sink.is_sound l.sink ≡ true;
+}
+
+abbrev pub decreases-loop-over : goal.decreases-loop-over
+decreases-loop-over g l = length l.self.connections.live

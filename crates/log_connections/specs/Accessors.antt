@@ -1,0 +1,65 @@
+-- What a connection's analysis says of its handshake: over TCP by the state of its analyzer, over
+-- UDP by what the analyzer of its datagrams knows.
+use Rattle.std.specs.Prelude.{◌≡◌, ℕ, Bool, false, Option}
+use Rattle.layouts.specs.Bytes.{Bytes}
+use Rattle.connections.specs.declared.connection.Side.{Side}
+use Rattle.connections.specs.declared.connection.Side.TheVariants.{Originator, Responder}
+use Rattle.connections.specs.declared.five_tuple.Protocol.{Protocol}
+use Rattle.connections.specs.declared.five_tuple.Protocol.TheVariants.{Tcp, Udp}
+use Rattle.tls_flow.specs.Table.{outcome_at}
+use Rattle.tls_flow.specs.declared.symbol.Direction.{Direction}
+use Rattle.tls_flow.specs.declared.state.Outcome.{Outcome}
+use Rattle.tls_flow.specs.declared.flow.Stop.{Stop}
+use Rattle.tls_summary.specs.HandshakeSummary.{HandshakeSummary, view_summary}
+use Rattle.tls_analyzer.specs.Datagrams.{IsKnown, spoken}
+use Rattle.tls_analyzer.specs.Datagrams as datagrams
+use Rattle.tls_analyzer.specs.Ends.{is_established, is_resumed}
+use Rattle.log_connections.specs.declared.analysis.TlsAnalysis.{TlsAnalysis}
+use Rattle.log_connections.specs.declared.analysis.TransportAnalyzer.{TransportAnalyzer}
+use Rattle.log_connections.specs.declared.analysis.TransportAnalyzer.TheVariants as said
+
+-- The summary of the handshake's clear messages.
+abbrev pub HasHandshake : HandshakeSummary → TransportAnalyzer → Type 0
+HasHandshake h (said.Stream x f) = h ≡ view_summary x.conversation_state.handshake
+HasHandshake h (said.Datagrams t) = (k : datagrams.Analyzer) → IsKnown k t → h ≡ k.handshake
+
+abbrev pub HasHistory : Bytes → TransportAnalyzer → Type 0
+HasHistory b (said.Stream x f) = b ≡ x.conversation_state.history.items
+HasHistory b (said.Datagrams t) = (k : datagrams.Analyzer) → IsKnown k t → b ≡ k.history
+
+abbrev pub HasOutcome : Outcome → TransportAnalyzer → Type 0
+HasOutcome o (said.Stream x f) = o ≡ outcome_at x.conversation_state.flow.state
+HasOutcome o (said.Datagrams t) = (k : datagrams.Analyzer) → IsKnown k t → o ≡ outcome_at k.flow.state
+
+abbrev pub HasStop : Option Stop → TransportAnalyzer → Type 0
+HasStop s (said.Stream x f) = s ≡ x.conversation_state.flow.stop
+HasStop s (said.Datagrams t) = (k : datagrams.Analyzer) → IsKnown k t → s ≡ k.flow.stop
+
+-- The readable part of the handshake is complete, or not.
+abbrev pub IsEstablishedBy : Bool → TransportAnalyzer → Type 0
+IsEstablishedBy b (said.Stream x f) = b ≡ is_established (outcome_at x.conversation_state.flow.state)
+IsEstablishedBy b (said.Datagrams t) =
+    (k : datagrams.Analyzer) → IsKnown k t → b ≡ is_established (outcome_at k.flow.state)
+
+-- A session was resumed, or not.
+abbrev pub IsResumedBy : Bool → TransportAnalyzer → Type 0
+IsResumedBy b (said.Stream x f) =
+    b ≡ is_resumed (outcome_at x.conversation_state.flow.state)
+    (view_summary x.conversation_state.handshake)
+IsResumedBy b (said.Datagrams t) =
+    (k : datagrams.Analyzer) → IsKnown k t → b ≡ is_resumed (outcome_at k.flow.state) k.handshake
+
+-- The first messages of the side that speaks in this direction weren't captured. Only the message
+-- numbers of DTLS (RFC 6347, section 4.2.2) show that.
+abbrev pub LacksFront : Bool → Direction → TransportAnalyzer → Type 0
+LacksFront b d (said.Stream x f) = b ≡ false
+LacksFront b d (said.Datagrams t) =
+    (k : datagrams.Analyzer) → IsKnown k t → b ≡ (spoken k d).lacks_front
+
+module _ {K : Type 0} where
+  -- How many records a side sent.
+  abbrev pub records_of : Protocol → Side → TlsAnalysis K → ℕ
+  records_of Tcp Originator a = a.from_originator.count
+  records_of Tcp Responder a = a.from_responder.count
+  records_of Udp Originator a = a.by_originator.count
+  records_of Udp Responder a = a.by_responder.count
