@@ -29,7 +29,8 @@ HasHistory b (said.Datagrams t) = (k : datagrams.Analyzer) → IsKnown k t → b
 
 abbrev pub HasOutcome : Outcome → TransportAnalyzer → Type 0
 HasOutcome o (said.Stream x f) = o ≡ outcome_at x.conversation_state.flow.state
-HasOutcome o (said.Datagrams t) = (k : datagrams.Analyzer) → IsKnown k t → o ≡ outcome_at k.flow.state
+HasOutcome o (said.Datagrams t) =
+    (k : datagrams.Analyzer) → IsKnown k t → o ≡ outcome_at k.flow.state
 
 abbrev pub HasStop : Option Stop → TransportAnalyzer → Type 0
 HasStop s (said.Stream x f) = s ≡ x.conversation_state.flow.stop
@@ -37,7 +38,8 @@ HasStop s (said.Datagrams t) = (k : datagrams.Analyzer) → IsKnown k t → s �
 
 -- The readable part of the handshake is complete, or not.
 abbrev pub IsEstablishedBy : Bool → TransportAnalyzer → Type 0
-IsEstablishedBy b (said.Stream x f) = b ≡ is_established (outcome_at x.conversation_state.flow.state)
+IsEstablishedBy b (said.Stream x f) =
+    b ≡ is_established (outcome_at x.conversation_state.flow.state)
 IsEstablishedBy b (said.Datagrams t) =
     (k : datagrams.Analyzer) → IsKnown k t → b ≡ is_established (outcome_at k.flow.state)
 
@@ -47,7 +49,8 @@ IsResumedBy b (said.Stream x f) =
     b ≡ is_resumed (outcome_at x.conversation_state.flow.state)
     (view_summary x.conversation_state.handshake)
 IsResumedBy b (said.Datagrams t) =
-    (k : datagrams.Analyzer) → IsKnown k t → b ≡ is_resumed (outcome_at k.flow.state) k.handshake
+    (k : datagrams.Analyzer) → IsKnown k t
+    → b ≡ is_resumed (outcome_at k.flow.state) k.handshake
 
 -- The first messages of the side that speaks in this direction weren't captured. Only the message
 -- numbers of DTLS (RFC 6347, section 4.2.2) show that.

@@ -9,7 +9,8 @@
 //!
 //! Promise: `Log` in `specs/` defines which connection an arrival changes and which bytes its
 //! analysis gets, `TlsAnalysis` what the analysis does with them, and `Fronts` where TLS begins in
-//! a stream, and `Sink` which connections are passed on. Collected pieces and memory limits have no clauses, only tests.
+//! a stream, and `Sink` which connections are passed on. Collected pieces have no clauses, only
+//! tests.
 #![tactic(auto)]
 
 mod analysis;

@@ -70,7 +70,8 @@ impl<K: PieceCollector> Log<K> {
         &mut self,
         arrival: &Arrival<'_>,
     ) -> Result<Option<Box<Connection<TlsAnalysis<K>>>>, AllocError>
-        ensures own { IfOk result (λ o. EndsAs (at (five_tuple_in arrival.now) self.old.connections.live)
+        ensures own { IfOk result (λ o. EndsAs
+            (at (five_tuple_in arrival.now) self.old.connections.live)
             (option_map (λ b. b.value) o)) }
         ensures others { self.new.connections.live ≡ others (five_tuple_in arrival.now)
             self.old.connections.live }
