@@ -5,8 +5,8 @@ use Rattle.layouts.specs.Meaning.{EndsWith}
 use Rattle.layouts.proofs.EndLemmas.{ends, ends_after}
 use Rattle.layouts.specs.declared.result.ErrorKind.TheVariants.{TooLarge}
 use Rattle.raw_records.specs.Framing.{max_fragment_length}
-use Rattle.tls_records.specs.Record as tls
-use Rattle.dtls_records.specs.DtlsRecord as dtls
+use Rattle.raw_records.specs.RawRecord as tls
+use Rattle.raw_records.specs.RawDtlsRecord as dtls
 use Rattle.dtls_records.specs.DtlsInPlace.{RawHandshake, raw_handshake}
 use Rattle.tls_places.specs.Last.{LastStands, StandsLast}
 use Rattle.tls_places.proofs.LastLemmas.{allowed_last, behind, block_last, chain_last, made_last}
