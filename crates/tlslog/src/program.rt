@@ -1,5 +1,6 @@
 //! Logs captures: packets in, lines out.
-ghost use Rattle.std.specs.Prelude.{◌≡◌, Bool};
+ghost use Rattle.std.specs.Prelude.{◌≡◌, Bool, true, not, None, OnOk};
+ghost use Rattle.log_connections.specs.Sink.{Receives};
 ghost use Rattle.log_io.specs.Output.{Tells};
 ghost use Rattle.tlslog.specs.Failures.{line_error_of};
 ghost use Rattle.log_io.specs.Run.{EndsBy, Exits, HasFailed, HasWritten, IsAsBefore, IsNotOfCapture, StaysSound};
@@ -138,14 +139,21 @@ impl<'a, W: Write> Sink<CollectedPieces> for Printer<'a, W> {
     ghost is_sound = { λ p. not p.out.has_failed };
 
     // (`drop` by hand: freeing at each exit of the body would triple its code)
-    fn connection(&mut self, over: Box<Connection<Analysis>>, time: u64) -> Result<(), LineError> {
+    fn connection(&mut self, over: Box<Connection<Analysis>>, time: u64) -> Result<(), LineError>
+        ensures received { Receives None None result over.value }
+        ensures sound { not self.old.out.has_failed ≡ true
+            → OnOk result (not self.new.out.has_failed ≡ true) }
+    {
         let mut over = over;
         let printed = print_last(self.alloc, self.style, &mut over, time, &mut self.out);
         drop(over);
         printed
     }
 
-    fn pieces(&mut self, open: &mut Connection<Analysis>, time: u64) -> Result<(), LineError> {
+    fn pieces(&mut self, open: &mut Connection<Analysis>, time: u64) -> Result<(), LineError>
+        ensures sound { not self.old.out.has_failed ≡ true
+            → OnOk result (not self.new.out.has_failed ≡ true) }
+    {
         print_pieces(self.alloc, self.style, open, time, &mut self.out)
     }
 }
