@@ -69,10 +69,11 @@ def program(name: str) -> Path:
     """The program of a suite: it runs the suite by whose name it is called."""
     made = kept.program(programs())
     link = made.with_name(name)
-    if not link.is_symlink():
-        # Another suite may make its own link, or this one, in parallel.
+    if not link.exists() or not link.samefile(made):
+        # Another suite may make its own link, or this one, in parallel. It is a hard link, since
+        # `rt ci` refuses symbolic ones below the top.
         new = made.with_name(f"{name}.{os.getpid()}")
-        new.symlink_to(made.name)
+        new.hardlink_to(made)
         new.replace(link)
     return link
 
