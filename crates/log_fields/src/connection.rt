@@ -2,7 +2,7 @@
 use crate::certificates::certified_cell;
 use crate::columns::CertificateField;
 use crate::context::{FieldContext, Moment, SideContext};
-use crate::fields::{Carried, Course, End, FIELDS, Field, Named, Sent, rows};
+use crate::fields::{Carried, Course, End, Field, Named, Sent, fields, rows};
 use crate::hellos::{compute_answer, compute_chain, compute_offer, other_names_cell};
 use crate::names::{REASONS, kind_name, outcome_name, reason_name, tunnel_name};
 use crate::prints::compute_print;
@@ -257,11 +257,11 @@ pub fn cell_of<'a>(
     Ok(kept.cell)
 }
 
-/// Returns the line of a connection, with the fields at these places of [`FIELDS`].
+/// Returns the line of a connection, with the fields at these places of [`fields`].
 pub fn row_of<'a>(context: &mut FieldContext<'a>, places: &[usize]) -> Result<Row<'a>, AllocError> {
     let mut cells = Vec::with_capacity(context.alloc, places.len())?;
     for place in places {
-        if let Some((name, _, field)) = FIELDS.get(*place) {
+        if let Some((name, _, field)) = fields().get(*place) {
             let cell = cell_of(context, field)?;
             cells.push((*name, cell))?;
         }

@@ -743,3 +743,9 @@ pub(crate) use rows;
 
 /// The fields of a connection's line, in their order.
 pub static FIELDS: &[Column<Field>] = rows!(columns);
+
+/// Returns [`FIELDS`]. Call it instead of naming the table: the proof of a function that names it
+/// reads all of its rows.
+pub fn fields() -> &'static [Column<Field>] {
+    FIELDS
+}

@@ -3,7 +3,7 @@
 use crate::style::Style;
 use log_fields::connection::compute;
 use log_fields::context::FieldContext;
-use log_fields::fields::{FIELDS, Field};
+use log_fields::fields::{Field, fields};
 use log_fields::summary::Summary;
 use log_formats::cell::{Cell, TakesCell};
 use log_formats::lists::{Numbers, Texts};
@@ -129,7 +129,7 @@ fn is_beside(field: &Field, other: &Field) -> bool {
 
 /// Returns the first places whose fields describe the same side's certificate as this one.
 fn places_beside<'p>(field: &Field, places: &'p [usize]) -> &'p [usize] {
-    let same = places.iter().take_while(|place| match FIELDS.get(**place) {
+    let same = places.iter().take_while(|place| match fields().get(**place) {
         Some((_, _, other)) => is_beside(field, other),
         None => false,
     });
@@ -153,7 +153,7 @@ fn add_certificate<'a>(
     }
     let mut part = Object::over(alloc, Vec::new(alloc), PART_LEN)?;
     for place in places {
-        if let Some((name, _, field)) = FIELDS.get(*place) {
+        if let Some((name, _, field)) = fields().get(*place) {
             add_field(context, known, *place, *name, field, &mut part)?;
         }
     }
@@ -165,7 +165,7 @@ fn add_certificate<'a>(
     Ok(())
 }
 
-/// Returns the line of a connection, with the fields at these places of [`FIELDS`] except missing
+/// Returns the line of a connection, with the fields at these places of [`fields`] except missing
 /// ones. It reuses the memory of `room`.
 pub fn json_line<'a>(
     alloc: Global,
@@ -179,7 +179,7 @@ pub fn json_line<'a>(
     // (how many of the places are done)
     let mut count = 0;
     for (at, place) in places.iter().enumerate() {
-        let Some((name, _, field)) = FIELDS.get(*place) else {
+        let Some((name, _, field)) = fields().get(*place) else {
             continue;
         };
         if at < count {

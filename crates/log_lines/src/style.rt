@@ -6,7 +6,7 @@ use crate::message_line::message_row;
 use log_fields::columns::{DETAILS, PARTS};
 use log_fields::connection::row_of;
 use log_fields::context::FieldContext;
-use log_fields::fields::FIELDS;
+use log_fields::fields::fields;
 use log_fields::summary::Summary;
 use log_formats::cell::Row;
 use log_formats::column::Column;
@@ -36,7 +36,7 @@ pub enum LineKind {
 /// What gets a line, and with which fields.
 #[derive(Drop)]
 pub enum Lines {
-    /// Each connection, at its end: places in [`FIELDS`].
+    /// Each connection, at its end: places in [`fields`].
     Connections(Vec<usize>),
     /// Each message, when it is complete: places in [`PARTS`].
     Messages(Vec<usize>),
@@ -108,7 +108,7 @@ impl Display for StyleError<'_> {
         match self {
             StyleError::UnknownField(name) => {
                 write!(f, "a connection has no field {name}")?;
-                write_nearest(FIELDS, name, f)
+                write_nearest(fields(), name, f)
             }
             StyleError::UnknownPart(name) => {
                 write!(f, "a message has no field {name}")?;
@@ -180,7 +180,7 @@ impl Lines {
         names: Option<&str>,
     ) -> Result<Lines, StyleError<'_>> {
         match kind {
-            LineKind::Connections => Ok(Lines::Connections(chosen(alloc, FIELDS, names)?)),
+            LineKind::Connections => Ok(Lines::Connections(chosen(alloc, fields(), names)?)),
             LineKind::Messages => match chosen(alloc, PARTS, names) {
                 Ok(places) => Ok(Lines::Messages(places)),
                 Err(StyleError::UnknownField(name)) => Err(StyleError::UnknownPart(name)),
@@ -199,7 +199,7 @@ impl Lines {
 fn zeek_header(alloc: Global, lines: &Lines, opened: i64) -> Result<String, AllocError> {
     match lines {
         Lines::Connections(places) => {
-            zeek::header(alloc, "ssl", opened, FIELDS, places.as_slice())
+            zeek::header(alloc, "ssl", opened, fields(), places.as_slice())
         }
         Lines::Messages(places) => {
             zeek::header(alloc, "tls_messages", opened, PARTS, places.as_slice())
@@ -213,7 +213,7 @@ fn zeek_header(alloc: Global, lines: &Lines, opened: i64) -> Result<String, Allo
 /// Returns a line of a Zeek log.
 fn zeek_line(alloc: Global, lines: &Lines, row: &Row<'_>) -> Result<String, AllocError> {
     match lines {
-        Lines::Connections(places) => zeek::line(alloc, FIELDS, places.as_slice(), row),
+        Lines::Connections(places) => zeek::line(alloc, fields(), places.as_slice(), row),
         Lines::Messages(places) => zeek::line(alloc, PARTS, places.as_slice(), row),
         Lines::Certificates(places) => zeek::line(alloc, DETAILS, places.as_slice(), row),
     }
@@ -222,7 +222,7 @@ fn zeek_line(alloc: Global, lines: &Lines, row: &Row<'_>) -> Result<String, Allo
 /// Returns the line of names before comma-separated values.
 fn csv_header(alloc: Global, lines: &Lines) -> Result<Vec<u8>, AllocError> {
     match lines {
-        Lines::Connections(places) => comma::header(alloc, FIELDS, places.as_slice()),
+        Lines::Connections(places) => comma::header(alloc, fields(), places.as_slice()),
         Lines::Messages(places) => comma::header(alloc, PARTS, places.as_slice()),
         Lines::Certificates(places) => comma::header(alloc, DETAILS, places.as_slice()),
     }
@@ -301,7 +301,7 @@ impl Style {
         }
     }
 
-    /// Returns the line of a connection, with the fields at these places of [`FIELDS`], without its
+    /// Returns the line of a connection, with the fields at these places of [`fields`], without its
     /// line break. A JSON line reuses the memory of `room`.
     pub fn connection_line(
         &self,
