@@ -1,178 +1,98 @@
 -- A message that is being reassembled.
-use Rattle.std.proofs.Common.{
-  ◌≡◌,
-  ℕ,
-  zero,
-  suc,
-  ◌+◌,
-  ◌-◌,
-  ◌<◌,
-  ◌≤◌,
-  Bool,
-  true,
-  false,
-  cond,
-  nat_lt,
-  Some,
-  None,
-  List,
-  [],
-  ◌∷◌,
-  ◌++◌,
-  length,
-  take,
-  sum_by,
-  refl,
-  sym,
-  ◌∙◌,
-  ap,
-  subst,
-  arith,
-  get_or,
-}
-use Rattle.std.specs.Prelude.{IsSome, slice_index, replicate}
-use Rattle.std.proofs.lemmas.List.{get_or_append_left, get_or-append_right, length-replicate}
-use Rattle.std.proofs.lemmas.Bool.{ltb-true, ltb-false}
-use Rattle.std.proofs.Common.{length-append, take_all}
-use Rattle.std.proofs.lemmas.List.Folds.{sum_by-replicate}
-use Rattle.std.proofs.lemmas.List.Sums.{sum_by-cons, sum_by-append}
-use Rattle.layouts.specs.Bytes.{Bytes}
-use Rattle.dtls_stream.specs.Fragments.{Held, IsComplete, IsBody, absent, cell}
+use Rattle.std.proofs.Common.{◌≡◌, ℕ, zero, suc, ◌+◌, ◌-◌, ◌<◌, ◌≤◌, Bool, true, false, ltb, Option, Some, None, [], ◌∷◌}
+use Rattle.std.proofs.Common.{length, refl, sym, ◌∙◌, ap, subst, arith, ltb-true, ltb-false}
+use Rattle.std.specs.Prelude.{IsSome, slice_index}
+use Rattle.segments.specs.Cells.{Bytes, Cells, byte_at, cell, earlier, run, with_part}
+use Rattle.segments.specs.Cells as cells
+use Rattle.segments.specs.Pages.{written}
+use Rattle.segments.proofs.LawLemmas.{run_stands}
+use Rattle.segments.proofs.PutLemmas.{put_bytes}
+use Rattle.dtls_stream.specs.Fragments.{Held, IsBody, IsComplete, given, or_else}
+use Rattle.dtls_stream.proofs.FragmentLemmas.{given_above, given_below, given_in}
 
--- No byte is missing exactly if all are known.
-pub all_there : (ts : List Bool) → sum_by absent ts ≡ 0 → (i : ℕ) → i < length ts
-    → get_or ts i false ≡ true
-all_there [] e i h = absurd (omega (arith, h))
-all_there (true ∷ ts) e zero h = refl
-all_there (true ∷ ts) e (suc i) h =
-    all_there ts (omega (arith, sum_by-cons absent true ts, e)) i (omega (arith, h))
-all_there (false ∷ ts) e i h = absurd (omega (arith, sum_by-cons absent false ts, e))
+-- The byte at a place of the front.
+front_at : (cs : Cells) (i : ℕ) → i < length (run cs) → cell cs i ≡ Some (slice_index (run cs) i)
+front_at [] i low = absurd (omega (arith, low))
+front_at (None ∷ cs) i low = absurd (omega (arith, low))
+front_at (Some x ∷ cs) zero low = refl
+front_at (Some x ∷ cs) (suc i) low = front_at cs i (omega (arith, low))
 
-pub none_absent : (ts : List Bool) → ((i : ℕ) → i < length ts → get_or ts i false ≡ true)
-    → sum_by absent ts ≡ 0
-none_absent [] all = refl
-none_absent (true ∷ ts) all = let again = none_absent ts (λ i h. all (suc i) (omega (arith, h))) in
-    omega (arith, sum_by-cons absent true ts, again)
-none_absent (false ∷ ts) all = let e = all 0 (omega arith) in absurd cc
+-- A place in front of which all bytes are known.
+front_long : (cs : Cells) (n : ℕ) → ((i : ℕ) → i < n → IsSome (cell cs i)) → n ≤ length (run cs)
+front_long cs zero all = omega arith
+front_long [] (suc n) all = let none = all 0 (omega arith) in absurd cc
+front_long (None ∷ cs) (suc n) all = let none = all 0 (omega arith) in absurd cc
+front_long (Some x ∷ cs) (suc n) all =
+    let rest = front_long cs n (λ i low. all (suc i) (omega (arith, low))) in omega (arith, rest)
 
-pub absent_le : (ts : List Bool) → sum_by absent ts ≤ length ts
-absent_le [] = omega arith
-absent_le (true ∷ ts) = omega (arith, sum_by-cons absent true ts, absent_le ts)
-absent_le (false ∷ ts) = omega (arith, sum_by-cons absent false ts, absent_le ts)
-
-cell_some : (ts : List Bool) (bs : Bytes) (i : ℕ) → get_or ts i false ≡ true
-    → cell ts bs i ≡ Some (slice_index bs i)
-cell_some ts bs i e = ap (λ t. cond t (Some (slice_index bs i)) None) e
-
-is_there : (ts : List Bool) (bs : Bytes) (i : ℕ) → IsSome (cell ts bs i) → get_or ts i false ≡ true
-is_there ts bs i = go (get_or ts i false)
+-- No byte is known behind the end, so the front ends there.
+front_short : (cs : Cells) (n : ℕ) → cell cs n ≡ None → length (run cs) ≤ n
+front_short cs n none = go (ltb n (length (run cs))) refl
   where
-    go : (t : Bool) → IsSome (cond t (Some (slice_index bs i)) None) → t ≡ true
-    go true s = refl
-    go false s = absurd cc
+    go : (t : Bool) → ltb n (length (run cs)) ≡ t → length (run cs) ≤ n
+    go true e =
+        let some = subst IsSome none (run_stands cs n (ltb-true n (length (run cs)) e)) in
+        absurd cc
+    go false e = ltb-false n (length (run cs)) e
 
--- no place beyond the lists is known
-there_below : (ts : List Bool) (i : ℕ) → get_or ts i false ≡ true → i < length ts
-there_below [] i e = absurd cc
-there_below (t ∷ ts) zero e = omega arith
-there_below (t ∷ ts) (suc i) e = let again = there_below ts i e in omega (arith, again)
-
--- What holds of a buffered message's fields.
-pub record IsSound (h : Held) (filled : ℕ) : Type 0 where
-  pub same : length h.there ≡ length h.held
-  pub low : length h.held ≤ h.size
-  pub count : filled + sum_by absent h.there ≡ length h.there
-
-pub complete_body : (h : Held) (filled : ℕ)
-    → (length h.there ≡ length h.held) × (length h.held ≤ h.size)
-    × (filled + sum_by absent h.there ≡ length h.there)
-    → h.size ≤ filled → IsBody h h.held
-complete_body h filled sound full =
-    let none : sum_by absent h.there ≡ 0 = omega (arith, sound.0, sound.1, sound.2, full) in
+pub complete_body : (h : Held) (b : Bytes) → b ≡ run h.cells → cell h.cells h.size ≡ None
+    → h.size ≤ length b → IsBody h b
+complete_body h b is none full =
+    let count = ap length is in
     record {
-      size = omega (arith, sound.0, sound.1, sound.2, full);
-      bytes = λ i l. cell_some h.there h.held i
-          (all_there h.there none i (omega (arith, l, sound.0, sound.1, sound.2, full)));
+      size = omega (arith, count, full, front_short h.cells h.size none);
+      bytes = λ i low. front_at h.cells i (omega (arith, low, full, count))
+          ∙ ap (λ x. Some (slice_index x i)) (sym is);
     }
 
-pub body_complete : (h : Held) (filled : ℕ)
-    → (length h.there ≡ length h.held) × (length h.held ≤ h.size)
-    × (filled + sum_by absent h.there ≡ length h.there)
-    → h.size ≤ filled → IsComplete h
-body_complete h filled sound full i l =
-    subst IsSome (sym ((complete_body h filled sound full).bytes i l)) refl
+pub body_complete : (h : Held) → h.size ≤ length (run h.cells) → IsComplete h
+body_complete h full i low = run_stands h.cells i (omega (arith, low, full))
 
--- if all places are known, the count is the size
-pub complete_full : (h : Held) (filled : ℕ)
-    → (length h.there ≡ length h.held) × (length h.held ≤ h.size)
-    × (filled + sum_by absent h.there ≡ length h.there)
-    → IsComplete h → h.size ≤ filled
-complete_full h filled sound all = go h.size refl
+pub complete_full : (h : Held) → IsComplete h → h.size ≤ length (run h.cells)
+complete_full h all = front_long h.cells h.size all
+
+-- The byte at a place of bytes.
+byte_some : (b : Bytes) (i : ℕ) → i < length b → byte_at b i ≡ Some (slice_index b i)
+byte_some [] i low = absurd (omega (arith, low))
+byte_some (x ∷ b) zero low = refl
+byte_some (x ∷ b) (suc i) low = byte_some b i (omega (arith, low))
+
+byte_none : (b : Bytes) (i : ℕ) → length b ≤ i → byte_at b i ≡ None
+byte_none [] i low = refl
+byte_none (x ∷ b) zero low = absurd (omega (arith, low))
+byte_none (x ∷ b) (suc i) low = byte_none b i (omega (arith, low))
+
+-- What is written at a place is what a fragment gives there.
+written_given : (o : ℕ) (b : Bytes) (i : ℕ) → written o b i ≡ given o b (length b) i
+written_given o b i = go (ltb i o) refl
   where
-    go : (n : ℕ) → h.size ≡ n → h.size ≤ filled
-    go zero e = omega (arith, e)
-    go (suc n) e =
-        let last : n < h.size = omega (arith, e) in
-        let reach : n < length h.there =
-        there_below h.there n (is_there h.there h.held n (all n last)) in
-        let none : sum_by absent h.there ≡ 0 =
-        none_absent h.there
-        (λ i l. is_there h.there h.held i (all i (omega (arith, l, sound.0, sound.1)))) in
-        omega (arith, e, reach, none, sound.2)
+    behind : o ≤ i → (t : Bool) → ltb i (o + length b) ≡ t
+        → byte_at b (i - o) ≡ given o b (length b) i
+    behind low true f =
+        let high = ltb-true i (o + length b) f in
+        byte_some b (i - o) (omega (arith, low, high)) ∙ sym (given_in o (length b) i b low high)
+    behind low false f =
+        let high = ltb-false i (o + length b) f in
+        byte_none b (i - o) (omega (arith, low, high)) ∙ sym (given_above o (length b) i b high)
 
--- Places added without a byte.
-pub cell_grown : (ts : List Bool) (bs : Bytes) (m n : ℕ) → length ts ≡ length bs → (i : ℕ)
-    → cell (ts ++ replicate m false) (bs ++ replicate n 0) i ≡ cell ts bs i
-cell_grown ts bs m n same i = go (nat_lt i (length ts)) refl
-  where
-    behind : (k : ℕ) → get_or (replicate m false) k false ≡ false
-    behind k = below m k
-      where
-        below : (m k : ℕ) → get_or (replicate m false) k false ≡ false
-        below zero k = refl
-        below (suc m) zero = refl
-        below (suc m) (suc k) = below m k
+    go : (t : Bool) → ltb i o ≡ t → written o b i ≡ given o b (length b) i
+    go true e = rw e (sym (given_below o (length b) i b (ltb-true i o e)))
+    go false e = rw e (behind (ltb-false i o e) (ltb i (o + length b)) refl)
 
-    go : (t : Bool) → nat_lt i (length ts) ≡ t
-        → cell (ts ++ replicate m false) (bs ++ replicate n 0) i ≡ cell ts bs i
-    go true e =
-        let l : i < length ts = ltb-true i (length ts) e in
-        let k : i < length bs = omega (arith, l, same) in
-        ap (λ t. cond t (Some (slice_index (bs ++ replicate n 0) i)) None)
-        (get_or_append_left ts (replicate m false) false i l)
-        ∙ ap (λ x. cond (get_or ts i false) (Some x) None)
-        (get_or_append_left bs (replicate n 0) 0 i k)
-    go false e =
-        let l : length ts ≤ i = ltb-false i (length ts) e in
-        ap (λ t. cond t (Some (slice_index (bs ++ replicate n 0) i)) None)
-        (get_or-append_right ts (replicate m false) (length ts) i false refl l
-        ∙ behind (i - length ts))
-        ∙ ap (λ t. cond t (Some (slice_index bs i)) None) (sym (past ts i l))
-      where
-        past : (ts : List Bool) (i : ℕ) → length ts ≤ i → get_or ts i false ≡ false
-        past [] i l = refl
-        past (t ∷ ts) zero l = absurd (omega (arith, l))
-        past (t ∷ ts) (suc i) l = past ts i (omega (arith, l))
+earlier_first : (x y : Option ℕ) → earlier x y ≡ or_else x y
+earlier_first None y = refl
+earlier_first (Some x) y = refl
 
-pub count_grown : (ts : List Bool) (n filled : ℕ) → filled + sum_by absent ts ≡ length ts
-    → filled + sum_by absent (ts ++ replicate n false) ≡ length (ts ++ replicate n false)
-count_grown ts n filled was =
-    omega (
-      arith,
-      was,
-      sum_by-append absent ts (replicate n false),
-      sum_by-replicate absent n false,
-      length-append ts (replicate n false),
-      length-replicate n false,
-    )
+-- The bytes of a fragment are put where none were known.
+pub put_given : (h : cells.Held) (o : ℕ) (b : Bytes) → h.taken ≡ 0 → (i : ℕ)
+    → cell (with_part o b h).cells i ≡ or_else (cell h.cells i) (given o b (length b) i)
+put_given h o b taken i =
+    put_bytes h o b taken i ∙ earlier_first (cell h.cells i) (written o b i)
+    ∙ ap (or_else (cell h.cells i)) (written_given o b i)
 
-pub cell_resized : (ts us : List Bool) (bs cs : Bytes) (end m n : ℕ) → length ts ≡ length bs
-    → length bs ≤ end →
-    us ≡ take end ts ++ replicate m false → cs ≡ take end bs ++ replicate n 0 → (i : ℕ)
-    → cell us cs i ≡ cell ts bs i
-cell_resized ts us bs cs end m n same low us_is cs_is i =
-    ap (λ u. cell u cs i)
-    (us_is ∙ ap (λ t. t ++ replicate m false) (take_all end ts (omega (arith, same, low))))
-    ∙ ap (λ c. cell (ts ++ replicate m false) c i)
-    (cs_is ∙ ap (λ t. t ++ replicate n 0) (take_all end bs low))
-    ∙ cell_grown ts bs m n same i
+-- No byte is put behind the end.
+pub put_inside : (h : cells.Held) (o : ℕ) (b : Bytes) (size : ℕ) → h.taken ≡ 0
+    → cell h.cells size ≡ None → o + length b ≤ size → cell (with_part o b h).cells size ≡ None
+put_inside h o b size taken none inside =
+    put_given h o b taken size ∙ ap (λ c. or_else c (given o b (length b) size)) none
+    ∙ given_above o (length b) size b inside

@@ -37,7 +37,7 @@ use Rattle.std.proofs.Common.{
   append-nil,
   length-append,
 }
-use Rattle.std.specs.Prelude.{IsSome, ◌==◌}
+use Rattle.std.specs.Prelude.{IsSome}
 use Rattle.std.proofs.lemmas.Bool.{le-leb, lt-ltb, eq-eqb, ltb-true, ltb-false, leb-false}
 use Rattle.dtls_stream.specs.Fragments.{Cover, Fragment, byte_at, first_at, inside, or_else}
 use Rattle.dtls_stream.specs.Messages.{

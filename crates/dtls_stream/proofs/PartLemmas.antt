@@ -26,6 +26,7 @@ use Rattle.std.specs.Prelude.{IsSome, IfSome, is_some, slice_index}
 use Rattle.std.specs.Borrow.{Bor}
 use Rattle.std.specs.Option.{option_map}
 use Rattle.layouts.specs.Bytes.{Bytes}
+use Rattle.segments.specs.Cells.{run}
 use Rattle.dtls_stream.specs.Fragments.{Fragment, Held, IsBody, IsComplete, first_at}
 use Rattle.dtls_stream.specs.Messages.{
   Heard,
@@ -144,7 +145,7 @@ front_whole l h k p None st e whole body =
 front_whole l h k p (Some b) st e whole body = ap is_some (front_some l h k p b.now st e body)
 
 pub body_held : (o : Option (Bor (List ℕ))) (p : Held) → IfSome o (λ b. IsBody p b.now)
-    → IfSome o (λ b. b.now ≡ p.held)
-    → is_some o ≡ true → IsBody p p.held
+    → IfSome o (λ b. b.now ≡ run p.cells)
+    → is_some o ≡ true → IsBody p (run p.cells)
 body_held None p body held some = absurd cc
 body_held (Some b) p body held some = subst (IsBody p) held body

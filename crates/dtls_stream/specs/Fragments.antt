@@ -1,8 +1,8 @@
 -- Fragments of a DTLS handshake message (RFC 6347, sections 4.2.2 and 4.2.3), in any order, with
 -- repeats and overlaps.
-use Rattle.std.specs.Prelude.{◌≡◌, ℕ, ◌+◌, ◌-◌, ◌<◌, ◌≤◌, Bool, true, false, cond, nat_le, nat_lt, Option, Some, None, IsSome, Result, Ok, Err, ◌==◌, List, [], ◌∷◌, length, take, drop, map, slice_index, sum_by}
-use Rattle.std.proofs.Common.{get_or}
+use Rattle.std.specs.Prelude.{◌≡◌, ℕ, ◌+◌, ◌-◌, ◌<◌, ◌≤◌, cond, nat_le, nat_lt, Option, Some, None, IsSome, Result, Ok, Err, ◌==◌, List, [], ◌∷◌, length, take, drop, map, slice_index}
 use Rattle.layouts.specs.Bytes.{Bytes}
+use Rattle.segments.specs.Cells.{Cells, cell}
 use Rattle.layouts.specs.Layout.{Layout, done, number, block, ◌>>=◌}
 use Rattle.dtls_stream.specs.declared.fragments.Fragment.{Fragment as Lent}
 use Rattle.dtls_stream.specs.declared.fragments.FragmentError.{FragmentError}
@@ -96,23 +96,16 @@ pub record IsOf (m : Whole) (f : Fragment) : Type 0 where
   pub inside : f.fragment_offset + length f.body ≤ length m.body
   pub bytes : f.body ≡ take (length f.body) (drop f.fragment_offset m.body)
 
--- The byte at place i of a buffer.
-abbrev pub cell : List Bool → Bytes → ℕ → Option ℕ
-cell have b i = cond (get_or have i false) (Some (slice_index b i)) None
-
--- A message that is being reassembled: the fields that its fragments give, and the bytes that are
--- known.
+-- A message that is being reassembled: the fields that its fragments give, and at each place of its
+-- body the byte that arrived there first, if any.
 pub record Held : Type 0 where
   pub msg_type : ℕ
   pub message_seq : ℕ
   pub size : ℕ
-  -- which bytes are known, and the bytes, up to the highest place that arrived; a byte that isn't
-  -- known has no meaning
-  pub there : List Bool
-  pub held : Bytes
+  pub cells : Cells
 
 abbrev pub byte : Held → ℕ → Option ℕ
-byte h i = cell h.there h.held i
+byte h i = cell h.cells i
 
 -- A fragment has the same fields of its message.
 pub record IsOfSame (h : Held) (f : Fragment) : Type 0 where
@@ -144,15 +137,3 @@ IsComplete h = (i : ℕ) → i < h.size → IsSome (byte h i)
 pub record IsBody (h : Held) (b : Bytes) : Type 0 where
   pub size : length b ≡ h.size
   pub bytes : (i : ℕ) → i < h.size → byte h i ≡ Some (slice_index b i)
-
--- 1 for a place without a byte.
-abbrev pub absent : Bool → ℕ
-absent true = 0
-absent false = 1
-
--- The two lists are equally long, at most as long as the message, and as many bytes are known as
--- counted.
-abbrev pub IsCounted : ℕ → ℕ → List Bool → Bytes → Type 0
-IsCounted size filled there held =
-    (length there ≡ length held) × (length held ≤ size)
-    × (filled + sum_by absent there ≡ length there)

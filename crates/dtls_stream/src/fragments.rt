@@ -1,12 +1,14 @@
 //! Fragments of a DTLS handshake message (RFC 6347, section 4.2.3).
-ghost use Rattle.std.specs.Prelude.{◌≡◌, ◌↔◌, ◌⊎◌, ◌+◌, ◌≤◌, ◌<◌, ℕ, length, sum_by, true, false, Ok, Err, Some, None, IsErr, IsSome, IfSome, OnOk};
+ghost use Rattle.std.specs.Prelude.{◌≡◌, ◌↔◌, ◌⊎◌, ◌+◌, ◌≤◌, ℕ, length, Err, None, IsErr, IsSome, IfSome, OnOk};
 ghost use Rattle.layouts.specs.Answers.{Gives};
-ghost use Rattle.dtls_stream.specs.Fragments.{Fragment as Value, fragment as fragment_layout, Held, IsAdded, IsBegun, IsBody, IsComplete, IsCounted, absent, byte, cell, given, judged, or_else, view_fragment};
+ghost use Rattle.segments.specs.Cells.{cell, known_behind, run};
+ghost use Rattle.dtls_stream.specs.Fragments.{Fragment as Value, fragment as fragment_layout, Held, IsAdded, IsBegun, IsBody, IsComplete, byte, given, judged, or_else, view_fragment};
 ghost use Rattle.dtls_stream.specs.Messages.{view_message};
 ghost use Rattle.dtls_stream.specs.declared.fragments.FragmentError.TheVariants as fragment_error;
 
 use crate::event::Message;
 use layouts::{IResult, Item, Room, block, number2, number3};
+use segments::TcpReassembler;
 use std::alloc::{AllocError, Global};
 use std::marker::Model;
 use tls_base::TlsHandshakeType;
@@ -97,39 +99,17 @@ impl<'a> Item<'a> for Fragment<'a> {
     }
 }
 
-/// Copies bytes to `offset` where no byte is known yet, and returns how many it copied.
-fn fill(have: &mut [bool], held: &mut [u8], offset: usize, bytes: &[u8]) -> usize
-    requires inside { offset + length bytes.now ≤ length have.old }
-    requires both { length have.old ≡ length held.old }
-    ensures cells { (i : ℕ) → cell have.new held.new i ≡ or_else (cell have.old held.old i)
-        (given offset bytes.now (length bytes.now) i) }
-    ensures count { result + sum_by absent have.new ≡ sum_by absent have.old }
-{
-    let mut filled = 0;
-    for (i, byte) in bytes.iter().enumerate() {
-        let at = offset + i;
-        if !have[at] {
-            have[at] = true;
-            held[at] = *byte;
-            filled += 1;
-        }
-    }
-    filled
-}
-
 /// A message that is being reassembled.
 ///
-/// Its value in a contract is the fields that the fragments give, and the byte at each place that
-/// they cover. A length in a header never allocates: memory grows with the highest place that
-/// arrived, and time with that place and the bytes of the fragments. No clause says either.
+/// Its value in a contract is the fields that the fragments give, and at each place the byte that
+/// arrived there first. A length in a header never allocates: memory grows with the bytes that
+/// arrived, in pages of 1,024 places behind the first missing byte. No clause says so.
 #[derive(Drop)]
 pub struct Fragments {
     msg_type: TlsHandshakeType,
     message_seq: u16,
     size: usize,
-    have: Vec<bool>,
-    bytes: Vec<u8>,
-    filled: usize,
+    segments: TcpReassembler,
 }
 
 impl Model for Fragments {
@@ -139,12 +119,10 @@ impl Model for Fragments {
       msg_type = s.msg_type.0;
       message_seq = s.message_seq;
       size = s.size;
-      there =
-          s.have.items;
-      held = s.bytes.items;
+      cells = s.segments.cells;
     } };
 
-    ghost invariant = { λ s. IsCounted s.size s.filled s.have.items s.bytes.items };
+    ghost invariant = { λ s. (s.segments.taken ≡ 0) × (cell s.segments.cells s.size ≡ None) };
 }
 
 impl Fragments {
@@ -156,50 +134,8 @@ impl Fragments {
             msg_type: first.msg_type,
             message_seq: first.message_seq,
             size: first.length as usize,
-            have: Vec::new(alloc),
-            bytes: Vec::new(alloc),
-            filled: 0,
+            segments: TcpReassembler::new(alloc, 0, first.length),
         }
-    }
-
-    /// Reserves memory for `end` bytes: for twice as many, but at most the length of the message.
-    fn reserve(&mut self, end: usize) -> Result<(), AllocError>
-        requires { end ≤ self.old.size }
-        ensures { self.new ≡ self.old }
-    {
-        let held = self.bytes.len();
-        if end <= self.bytes.capacity() {
-            return Ok(());
-        }
-        let room = if end > self.size - end {
-            self.size
-        } else {
-            2 * end
-        };
-        self.bytes.reserve_exact(room - held)?;
-        self.have.reserve_exact(room - held)
-    }
-
-    /// Extends the buffer up to `end`, without new bytes of the message.
-    fn grow(&mut self, end: usize) -> Result<(), AllocError>
-        requires { end ≤ self.old.size }
-        ensures refused { IsErr result → self.new ≡ self.old }
-        ensures room { OnOk result (end ≤ length self.new.there) }
-        ensures same { OnOk result ((self.new.msg_type ≡ self.old.msg_type) × (self.new.size ≡ self.old.size)
-            × (self.new.message_seq ≡ self.old.message_seq)) }
-        ensures bytes { (i : ℕ) → byte self.new i ≡ byte self.old i }
-    {
-        self.reserve(end)?;
-        let held = self.bytes.len();
-        if end <= held {
-            return Ok(());
-        }
-        self.bytes.resize(end, 0)?;
-        if let Err(error) = self.have.resize(end, false) {
-            self.bytes.truncate(held);
-            return Err(error);
-        }
-        Ok(())
     }
 
     /// Adds the bytes of a fragment where none are known yet. The first bytes are kept, and so is
@@ -220,63 +156,66 @@ impl Fragments {
         if self.size != fragment.length as usize {
             return Err(FragmentError::OtherLength);
         }
-        let offset = fragment.fragment_offset as usize;
-        let end = offset + fragment.body.len();
+        let end = fragment.fragment_offset as usize + fragment.body.len();
         if end > self.size {
             return Err(FragmentError::Outside);
         }
-        self.grow(end)?;
-        self.put(offset, fragment.body);
+        self.put(fragment.fragment_offset, fragment.body)?;
         Ok(())
     }
 
     /// Copies bytes to `offset` where none are known yet.
-    fn put(&mut self, offset: usize, bytes: &[u8])
-        requires { offset + length bytes.now ≤ length self.old.there }
-        ensures same { (self.new.msg_type ≡ self.old.msg_type) × (self.new.size ≡ self.old.size)
-            × (self.new.message_seq ≡ self.old.message_seq) }
-        ensures bytes { (i : ℕ) → byte self.new i ≡ or_else (byte self.old i)
-            (given offset bytes.now (length bytes.now) i) }
+    #[tactic(auto, using(crate::proofs::HeldLemmas::put_given, crate::proofs::HeldLemmas::put_inside))]
+    fn put(&mut self, offset: u32, bytes: &[u8]) -> Result<(), AllocError>
+        requires inside { offset + length bytes.now ≤ self.old.size }
+        ensures same { OnOk result ((self.new.msg_type ≡ self.old.msg_type)
+            × (self.new.size ≡ self.old.size) × (self.new.message_seq ≡ self.old.message_seq)) }
+        ensures bytes { OnOk result ((i : ℕ) → byte self.new i ≡ or_else (byte self.old i)
+            (given offset bytes.now (length bytes.now) i)) }
+        ensures refused { IsErr result → self.new ≡ self.old }
     {
-        let filled = fill(&mut self.have, &mut self.bytes, offset, bytes);
-        self.filled += filled;
+        // (no fragment exceeds the reassembler's limit, so only memory can fail)
+        if self.segments.put(offset, bytes).is_err() {
+            return Err(AllocError);
+        }
+        Ok(())
     }
 
     /// An upper bound for the memory that it uses besides itself, in bytes: at least one for each
-    /// place.
+    /// byte that arrived.
     pub fn capacity(&self) -> usize
-        ensures { length self.now.held ≤ result }
+        ensures { length (run self.now.cells) + known_behind self.now.cells ≤ result }
     {
-        let bytes = self.bytes.capacity().max(self.bytes.len());
-        bytes.saturating_add(self.have.capacity())
+        self.segments.capacity()
     }
 
     /// The message's body, exactly if all its bytes are known.
-    #[tactic(auto, using(crate::proofs::HeldLemmas::complete_body, crate::proofs::HeldLemmas::body_complete, crate::proofs::HeldLemmas::complete_full))]
+    #[tactic(auto, using(crate::proofs::HeldLemmas::body_complete, crate::proofs::HeldLemmas::complete_full))]
     pub fn body(&self) -> Option<&[u8]>
         ensures complete { IsSome result ↔ IsComplete self.now }
         ensures body { IfSome result (λ b. IsBody self.now b.now) }
-        ensures held { IfSome result (λ b. b.now ≡ self.now.held) }
+        ensures front { IfSome result (λ b. b.now ≡ run self.now.cells) }
     {
-        if self.filled < self.size {
+        let front = self.segments.available();
+        if front.len() < self.size {
             return None;
         }
-        Some(&self.bytes)
+        Some(front)
     }
 
-    /// The message with the bytes of the buffer.
+    /// The message with the bytes that arrived in order.
     pub(crate) fn into_message(self) -> Message
         ensures { view_message result ≡ record {
           msg_type = self.msg_type;
           message_seq =
               self.message_seq;
-          body = self.held;
+          body = run self.cells;
         } }
     {
         Message {
             msg_type: self.msg_type,
             message_seq: self.message_seq,
-            body: self.bytes,
+            body: self.segments.into_available(),
         }
     }
 }

@@ -154,7 +154,7 @@ impl Waiting {
     /// Adds the bytes of a fragment at the offsets that have none yet.
     ///
     /// `AllocError` if there is no memory for them. Nothing changes then.
-    #[tactic(auto, using(crate::proofs::CountLemmas::put_bytes))]
+    #[tactic(auto, using(segments::proofs::PutLemmas::put_bytes))]
     pub(crate) fn add(&mut self, fragment: &IpFragment<'_>) -> Result<(), AllocError>
         requires short { length fragment.now.payload.now < 2 ^ 16 }
         requires light { self.old.weight < 2 ^ 40 }

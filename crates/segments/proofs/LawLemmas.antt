@@ -69,7 +69,7 @@ cell_drop (suc n) [] i = refl
 cell_drop (suc n) (c ∷ cs) i = let m : suc (n + i) ≡ suc n + i = omega arith in
     cell_drop n cs i ∙ ap (cell (c ∷ cs)) m
 
-byte_drop : (n : ℕ) (b : Bytes) (i : ℕ) → byte_at (drop n b) i ≡ byte_at b (n + i)
+pub byte_drop : (n : ℕ) (b : Bytes) (i : ℕ) → byte_at (drop n b) i ≡ byte_at b (n + i)
 byte_drop zero b i = let m : i ≡ 0 + i = omega arith in ap (byte_at b) m
 byte_drop (suc n) [] i = refl
 byte_drop (suc n) (c ∷ b) i = let m : suc (n + i) ≡ suc n + i = omega arith in

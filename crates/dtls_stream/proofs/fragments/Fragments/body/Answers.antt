@@ -1,16 +1,12 @@
-use Rattle.std.proofs.Common.{arith, sym, subst}
+use Rattle.std.proofs.Common.{subst}
 use Rattle.dtls_stream.specs.contracts.fragments.Fragments.{the_view}
-use Rattle.dtls_stream.specs.Fragments.{IsComplete}
-use Rattle.dtls_stream.proofs.HeldLemmas.{complete_full}
+use Rattle.dtls_stream.specs.Fragments.{IsBody}
+use Rattle.dtls_stream.proofs.HeldLemmas.{complete_body}
 use Rattle.dtls_stream.proofs.fragments.Fragments.body.Goals as goal
 
-pub returns-then-self-clause-complete : goal.returns-then-self-clause-complete
-returns-then-self-clause-complete c = (
-  λ e. absurd cc,
-  λ all. absurd (omega (
-    arith,
-    c.if-self.true,
-    complete_full (the_view c.self.inside) c.self.inside.filled c.self.invariant
-        (subst IsComplete (sym c.self.view_is) all),
-  )),
-)
+pub returns-clause-body : goal.returns-clause-body
+returns-clause-body c =
+    let front = c.available-front.result.now in
+    subst (λ h. IsBody h front) c.self.view_is
+    (complete_body (the_view c.self.inside) front c.available-front.ensures c.self.invariant.1
+    c.if-front-self.false)

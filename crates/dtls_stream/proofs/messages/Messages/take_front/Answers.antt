@@ -1,5 +1,6 @@
 use Rattle.std.proofs.Common.{arith, ◌≡◌, Some, subst, ◌∙◌, ap}
 use Rattle.std.proofs.lemmas.Grind.{common_steps}
+use Rattle.segments.specs.Cells.{run}
 use Rattle.dtls_stream.specs.Fragments.{IsBody}
 use Rattle.dtls_stream.specs.Messages.{slot}
 use Rattle.dtls_stream.proofs.PartLemmas.{body_held, front_none, front_some}
@@ -17,7 +18,7 @@ returns-clause-message c l h st =
     let taken : slot c.args.self.now 0 ≡ Some c.in_ok-part.part = grind (arith, common_steps) in
     let same : c.in-Some-Some.part ≡ c.in_ok-part.part = cc in
     ap Some c.into_message.ensures
-    ∙ front_some l h c.args.self.now c.in_ok-part.part c.in_ok-part.part.held st taken
-    (subst (λ p. IsBody p p.held) same
-    (body_held c.body.result c.in-Some-Some.part c.body.ensures.body c.body.ensures.held
+    ∙ front_some l h c.args.self.now c.in_ok-part.part (run c.in_ok-part.part.cells) st taken
+    (subst (λ p. IsBody p (run p.cells)) same
+    (body_held c.body.result c.in-Some-Some.part c.body.ensures.body c.body.ensures.front
     c.if-is_none.ensures))
