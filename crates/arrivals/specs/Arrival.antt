@@ -7,8 +7,7 @@ use Rattle.layouts.specs.Bytes.{Bytes}
 use Rattle.capture.specs.Options.{maximum_segment_size, option_of, timestamp, window_scale}
 use Rattle.capture.specs.declared.checksum.Checksum.{Checksum as Sum}
 use Rattle.capture.specs.declared.checksum.Checksum.TheVariants as sum
-use Rattle.capture.specs.declared.ip.Address.{Address}
-use Rattle.capture.specs.declared.ip.Address.TheVariants as address
+use Rattle.capture.specs.Ip.{Address, V4, V6}
 use Rattle.capture.specs.declared.transport.TcpSegment.{TcpSegment}
 use Rattle.capture.specs.declared.transport.UdpDatagram.{UdpDatagram}
 use Rattle.connection_parts.specs.Part.{falls_to}
@@ -43,10 +42,10 @@ five_tuple_in (arrival.Datagram d) = five_tuple_of_datagram d
 
 -- The address of the same version, whose bytes in network order are this number.
 abbrev pub IsAddress : Address → IpAddr → Type 0
-IsAddress (address.V4 n) (ip.V4 a) = IsIpv4OfBits a n
-IsAddress (address.V4 n) (ip.V6 a) = ⊥
-IsAddress (address.V6 upper lower) (ip.V4 a) = ⊥
-IsAddress (address.V6 upper lower) (ip.V6 a) = IsIpv6OfBits a (upper * 2 ^ 64 + lower)
+IsAddress (V4 n) (ip.V4 a) = IsIpv4OfBits a n
+IsAddress (V4 n) (ip.V6 a) = ⊥
+IsAddress (V6 upper lower) (ip.V4 a) = ⊥
+IsAddress (V6 upper lower) (ip.V6 a) = IsIpv6OfBits a (upper * 2 ^ 64 + lower)
 
 -- A segment is signed: by MD5 (RFC 2385, section 3) or by TCP-AO (RFC 5925, section 2.2).
 abbrev pub is_signed : Bytes → Bool

@@ -1,10 +1,14 @@
 -- What is counted.
-use Rattle.std.specs.Prelude.{ℕ, ◌+◌, ◌-◌, ◌^◌, ◌||◌, Bool, true, false, not, nat_lt, min, if◌then◌else◌, Ok, Err, [], replicate}
+use Rattle.std.specs.Prelude.{◌≡◌, ℕ, ◌+◌, ◌-◌, ◌^◌, ◌||◌, Bool, true, false, not, nat_lt, min, if◌then◌else◌, Ok, Err, [], replicate}
 use Rattle.layouts.specs.Meaning.{Answer, Broken, Lacks}
 use Rattle.layouts.specs.Reading.{reading}
 use Rattle.layouts.specs.contracts.result.ErrorKindPartialEq.TheImpl as kind_eq
 use Rattle.layouts.specs.declared.result.ErrorKind.TheVariants.{Switch}
 use Rattle.capture.specs.Link.{carried}
+use Rattle.ip_fragments.specs.declared.fragments.FragmentOutcome.{FragmentOutcome}
+use Rattle.ip_fragments.specs.declared.fragments.FragmentOutcome.TheVariants as outcome
+use Rattle.ip_fragments.specs.declared.fragments.FragmentRefusal.{FragmentRefusal}
+use Rattle.ip_fragments.specs.declared.fragments.FragmentRefusal.TheVariants as refusal
 use Rattle.arrivals.specs.declared.counts.Counts.{Counts}
 use Rattle.arrivals.specs.declared.links.OtherLinks.{OtherLinks}
 
@@ -52,6 +56,43 @@ nothing_counted = record {
   gaps = 0;
   ended_early = 0;
 }
+
+-- One more packet is counted, as what it is.
+abbrev pub with_packet_counted : Counts → Counts
+with_packet_counted c = record c { packets = one_more c.packets }
+
+abbrev pub with_unread : Counts → Counts
+with_unread c = record c { unread = one_more c.unread }
+
+abbrev pub with_other_protocol : Counts → Counts
+with_other_protocol c = record c { other_protocols = one_more c.other_protocols }
+
+abbrev pub with_deeper : Counts → Counts
+with_deeper c = record c { in_too_many_tunnels = one_more c.in_too_many_tunnels }
+
+abbrev pub with_other_part : Counts → Counts
+with_other_part c = record c { other_parts = one_more c.other_parts }
+
+-- A packet that can't be parsed is counted as such, or by its link type if that isn't supported.
+pub record CountsUnread (link_type : ℕ) (old new : Counts) : Type 0 where
+  pub same : new ≡ record old { other_links = new.other_links; unread = new.unread }
+  pub unread : is_supported link_type ≡ true → new ≡ with_unread old
+
+-- A refused fragment is counted by the reason.
+abbrev pub with_refusal : FragmentRefusal → Counts → Counts
+with_refusal refusal.TooLong c = record c { too_long = one_more c.too_long }
+with_refusal refusal.Uneven c = record c { uneven = one_more c.uneven }
+with_refusal refusal.OtherEnd c = record c { other_end = one_more c.other_end }
+
+abbrev pub with_refused : FragmentOutcome → Counts → Counts
+with_refused (outcome.Whole d) c = c
+with_refused outcome.Waits c = c
+with_refused (outcome.Refused r) c = with_refusal r c
+
+-- How many datagrams were dropped, late or for room, and how many are in reassembly.
+abbrev pub with_cut : ℕ → ℕ → ℕ → Counts → Counts
+with_cut late crowded waiting c =
+    record c { late = late; crowded = crowded; cut_short = waiting }
 
 -- How many connections that are neither TLS nor DTLS are reported.
 abbrev pub unexplained : Counts → ℕ

@@ -1,2 +1,4 @@
 pub mod Arrival
 pub mod Counts
+pub mod Reader
+pub mod Fragments

@@ -1,9 +1,10 @@
 //! What a packet brings to a connection: a TCP segment or a UDP datagram.
 ghost use Rattle.std.specs.Prelude.{◌≡◌, false, IfSome, Some};
 ghost use Rattle.capture.specs.Checksum.{checksum_of as checksum_in};
-ghost use Rattle.capture.specs.Ip.{view_datagram};
+ghost use Rattle.capture.specs.Ip.{view_address, view_datagram};
 ghost use Rattle.capture.specs.Options.{timestamp as timestamp_in};
 ghost use Rattle.arrivals.specs.Arrival.{IsAddress, counted_as, datagram_in, five_tuple_in, is_signed, options_in, segment_in, source_of, time_of};
+ghost use Rattle.arrivals.specs.Reader.{IsEnd};
 
 use capture::{
     Address, TcpSegment, UdpDatagram, maximum_segment_size, option_of, timestamp, window_scale,
@@ -82,7 +83,7 @@ impl<'a> Arrival<'a> {
 
 /// Converts an address.
 fn address(address: Address) -> IpAddr
-    ensures { IsAddress address result }
+    ensures { IsAddress (view_address address) result }
 {
     match address {
         Address::V4(n) => IpAddr::V4(Ipv4Addr::from_bits(n)),
@@ -94,8 +95,7 @@ fn address(address: Address) -> IpAddr
 
 /// Returns an end with this address and port.
 pub(crate) fn end(address_there: Address, port: u16) -> End
-    ensures address { IsAddress address_there result.address }
-    ensures port { result.port ≡ port }
+    ensures { IsEnd (view_address address_there) port result }
 {
     End {
         address: address(address_there),

@@ -1,8 +1,9 @@
 //! Counts of what was read and found, and of what was left out.
-ghost use Rattle.std.specs.Prelude.{◌≡◌, ◌∷◌, [], map, true};
-ghost use Rattle.arrivals.specs.Counts.{is_supported, nothing_counted, one_more, unexplained as unexplained_in};
+ghost use Rattle.std.specs.Prelude.{◌≡◌, ◌∷◌, [], map};
+ghost use Rattle.arrivals.specs.Counts.{nothing_counted, one_more, unexplained as unexplained_in, with_refusal, CountsUnread};
 
 use crate::links::{LinkName, OtherLinks};
+use ip_fragments::FragmentRefusal;
 use std::fmt::{self, Display, Formatter};
 use std::io;
 
@@ -150,13 +151,21 @@ impl Counts {
 
     /// Counts a packet that can't be parsed, by its link type if that is unsupported.
     pub(crate) fn add_unread(&mut self, link_type: u16)
-        ensures same { self.new ≡ record self.old
-            { other_links = self.new.other_links; unread = self.new.unread } }
-        ensures unread { is_supported link_type ≡ true
-            → self.new.unread ≡ one_more self.old.unread }
+        ensures { CountsUnread link_type self.old self.new }
     {
         if !self.other_links.add(link_type) {
             add_one(&mut self.unread);
+        }
+    }
+
+    /// Counts a refused fragment by its reason.
+    pub(crate) fn add_refused(&mut self, refusal: FragmentRefusal)
+        ensures { self.new ≡ with_refusal refusal self.old }
+    {
+        match refusal {
+            FragmentRefusal::TooLong => add_one(&mut self.too_long),
+            FragmentRefusal::Uneven => add_one(&mut self.uneven),
+            FragmentRefusal::OtherEnd => add_one(&mut self.other_end),
         }
     }
 

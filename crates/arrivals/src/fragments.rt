@@ -1,11 +1,17 @@
 //! Reassembly of fragmented datagrams.
-ghost use Rattle.std.specs.Prelude.{◌≡◌};
+ghost use Rattle.std.specs.Prelude.{◌≡◌, true, is_some, IfOk, IfSome, OnErr};
+ghost use Rattle.std.specs.Option.{option_map};
+ghost use Rattle.capture.specs.Fragment.{view_fragment};
+ghost use Rattle.capture.specs.Ip.{view_datagram};
+ghost use Rattle.packets.specs.Section.{view_packet};
+ghost use Rattle.arrivals.specs.Arrival.{time_of};
+ghost use Rattle.arrivals.specs.Fragments.{counting_cut, datagram_of as datagram_of_whole, fragment_in as fragment_in_packet, fragment_inside, Joins, JoinsOne, LeavesOutFound, LeavesOutOne, ReadsWhole};
 
 use crate::arrival::Arrival;
 use crate::counts::add_one;
 use crate::reader::ArrivalReader;
 use capture::{IpDatagram, IpFragment, parse_joined};
-use ip_fragments::{FragmentOutcome, FragmentRefusal, ReassembledDatagram};
+use ip_fragments::{FragmentOutcome, ReassembledDatagram};
 use packets::Packet;
 use std::alloc::AllocError;
 use std::mem;
@@ -22,7 +28,9 @@ pub struct CompletedDatagram {
 
 impl CompletedDatagram {
     /// Parses the datagram; `None` if its content is malformed.
-    fn datagram(&self) -> Option<IpDatagram<'_>> {
+    fn datagram(&self) -> Option<IpDatagram<'_>>
+        ensures { option_map view_datagram result ≡ datagram_of_whole self.now }
+    {
         let whole = &self.whole;
         let read = parse_joined(
             &whole.payload,
@@ -34,6 +42,16 @@ impl CompletedDatagram {
         match read {
             Ok((_, datagram)) => Some(datagram),
             Err(_) => None,
+        }
+    }
+
+    /// Returns the fragment in the datagram, behind a tunnel; `None` if there is none.
+    fn fragment(&self) -> Option<IpFragment<'_>>
+        ensures { option_map view_fragment result ≡ fragment_inside self.now }
+    {
+        match self.datagram() {
+            Some(datagram) => fragment_in(datagram, &self.tunnels),
+            None => None,
         }
     }
 
@@ -53,29 +71,34 @@ impl ArrivalReader {
         time: u64,
         tunnels: Tunnels,
         fragment: &IpFragment<'_>,
-    ) -> Result<Option<CompletedDatagram>, AllocError> {
-        let refusal = match self.fragments.add(time, fragment)? {
-            FragmentOutcome::Whole(whole) => {
-                return Ok(Some(CompletedDatagram {
-                    whole,
-                    time,
-                    tunnels,
-                }));
+    ) -> Result<Option<CompletedDatagram>, AllocError>
+        ensures joins { IfOk result (JoinsOne time tunnels fragment.now self.old self.new) }
+        ensures err { OnErr result (LeavesOutOne time fragment.now self.old self.new) }
+    {
+        match self.fragments.add(time, fragment)? {
+            FragmentOutcome::Whole(whole) => Ok(Some(CompletedDatagram {
+                whole,
+                time,
+                tunnels,
+            })),
+            FragmentOutcome::Waits => Ok(None),
+            FragmentOutcome::Refused(refusal) => {
+                self.counts.add_refused(refusal);
+                Ok(None)
             }
-            FragmentOutcome::Waits => return Ok(None),
-            FragmentOutcome::Refused(refusal) => refusal,
-        };
-        match refusal {
-            FragmentRefusal::TooLong => add_one(&mut self.counts.too_long),
-            FragmentRefusal::Uneven => add_one(&mut self.counts.uneven),
-            FragmentRefusal::OtherEnd => add_one(&mut self.counts.other_end),
         }
-        Ok(None)
     }
 
     /// Adds the fragment in a packet without an arrival to its datagram. Returns the datagram once
     /// it is complete, or `None` if the packet has no fragment.
-    pub fn join(&mut self, packet: Packet<'_>) -> Result<Option<CompletedDatagram>, AllocError> {
+    ///
+    /// `AllocError` if there is no memory for the fragment. It is left out then.
+    pub fn join(&mut self, packet: Packet<'_>) -> Result<Option<CompletedDatagram>, AllocError>
+        ensures joins { IfOk result (Joins self.old.is_cut packet.entry.time
+            (fragment_in_packet (view_packet packet.entry)) self.old self.new) }
+        ensures err { OnErr result (LeavesOutFound packet.entry.time
+            (fragment_in_packet (view_packet packet.entry)) self.old self.new) }
+    {
         if !mem::replace(&mut self.is_cut, false) {
             return Ok(None);
         }
@@ -96,7 +119,13 @@ impl ArrivalReader {
         &mut self,
         packet: Packet<'_>,
         joined: &'a CompletedDatagram,
-    ) -> Result<Option<Arrival<'a>>, AllocError> {
+    ) -> Result<Option<Arrival<'a>>, AllocError>
+        ensures reads { IfOk result (ReadsWhole (view_packet packet.entry) joined.now.tunnels
+            (datagram_of_whole joined.now) self.old self.new) }
+        ensures time { IfOk result
+            (λ arrival. IfSome arrival (λ a. time_of a ≡ packet.entry.time)) }
+        ensures fails { OnErr result (is_some self.old.networks ≡ true) }
+    {
         let Some(datagram) = joined.datagram() else {
             add_one(&mut self.counts.unread);
             return Ok(None);
@@ -111,15 +140,16 @@ impl ArrivalReader {
     pub fn join_inner(
         &mut self,
         joined: &CompletedDatagram,
-    ) -> Result<Option<CompletedDatagram>, AllocError> {
+    ) -> Result<Option<CompletedDatagram>, AllocError>
+        ensures joins { IfOk result (Joins self.old.is_cut joined.now.time
+            (fragment_inside joined.now) self.old self.new) }
+        ensures err { OnErr result (LeavesOutFound joined.now.time
+            (fragment_inside joined.now) self.old self.new) }
+    {
         if !mem::replace(&mut self.is_cut, false) {
             return Ok(None);
         }
-        let fragment = match joined.datagram() {
-            Some(datagram) => fragment_in(datagram, &joined.tunnels),
-            None => None,
-        };
-        match fragment {
+        match joined.fragment() {
             Some(fragment) => self.join_fragment(joined.time, self.tunnels, &fragment),
             None => {
                 add_one(&mut self.counts.unread);
@@ -129,7 +159,9 @@ impl ArrivalReader {
     }
 
     /// Counts the datagrams that were dropped, and those in reassembly at the end of the capture.
-    pub fn count_cut(&mut self) {
+    pub fn count_cut(&mut self)
+        ensures { self.new ≡ counting_cut self.old }
+    {
         self.counts.late = self.fragments.late();
         self.counts.crowded = self.fragments.crowded();
         self.counts.cut_short = self.fragments.len() as u64;

@@ -3,9 +3,10 @@
 //! [`ArrivalReader`] parses each packet down to its innermost datagram, in tunnels and fragments
 //! too, and returns it as an [`Arrival`]. [`Counts`] has what was read and what was left out.
 //!
-//! Promise: `Arrival` in `specs/` defines each field of an arrival from the parsed headers, and
-//! `Counts` what counts as supported. That each packet is parsed once, and counted under the right
-//! reason, has no clauses, only tests.
+//! Promise: `Reader.Reads` in `specs/` defines what a packet brings, and what is counted without an
+//! arrival; `Fragments.Joins` and `ReadsWhole` what becomes of fragments; `Arrival` each field, and
+//! `Counts` what counts as supported. Under which row an unsupported link type is counted has no
+//! clause, only tests.
 #![tactic(auto)]
 
 mod arrival;

@@ -1,6 +1,14 @@
 //! Finds the segment or datagram of each packet.
-ghost use Rattle.std.specs.Prelude.{◌≡◌};
-ghost use Rattle.arrivals.specs.Arrival.{is_logged};
+ghost use Rattle.std.specs.Prelude.{◌≡◌, true, if◌then◌else◌, is_some, IfNone, IfOk, IfSome, OnErr, OnOk, Some};
+ghost use Rattle.capture.specs.Ip.{view_datagram};
+ghost use Rattle.capture.specs.Transport.{view_segment, view_datagram as view_user_datagram};
+ghost use Rattle.capture.specs.Transport as content;
+ghost use Rattle.networks.specs.Networks.{none_held};
+ghost use Rattle.packets.specs.Section.{view_packet};
+ghost use Rattle.tunnels.specs.Walk.{view_inside, Held};
+ghost use Rattle.arrivals.specs.Arrival.{is_logged, time_of};
+ghost use Rattle.arrivals.specs.Counts.{with_other_part};
+ghost use Rattle.arrivals.specs.Reader.{IsNew, IsNumbered, Reads, ReadsContent, ReadsInside};
 
 use crate::arrival::{Arrival, Checksums, checksum_of, datagram_of, end, segment_of};
 use crate::counts::{Counts, add_one};
@@ -35,7 +43,9 @@ pub struct ArrivalReader {
 impl ArrivalReader {
     /// Returns the reader of a capture of which nothing was read. `keys` keys the hashes of its
     /// table of fragments.
-    pub fn new(alloc: Global, keys: RandomState) -> Result<ArrivalReader, AllocError> {
+    pub fn new(alloc: Global, keys: RandomState) -> Result<ArrivalReader, AllocError>
+        ensures { IfOk result (λ reader. IsNew reader) }
+    {
         Ok(ArrivalReader {
             alloc,
             fragments: FragmentTable::new(alloc, keys)?,
@@ -49,25 +59,39 @@ impl ArrivalReader {
     }
 
     /// Sets which checksums count. The default is [`Checksums::Auto`].
-    pub fn set_checksums(&mut self, checksums: Checksums) {
+    pub fn set_checksums(&mut self, checksums: Checksums)
+        ensures { self.new ≡ record self.old { checksums = checksums } }
+    {
         self.checksums = checksums;
     }
 
     /// Returns only arrivals of connections of this part. The default is all.
-    pub fn set_part(&mut self, part: Part) {
+    pub fn set_part(&mut self, part: Part)
+        ensures { self.new ≡ record self.old { part = Some part } }
+    {
         self.part = Some(part);
     }
 
     /// Tells connections with the same ends in several networks apart. The default is not to.
     /// `keys` keys the hashes of the table of networks.
-    pub fn separate_networks(&mut self, keys: RandomState) -> Result<(), AllocError> {
+    pub fn separate_networks(&mut self, keys: RandomState) -> Result<(), AllocError>
+        ensures separated { OnOk result
+            (self.new ≡ record self.old { networks = Some none_held }) }
+        ensures err { OnErr result (self.new ≡ self.old) }
+    {
         self.networks = Some(Networks::new(self.alloc, keys)?);
         Ok(())
     }
 
     /// Returns the number of the last packet's network; 0 if networks aren't told apart.
     #[inline(always)]
-    fn network(&mut self, packet: Packet<'_>) -> Result<u64, AllocError> {
+    fn network(&mut self, packet: Packet<'_>) -> Result<u64, AllocError>
+        ensures number { IfOk result (IsNumbered (view_packet packet.entry) self.old.tunnels
+            self.old.networks self.new.networks) }
+        ensures same { self.new ≡ record self.old { networks = self.new.networks } }
+        ensures err { OnErr result (self.new ≡ self.old) }
+        ensures fails { OnErr result (is_some self.old.networks ≡ true) }
+    {
         if self.networks.is_none() {
             return Ok(0);
         }
@@ -75,28 +99,39 @@ impl ArrivalReader {
     }
 
     /// Returns the number of the last packet's network, when networks are told apart.
-    fn number_of_network(&mut self, packet: Packet<'_>) -> Result<u64, AllocError> {
+    fn number_of_network(&mut self, packet: Packet<'_>) -> Result<u64, AllocError>
+        ensures number { IfOk result (IsNumbered (view_packet packet.entry) self.old.tunnels
+            self.old.networks self.new.networks) }
+        ensures same { self.new ≡ record self.old { networks = self.new.networks } }
+        ensures err { OnErr result (self.new ≡ self.old) }
+        ensures fails { OnErr result (is_some self.old.networks ≡ true) }
+    {
+        let network = Network {
+            vlans: vlan_tags(packet.bytes, packet.link_type),
+            tunnels: self.tunnels,
+        };
         match &mut self.networks {
-            Some(networks) => networks.number(Network {
-                vlans: vlan_tags(packet.bytes, packet.link_type),
-                tunnels: self.tunnels,
-            }),
+            Some(networks) => networks.number(network),
             None => Ok(0),
         }
     }
 
     /// Returns whether connections between these ends are logged. Counts a packet of others.
     fn is_of_part(&mut self, protocol: Protocol, source: End, destination: End) -> bool
-        ensures { result ≡ is_logged self.old.part protocol source destination }
+        ensures is { result ≡ is_logged self.old.part protocol source destination }
+        ensures counts { self.new ≡ (if result then self.old
+            else record self.old { counts = with_other_part self.old.counts }) }
+        ensures tunnels { self.new.tunnels ≡ self.old.tunnels }
     {
         let is_logged = match &self.part {
             Some(part) => part.has(protocol, source, destination),
             None => true,
         };
-        if !is_logged {
-            add_one(&mut self.counts.other_parts);
+        if is_logged {
+            return true;
         }
-        is_logged
+        add_one(&mut self.counts.other_parts);
+        false
     }
 
     /// Returns what arrives with a packet's innermost content. `None` if that is no datagram, which
@@ -106,7 +141,14 @@ impl ArrivalReader {
         &mut self,
         packet: Packet<'_>,
         inside: &Inside<'a>,
-    ) -> Result<Option<Arrival<'a>>, AllocError> {
+    ) -> Result<Option<Arrival<'a>>, AllocError>
+        ensures reads { IfOk result
+            (ReadsInside (view_packet packet.entry) (view_inside inside.now) self.old self.new) }
+        ensures time { IfOk result
+            (λ arrival. IfSome arrival (λ a. time_of a ≡ packet.entry.time)) }
+        ensures fails { OnErr result (is_some self.old.networks ≡ true) }
+        ensures tunnels { self.new.tunnels ≡ self.old.tunnels }
+    {
         match inside {
             Inside::Datagram(datagram) => return self.arrival_of(packet, datagram),
             Inside::Other => add_one(&mut self.counts.other_protocols),
@@ -123,7 +165,15 @@ impl ArrivalReader {
         packet: Packet<'_>,
         datagram: &capture::IpDatagram<'a>,
         tcp: &TcpSegment<'a>,
-    ) -> Result<Option<Arrival<'a>>, AllocError> {
+    ) -> Result<Option<Arrival<'a>>, AllocError>
+        ensures reads { IfOk result
+            (ReadsContent (view_packet packet.entry) (view_datagram datagram.now)
+            (content.Tcp (view_segment tcp.now)) self.old self.new) }
+        ensures time { IfOk result
+            (λ arrival. IfSome arrival (λ a. time_of a ≡ packet.entry.time)) }
+        ensures fails { OnErr result (is_some self.old.networks ≡ true) }
+        ensures tunnels { self.new.tunnels ≡ self.old.tunnels }
+    {
         let source = end(datagram.source, tcp.source);
         let destination = end(datagram.destination, tcp.destination);
         if !self.is_of_part(Protocol::Tcp, source, destination) {
@@ -141,7 +191,15 @@ impl ArrivalReader {
         packet: Packet<'_>,
         datagram: &capture::IpDatagram<'a>,
         udp: &UdpDatagram<'a>,
-    ) -> Result<Option<Arrival<'a>>, AllocError> {
+    ) -> Result<Option<Arrival<'a>>, AllocError>
+        ensures reads { IfOk result
+            (ReadsContent (view_packet packet.entry) (view_datagram datagram.now)
+            (content.Udp (view_user_datagram udp.now)) self.old self.new) }
+        ensures time { IfOk result
+            (λ arrival. IfSome arrival (λ a. time_of a ≡ packet.entry.time)) }
+        ensures fails { OnErr result (is_some self.old.networks ≡ true) }
+        ensures tunnels { self.new.tunnels ≡ self.old.tunnels }
+    {
         let source = end(datagram.source, udp.source);
         let destination = end(datagram.destination, udp.destination);
         if !self.is_of_part(Protocol::Udp, source, destination) {
@@ -149,8 +207,8 @@ impl ArrivalReader {
         }
         let network = self.network(packet)?;
         let checksum = checksum_of(datagram, self.checksums);
-        let datagram = datagram_of(packet.time, network, source, destination, udp, checksum);
-        Ok(Some(Arrival::Datagram(datagram)))
+        let arrived = datagram_of(packet.time, network, source, destination, udp, checksum);
+        Ok(Some(Arrival::Datagram(arrived)))
     }
 
     /// Returns the TCP segment or UDP datagram of a packet. `None` if it has none that can be
@@ -158,7 +216,12 @@ impl ArrivalReader {
     /// goes to [`ArrivalReader::join`].
     ///
     /// `AllocError` if networks are told apart and there is no memory for another one.
-    pub fn arrival<'a>(&mut self, packet: Packet<'a>) -> Result<Option<Arrival<'a>>, AllocError> {
+    pub fn arrival<'a>(&mut self, packet: Packet<'a>) -> Result<Option<Arrival<'a>>, AllocError>
+        ensures reads { IfOk result (Reads (view_packet packet.entry) self.old self.new) }
+        ensures time { IfOk result
+            (λ arrival. IfSome arrival (λ a. time_of a ≡ packet.entry.time)) }
+        ensures fails { OnErr result (is_some self.old.networks ≡ true) }
+    {
         add_one(&mut self.counts.packets);
         let inside = innermost_into(packet.bytes, packet.link_type, &mut self.tunnels);
         self.arrival_inside(packet, &inside)
@@ -168,7 +231,13 @@ impl ArrivalReader {
     /// connections logged and networks not told apart. For any other packet it returns `None` and
     /// counts nothing, and [`ArrivalReader::arrival`] has the answer.
     #[inline(always)]
-    pub fn plain_arrival<'a>(&mut self, packet: Packet<'a>) -> Option<Arrival<'a>> {
+    pub fn plain_arrival<'a>(&mut self, packet: Packet<'a>) -> Option<Arrival<'a>>
+        ensures reads { IfSome result
+            (λ arrival. Reads (view_packet packet.entry) self.old self.new (Some arrival)) }
+        ensures time { IfSome result (λ arrival. time_of arrival ≡ packet.entry.time) }
+        ensures none { IfNone result
+            (self.new ≡ record self.old { tunnels = self.new.tunnels }) }
+    {
         if self.part.is_some() || self.networks.is_some() {
             return None;
         }
@@ -195,7 +264,15 @@ impl ArrivalReader {
         &mut self,
         packet: Packet<'_>,
         datagram: &capture::IpDatagram<'a>,
-    ) -> Result<Option<Arrival<'a>>, AllocError> {
+    ) -> Result<Option<Arrival<'a>>, AllocError>
+        ensures reads { IfOk result
+            (ReadsInside (view_packet packet.entry) (Held (view_datagram datagram.now)) self.old
+            self.new) }
+        ensures time { IfOk result
+            (λ arrival. IfSome arrival (λ a. time_of a ≡ packet.entry.time)) }
+        ensures fails { OnErr result (is_some self.old.networks ≡ true) }
+        ensures tunnels { self.new.tunnels ≡ self.old.tunnels }
+    {
         match &datagram.content {
             Content::Tcp(tcp) => return self.segment(packet, datagram, tcp),
             Content::Udp(udp) => return self.user_datagram(packet, datagram, udp),

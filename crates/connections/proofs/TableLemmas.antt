@@ -1,7 +1,7 @@
 -- What a table by five-tuple holds after a step.
 use Rattle.std.proofs.Common.{◌≡◌, ℕ, zero, suc, ◌-◌, ◌≤◌, true, false, Option, Some, None, List, [], ◌∷◌, ◌++◌, length}
 use Rattle.std.proofs.Common.{take, slice_get, refl, sym, ap, ◌∙◌, subst, arith, rules, Bool, cond}
-use Rattle.std.specs.Prelude.{OnErr, Result, Ok, Err}
+use Rattle.std.specs.Prelude.{IfSome, OnErr, Result, Ok, Err}
 use Rattle.std.specs.Map.{lookup_entry, set_value}
 use Rattle.lru.specs.LruCache.{LruCache, promoted, put_entries, last_entry}
 use Rattle.connections.specs.FiveTuple.{is_five_tuple}
@@ -9,11 +9,13 @@ use Rattle.connections.specs.Lends.{with_first}
 use Rattle.connections.specs.Datagram.{five_tuple_of_datagram}
 use Rattle.connections.specs.Segment.{five_tuple_of}
 use Rattle.std.specs.Option.{option_map}
-use Rattle.connections.specs.Connection.{another_of, opening_of, without_syns, Begins, IsAfter, IsAnew, IsBare, LeavesOut, Shows}
-use Rattle.connections.specs.Table.{another_in, at, changing, changing_at, others, with_other, BeginsAfter, ComesFirst, IsAnewAt, LeavesOutAt, Replaced, Replaces, Table, WasLast, IsOver, IsForgotten, IsPut}
+use Rattle.connections.specs.Connection.{another_of, opening_of, shows_damage, side_of, without_syns, Begins, IsAfter, IsAnew, IsBare, LeavesOut, Shows}
+use Rattle.connections.specs.Table.{another_in, at, changing, changing_at, others, with_other, BeginsAfter, ComesFirst, HasBegun, HasBegunBy, IsAnewAt, LeavesOutAt, Replaced, Replaces, Table, WasLast, IsOver, IsForgotten, IsPut}
 use Rattle.connections.specs.Table.IsForgotten.{one}
 use Rattle.connections.specs.declared.datagram.Datagram.{Datagram}
 use Rattle.connections.specs.declared.five_tuple.FiveTuple.{FiveTuple}
+use Rattle.connections.specs.declared.five_tuple.Protocol.{Protocol}
+use Rattle.connections.specs.declared.five_tuple.Protocol.TheVariants.{Udp}
 use Rattle.connections.specs.declared.connection.Beginning.{Beginning}
 use Rattle.connections.specs.declared.connection.Connection.{Connection}
 use Rattle.connections.specs.declared.segment.Segment.{Segment}
@@ -86,6 +88,19 @@ module _ {X : Type 0} (e : FiveTuple) where
       → promoted (is_five_tuple e) xs ≡ xs
   promoted_first [] f h same = cc
   promoted_first (y ∷ xs) f h same = let first : y ≡ f = cc in rw (first, same) refl
+
+  -- A value that was put first, or written in its place, is the one of this five-tuple.
+  pub at_first : (xs : List (FiveTuple × X)) (w : X) → at e ((e, w) ∷ xs) ≡ Some w
+  at_first xs w = rw (is_five_tuple-refl e)
+
+  pub at_written : (xs : List (FiveTuple × X)) (x w : X) → at e xs ≡ Some x
+      → at e (set_value (is_five_tuple e) xs w) ≡ Some w
+  at_written [] x w h = cc
+  at_written (f ∷ xs) x w h = (elim (is_five_tuple e f.0) as
+      (λ y. is_five_tuple e f.0 ≡ y → at e (set_value (is_five_tuple e) (f ∷ xs) w) ≡ Some w) [
+        | true ↦ λ t. rw (t, t) refl
+        | false ↦ λ t. rw (t, t) (at_written xs x w (rw t at h))
+      ]) refl
 
   -- The others of a first entry are those behind it.
   pub others-first : (xs : List (FiveTuple × X)) (w : X) → others e ((e, w) ∷ xs) ≡ xs
@@ -279,3 +294,62 @@ module _ {T : Type 0} where
   pub stands_first : (e : FiveTuple) (old : Table T) (c w : Connection T) → Some c ≡ at e old.live
       → (with_first e w old).live ≡ (e, w) ∷ others e old.live
   stands_first e old c w h = written e old.live c w (sym h)
+
+-- A value that is there isn't missing.
+pub never_none : {A P : Type 0} → (o : Option A) (x : A) → Some x ≡ o → o ≡ None → P
+never_none o x some none =
+    let no : ◌≡◌ {A = Option _} (Some x) None = some ∙ none in absurd cc
+
+module _ {T : Type 0} (IsBegun : Protocol → T → Type 0) where
+  -- A connection that comes first has the value that it began with.
+  pub begun_first : (p : Protocol) (e : FiveTuple) (xs ys : List (FiveTuple × Connection T))
+      (w : Connection T) → ys ≡ (e, w) ∷ xs → IsBegun p w.attachment → HasBegun IsBegun p e ys
+  begun_first p e xs ys w stands begun =
+      subst (λ o. IfSome o (λ c. IsBegun p c.attachment))
+      (sym (ap (at e) stands ∙ at_first e xs w)) begun
+
+  -- One that takes the place of another.
+  pub begun_written : (p : Protocol) (e : FiveTuple) (xs : List (FiveTuple × Connection T))
+      (c w : Connection T) → Some c ≡ at e xs → IsBegun p w.attachment
+      → HasBegun IsBegun p e (set_value (is_five_tuple e) xs w)
+  begun_written p e xs c w found begun =
+      subst (λ o. IfSome o (λ c. IsBegun p c.attachment))
+      (sym (at_written e xs c w (sym found))) begun
+
+  -- One that takes the place of another, and comes first.
+  pub begun_promoted : (p : Protocol) (e : FiveTuple) (xs : List (FiveTuple × Connection T))
+      (c w : Connection T) → Some c ≡ at e xs → IsBegun p w.attachment
+      → HasBegun IsBegun p e (set_value (is_five_tuple e) (promoted (is_five_tuple e) xs) w)
+  begun_promoted p e xs c w found begun =
+      begun_first p e (others e xs) (set_value (is_five_tuple e) (promoted (is_five_tuple e) xs) w)
+      w (written e xs c w (sym found)) begun
+
+  -- A connection that restarts.
+  pub begun_anew : (e : FiveTuple) (xs : List (FiveTuple × Connection T)) (c w : Connection T)
+      → Some c ≡ at e xs → IsBegun c.protocol w.attachment
+      → IfSome (at e xs)
+      (λ x. HasBegun IsBegun x.protocol e (set_value (is_five_tuple e) xs w))
+  begun_anew e xs c w found begun =
+      subst (λ o. IfSome o
+      (λ x. HasBegun IsBegun x.protocol e (set_value (is_five_tuple e) xs w))) found
+      (begun_written c.protocol e xs c w found begun)
+
+  -- An exchange that takes a datagram, or begins with one.
+  pub begun_in : (d : Datagram) (xs : List (FiveTuple × Connection T)) (c w : Connection T)
+      → Some c ≡ at (five_tuple_of_datagram d) xs
+      → (shows_damage (side_of c d.source) d.checksum c ≡ true → IsBegun c.protocol w.attachment)
+      → HasBegunBy IsBegun d (at (five_tuple_of_datagram d) xs)
+      (set_value (is_five_tuple (five_tuple_of_datagram d))
+      (promoted (is_five_tuple (five_tuple_of_datagram d)) xs) w)
+  begun_in d xs c w found begun =
+      subst (λ o. HasBegunBy IsBegun d o
+      (set_value (is_five_tuple (five_tuple_of_datagram d))
+      (promoted (is_five_tuple (five_tuple_of_datagram d)) xs) w)) found
+      (λ shown. begun_promoted c.protocol (five_tuple_of_datagram d) xs c w found (begun shown))
+
+  pub begun_new : (d : Datagram) (xs ys zs : List (FiveTuple × Connection T)) (w : Connection T)
+      → None ≡ at (five_tuple_of_datagram d) xs → ys ≡ (five_tuple_of_datagram d, w) ∷ zs
+      → IsBegun Udp w.attachment → HasBegunBy IsBegun d (at (five_tuple_of_datagram d) xs) ys
+  begun_new d xs ys zs w none stands begun =
+      subst (λ o. HasBegunBy IsBegun d o ys) none
+      (begun_first Udp (five_tuple_of_datagram d) zs ys w stands begun)

@@ -9,9 +9,11 @@ use Rattle.connections.specs.declared.pending.PendingOutcome.{PendingOutcome}
 use Rattle.connections.specs.declared.receiver.DropReason.{DropReason}
 use Rattle.connections.specs.Datagram.{five_tuple_of_datagram}
 use Rattle.connections.specs.Segment.{begins, begins_one, five_tuple_of}
-use Rattle.connections.specs.Connection.{another_of, begun_by_datagram, dropped_from, dropping, is_closed, opening_of, pending_outcome, side_of, with_waiting, without_earlier, without_pending, without_syns, Accepts, AcceptsKept, Begins, IsAfter, IsAnew, IsBare, IsBegunBy, LeavesOut, LeavesOutKept, Shows, TakesDatagramIn}
+use Rattle.connections.specs.Connection.{another_of, begun_by_datagram, dropped_from, dropping, is_closed, opening_of, pending_outcome, shows_damage, side_of, with_waiting, without_earlier, without_pending, without_syns, Accepts, AcceptsKept, Begins, IsAfter, IsAnew, IsBare, IsBegunBy, LeavesOut, LeavesOutKept, Shows, TakesDatagramIn}
 use Rattle.connections.specs.declared.datagram.Datagram.{Datagram}
 use Rattle.connections.specs.declared.five_tuple.FiveTuple.{FiveTuple}
+use Rattle.connections.specs.declared.five_tuple.Protocol.{Protocol}
+use Rattle.connections.specs.declared.five_tuple.Protocol.TheVariants.{Udp}
 use Rattle.connections.specs.declared.segment.Header.{Header}
 use Rattle.connections.specs.declared.segment.Segment.{Segment}
 use Rattle.connections.specs.declared.connection.Connection.{Connection}
@@ -89,6 +91,20 @@ module _ {T : Type 0} where
   abbrev pub TakesDatagram : Datagram → Option (Connection T) → Connection T → Type 0
   TakesDatagram d (Some c) its = TakesDatagramIn d c its
   TakesDatagram d None its = its ≡ begun_by_datagram d its.attachment
+
+  -- The caller's value of a five-tuple's connection is one that it began with, for this protocol.
+  abbrev pub HasBegun : (Protocol → T → Type 0) → Protocol → FiveTuple
+      → List (FiveTuple × Connection T) → Type 0
+  HasBegun IsBegun p e xs = IfSome (at e xs) (λ c. IsBegun p c.attachment)
+
+  -- So it is in an exchange that a datagram begins, or restarts: it shows that everything before it
+  -- was damaged.
+  abbrev pub HasBegunBy : (Protocol → T → Type 0) → Datagram → Option (Connection T)
+      → List (FiveTuple × Connection T) → Type 0
+  HasBegunBy IsBegun d None xs = HasBegun IsBegun Udp (five_tuple_of_datagram d) xs
+  HasBegunBy IsBegun d (Some c) xs =
+      shows_damage (side_of c d.source) d.checksum c ≡ true
+      → HasBegun IsBegun c.protocol (five_tuple_of_datagram d) xs
 
   -- Another connection has this five-tuple, in the same position. All others stay.
   abbrev pub with_other : FiveTuple → Connection T → Table T → Table T

@@ -50,6 +50,7 @@ impl<T: Attachment> Connection<T> {
     fn note(&mut self, side: Side, segment: &Segment<'_>, judgement: Judgement)
         ensures noted { self.new ≡ noting_from side judgement segment.now self.old }
         ensures weight { self.new.weight ≡ self.old.weight }
+        ensures attachment { self.new.attachment ≡ self.old.attachment }
     {
         let is_new = judgement != Judgement::Again;
         let checksum = segment.checksum;
@@ -76,6 +77,7 @@ impl<T: Attachment> Connection<T> {
         ensures taken { OnOk result (Puts segment.now self.old self.new) }
         ensures left_out { OnErr result (self.new ≡ without_bytes segment.now self.old) }
         ensures weight { self.new.weight ≡ self.old.weight }
+        ensures attachment { self.new.attachment ≡ self.old.attachment }
     {
         match self.side_of(segment.source) {
             Side::Originator => {
@@ -101,6 +103,7 @@ impl<T: Attachment> Connection<T> {
     fn count(&mut self, side: Side, segment: &Segment<'_>)
         ensures counted { self.new ≡ counted_from side segment.now self.old }
         ensures weight { self.new.weight ≡ self.old.weight }
+        ensures attachment { self.new.attachment ≡ self.old.attachment }
     {
         self.last_time = segment.time;
         match side {
@@ -116,6 +119,7 @@ impl<T: Attachment> Connection<T> {
         ensures taken { OnOk result (Accepts segment.now self.old self.new) }
         ensures left_out { OnErr result (LeavesOut segment.now self.old self.new) }
         ensures weight { self.new.weight ≡ self.old.weight }
+        ensures attachment { self.new.attachment ≡ self.old.attachment }
     {
         let side = self.side_of(segment.source);
         let judgement = self.judge_from(side, segment);
@@ -141,6 +145,7 @@ impl<T: Attachment> Connection<T> {
         ensures stays { IfOk result (λ outcome. IfSome outcome (λ verdict. self.new ≡ self.old)) }
         ensures left_out { OnErr result (LeavesOut segment.now self.old self.new) }
         ensures weight { self.new.weight ≡ self.old.weight }
+        ensures attachment { self.new.attachment ≡ self.old.attachment }
     {
         let side = self.side_of(segment.source);
         let verdict = self.verdict_from(side, segment);
@@ -164,6 +169,7 @@ impl<T: Attachment> Connection<T> {
         ensures taken { OnOk result (Accepts segment.now self.old self.new) }
         ensures left_out { OnErr result (LeavesOut segment.now self.old self.new) }
         ensures weight { self.new.weight ≡ self.old.weight }
+        ensures attachment { self.new.attachment ≡ self.old.attachment }
     {
         self.count(side, segment);
         self.note(side, segment, judgement);
@@ -186,6 +192,7 @@ impl<T: Attachment> Connection<T> {
         ensures left_out { OnErr result
             (self.new ≡ without_bytes (part_by judgement segment.now) self.old) }
         ensures weight { self.new.weight ≡ self.old.weight }
+        ensures attachment { self.new.attachment ≡ self.old.attachment }
     {
         match judgement {
             Judgement::Again if !segment.has_data() => Ok(()),
@@ -206,6 +213,7 @@ impl<T: Attachment> Connection<T> {
         ensures taken { OnOk result (PutsSyn judgement segment.now self.old self.new) }
         ensures left_out { OnErr result (LeavesOutSyn judgement segment.now self.old self.new) }
         ensures weight { self.new.weight ≡ self.old.weight }
+        ensures attachment { self.new.attachment ≡ self.old.attachment }
     {
         self.keep_data_of_syn(alloc, segment, judgement)?;
         self.put(alloc, &segment.without_data())

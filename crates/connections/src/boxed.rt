@@ -3,6 +3,7 @@ ghost use Rattle.std.specs.Prelude.{◌≡◌, IfOk};
 ghost use Rattle.std.specs.Borrow.{sem};
 ghost use Rattle.connections.specs.Connection.{Begins};
 ghost use Rattle.connections.specs.Lends.{lends_all};
+ghost use Rattle.connections.specs.declared.five_tuple.Protocol.TheVariants.{Tcp};
 
 use crate::connection::{Attachment, Beginning, Connection};
 use std::alloc::{AllocError, Global};
@@ -38,6 +39,7 @@ impl<T: Attachment> Boxed<T> {
     pub(crate) fn of_beginning(alloc: Global, beginning: &Beginning) -> Result<Boxed<T>, AllocError>
         ensures begun { IfOk result (λ its. Begins beginning.now its) }
         ensures weight { IfOk result (λ its. its.weight ≡ 0) }
+        ensures attached { IfOk result (λ its. T.IsBegun Tcp its.attachment) }
     {
         let mut connection = Boxed::new(alloc, Connection::of_segment(alloc, &beginning.first))?;
         connection.get_mut().accept(alloc, &beginning.first)?;

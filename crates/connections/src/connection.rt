@@ -1,8 +1,10 @@
 //! A TCP connection or a UDP exchange.
-ghost use Rattle.std.specs.Prelude.{◌≡◌, ◌≤◌, ◌^◌, ℕ, IfSome, true, false, [], ◌&&◌, is_some};
+ghost use Rattle.std.specs.Prelude.{◌≡◌, ◌≤◌, ◌^◌, ℕ, IfSome, true, false, [], ◌&&◌, is_some, ⊤};
 ghost use Rattle.std.specs.Option.{option_map};
 ghost use Rattle.connections.specs.Segment.{header_of};
 ghost use Rattle.connections.specs.Waiting.{syn_in};
+ghost use Rattle.connections.specs.declared.five_tuple.Protocol.{Protocol};
+ghost use Rattle.connections.specs.declared.five_tuple.Protocol.TheVariants.{Tcp};
 ghost use Rattle.connections.specs.Connection.{another_of, answers_this as answers_it, confirms as confirms_answer, dropped_by, dropped_from, goes_on_behind, has_opening, hosts_from as hosts_at, hosts_of, is_alone, is_apart as is_apart_from, is_closed, is_far as is_far_from, is_heeded as is_heeded_by, judgement_from, judgement_of, last_of, lets_in as lets_it_in, opening_by, opening_of, sent_by, shows_damage as is_shown_damaged, side_of, silent, stream_of, verdict_from, IsAnew, IsBare, IsBegunBy, IsKept, Shows};
 
 use crate::dropped::Dropped;
@@ -17,8 +19,12 @@ use std::alloc::Global;
 
 /// A caller's value that goes with a connection.
 pub trait Attachment: Drop {
+    /// What the value of a new connection is, by protocol.
+    ghost IsBegun: { Protocol → Self → Type 0 } = { λ _ _. ⊤ };
+
     /// Returns the value for a new connection.
-    fn begin(alloc: Global, protocol: Protocol) -> Self;
+    fn begin(alloc: Global, protocol: Protocol) -> Self
+        ensures { IsBegun protocol result };
 
     /// The most bytes of memory that it may take, itself included.
     ghost most_bytes: { Self → ℕ } = { λ _. 2 ^ 64 };
@@ -168,7 +174,8 @@ impl<T: Attachment> Connection<T> {
         responder: End,
         time: u64,
     ) -> Connection<T>
-        ensures { result ≡ silent protocol originator responder time result.attachment }
+        ensures is { result ≡ silent protocol originator responder time result.attachment }
+        ensures attached { T.IsBegun protocol result.attachment }
     {
         Connection {
             protocol,
@@ -193,7 +200,8 @@ impl<T: Attachment> Connection<T> {
     /// Returns a connection that begins with this segment, whose data isn't added yet. The sender
     /// of a SYN-ACK is the responder.
     pub(crate) fn of_segment(alloc: Global, segment: &Segment<'_>) -> Connection<T>
-        ensures { IsBegunBy segment.now result }
+        ensures begun { IsBegunBy segment.now result }
+        ensures attached { T.IsBegun Tcp result.attachment }
     {
         let (originator, responder) = if segment.answers() {
             (segment.destination, segment.source)
@@ -389,7 +397,8 @@ impl<T: Attachment> Connection<T> {
     /// Restarts the connection, since nobody took what came before. That is counted; the accounted
     /// memory stays.
     pub(crate) fn restart(&mut self, alloc: Global, time: u64)
-        ensures { IsAnew time self.old self.new }
+        ensures anew { IsAnew time self.old self.new }
+        ensures attached { T.IsBegun self.old.protocol self.new.attachment }
     {
         let mut fresh = Connection::new(
             alloc,

@@ -1,7 +1,8 @@
 //! UDP exchanges: connections whose packets have no sequence numbers.
-ghost use Rattle.std.specs.Prelude.{◌≡◌};
+ghost use Rattle.std.specs.Prelude.{◌≡◌, true};
+ghost use Rattle.connections.specs.declared.five_tuple.Protocol.TheVariants.{Udp};
 ghost use Rattle.connections.specs.declared.receiver.DropReason.TheVariants as reason;
-ghost use Rattle.connections.specs.Connection.{begun_by_datagram, dropped_from, is_datagram_damaged, side_of, with_datagram, IsAfter, TakesDatagramIn};
+ghost use Rattle.connections.specs.Connection.{begun_by_datagram, dropped_from, is_datagram_damaged, shows_damage as is_shown_damaged, side_of, with_datagram, IsAfter, TakesDatagramIn};
 
 use crate::connection::{Attachment, Connection, Side};
 use crate::datagram::Datagram;
@@ -15,6 +16,7 @@ impl<T: Attachment> Connection<T> {
     pub(crate) fn of_datagram(alloc: Global, datagram: &Datagram<'_>) -> Connection<T>
         ensures begun { result ≡ begun_by_datagram datagram.now result.attachment }
         ensures weight { result.weight ≡ 0 }
+        ensures attached { T.IsBegun Udp result.attachment }
     {
         let mut exchange = Connection::new(
             alloc,
@@ -30,7 +32,8 @@ impl<T: Attachment> Connection<T> {
     /// Returns another exchange between the same ends, which this datagram begins. It isn't counted
     /// yet. What is known about both ends' checksums stays.
     pub(crate) fn after(&self, alloc: Global, datagram: &Datagram<'_>) -> Connection<T>
-        ensures { IsAfter datagram.now self.now result }
+        ensures after { IsAfter datagram.now self.now result }
+        ensures attached { T.IsBegun Udp result.attachment }
     {
         let (sender, receiver) = self.hosts_from(self.side_of(datagram.source));
         let mut exchange = Connection::new(
@@ -65,6 +68,7 @@ impl<T: Attachment> Connection<T> {
     pub(crate) fn accept_datagram(&mut self, datagram: &Datagram<'_>)
         ensures counted { self.new ≡ with_datagram datagram.now self.old }
         ensures weight { self.new.weight ≡ self.old.weight }
+        ensures attachment { self.new.attachment ≡ self.old.attachment }
     {
         self.last_time = datagram.time;
         match self.side_of(datagram.source) {
@@ -86,6 +90,8 @@ impl<T: Attachment> Connection<T> {
     pub fn take_datagram(&mut self, alloc: Global, datagram: &Datagram<'_>)
         ensures taken { TakesDatagramIn datagram.now self.old self.new }
         ensures weight { self.new.weight ≡ self.old.weight }
+        ensures attached { is_shown_damaged (side_of self.old datagram.now.source)
+            datagram.now.checksum self.old ≡ true → T.IsBegun self.old.protocol self.new.attachment }
     {
         if self.shows_damage(self.side_of(datagram.source), datagram.checksum) {
             self.restart(alloc, datagram.time);

@@ -1,10 +1,11 @@
 //! The table of connections.
-ghost use Rattle.std.specs.Prelude.{◌≡◌, ◌-◌, ◌^◌, ◌≤◌, length, true, false, IfOk, IfSome, IfNone, IsNone, OnErr, OnOk, [], ◌∷◌};
+ghost use Rattle.std.specs.Prelude.{◌≡◌, ◌-◌, ◌^◌, ◌≤◌, length, true, false, None, IfOk, IfSome, IfNone, IsNone, OnErr, OnOk, [], ◌∷◌};
 ghost use Rattle.std.specs.Borrow.{sem};
 ghost use Rattle.std.specs.Option.{option_copied_mut, option_map};
 ghost use Rattle.connections.specs.Segment.{five_tuple_of};
-ghost use Rattle.connections.specs.Table.{at, belongs, closed_behind, ended, others, promoting, pending_outcome_in, with_dropped_segment, with_waiting_segment, without_earlier_syn, without_ended, without_pending_segment, AcceptsPending, BeginsAfter, BeginsFirst, IsForgotten, IsOver, IsOverAmong, IsPut, LeavesOutAt, LeavesOutPending, NoneIsOver, NoneToForget, Puts, Replaced, Restarts, TakesDatagram, WasLast};
+ghost use Rattle.connections.specs.Table.{at, belongs, closed_behind, ended, others, promoting, pending_outcome_in, with_dropped_segment, with_waiting_segment, without_earlier_syn, without_ended, without_pending_segment, AcceptsPending, BeginsAfter, BeginsFirst, HasBegun, HasBegunBy, IsForgotten, IsOver, IsOverAmong, IsPut, LeavesOutAt, LeavesOutPending, NoneIsOver, NoneToForget, Puts, Replaced, Restarts, TakesDatagram, WasLast};
 ghost use Rattle.connections.specs.Memory.{IsAccounted};
+ghost use Rattle.connections.specs.declared.five_tuple.Protocol.TheVariants.{Tcp, Udp};
 ghost use Rattle.connections.specs.Datagram.{five_tuple_of_datagram};
 ghost use Rattle.connections.specs.Lends.{lends_connection, lends_first};
 
@@ -140,6 +141,8 @@ impl<T: Attachment> Connections<T> {
     /// before it was damaged and nobody took it.
     pub fn restart(&mut self, segment: &Segment<'_>)
         ensures restarts { Restarts segment.now self.old self.new }
+        ensures attached { IfSome (at (five_tuple_of segment.now) self.old.live)
+            (λ c. HasBegun T.IsBegun c.protocol (five_tuple_of segment.now) self.new.live) }
         ensures accounted { IsAccounted self.old → IsAccounted self.new }
     {
         let (alloc, five_tuple) = (self.alloc, segment.between());
@@ -199,6 +202,7 @@ impl<T: Attachment> Connections<T> {
     /// Adds a connection that begins with a segment.
     fn begin(&mut self, five_tuple: FiveTuple, segment: &Segment<'_>) -> Result<(), AllocError>
         ensures begun { OnOk result (BeginsFirst segment.now five_tuple self.old self.new) }
+        ensures attached { OnOk result (HasBegun T.IsBegun Tcp five_tuple self.new.live) }
         ensures err { OnErr result (self.new ≡ self.old) }
         ensures accounted { at five_tuple self.old.live ≡ None → IsAccounted self.old
             → IsAccounted self.new }
@@ -227,6 +231,8 @@ impl<T: Attachment> Connections<T> {
         ensures left_out { OnErr result
             (LeavesOutAt segment.now (at (five_tuple_of segment.now) self.old.live) self.old.live
             self.new.live) }
+        ensures attached { OnOk result (at (five_tuple_of segment.now) self.old.live ≡ None
+            → HasBegun T.IsBegun Tcp (five_tuple_of segment.now) self.new.live) }
         ensures closed { IfOk result
             (λ belongs_to_one.
             self.new.closed ≡ closed_behind belongs_to_one segment.now self.old) }
@@ -253,6 +259,8 @@ impl<T: Attachment> Connections<T> {
         ensures put { OnOk result
             (IsPut (five_tuple_of_datagram datagram.now) (TakesDatagram datagram.now) self.old.live
             self.new.live) }
+        ensures attached { OnOk result (HasBegunBy T.IsBegun datagram.now
+            (at (five_tuple_of_datagram datagram.now) self.old.live) self.new.live) }
         ensures err { OnErr result (self.new.live ≡ self.old.live) }
         ensures closed { self.new.closed ≡ self.old.closed }
         ensures accounted { IsAccounted self.old → IsAccounted self.new }
@@ -321,6 +329,8 @@ impl<T: Attachment> Connections<T> {
         ensures left { OnOk result
             (BeginsAfter datagram.now (at (five_tuple_of_datagram datagram.now) self.old.live)
             self.old self.new) }
+        ensures attached { OnOk result
+            (HasBegun T.IsBegun Udp (five_tuple_of_datagram datagram.now) self.new.live) }
         ensures err { OnErr result (self.new ≡ self.old) }
         ensures accounted { IsAccounted self.old → IsAccounted self.new }
     {
@@ -390,6 +400,9 @@ impl<T: Attachment> Connections<T> {
     ) -> Result<Option<Box<Connection<T>>>, AllocError>
         ensures replaced { IfOk result
             (λ taken. Replaced segment.now self.old self.new (option_map (λ b. b.value) taken)) }
+        ensures attached { IfOk result (λ taken. IfSome taken
+            (λ b. HasBegun T.IsBegun Tcp (five_tuple_of segment.now) self.new.live)) }
+        ensures err { OnErr result (self.new ≡ self.old) }
         ensures accounted { IsAccounted self.old → IsAccounted self.new }
     {
         let five_tuple = segment.between();

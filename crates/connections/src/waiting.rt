@@ -86,6 +86,7 @@ impl<T: Attachment> Connection<T> {
         ensures keeps { OnOk result (self.new ≡ keeping_data judgement segment.now self.old) }
         ensures err { OnErr result (self.new ≡ self.old) }
         ensures weight { self.new.weight ≡ self.old.weight }
+        ensures attachment { self.new.attachment ≡ self.old.attachment }
     {
         if judgement == Judgement::Taken && segment.has_data() {
             self.waiting
@@ -202,7 +203,7 @@ impl<T: Attachment> Connection<T> {
     }
 
     /// Adds a pending segment to its sender's stream. A SYN's data was counted with the SYN.
-    pub(crate) fn accept_pending(
+    pub fn accept_pending(
         &mut self,
         alloc: Global,
         kept: &PendingSegment,

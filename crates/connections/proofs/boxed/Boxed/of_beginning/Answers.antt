@@ -6,7 +6,7 @@ use Rattle.connections.proofs.boxed.Boxed.of_beginning.Goals as goal
 pub returns-in-None-clause-begun : goal.returns-in-None-clause-begun
 returns-in-None-clause-begun g c =
     began c.args.beginning.now c.of_segment.result c.accept.new.self c.accept.new.self
-    c.of_segment.ensures
+    c.of_segment.ensures.begun
     (subst (λ x. Accepts c.args.beginning.now.first x c.accept.new.self)
     (c.get_mut.ensures.value ∙ c.in_ok-connection.ensures) c.in_ok-accept.ensures.taken)
     None (sym c.in-None.is) refl
@@ -14,7 +14,7 @@ returns-in-None-clause-begun g c =
 pub returns-in_ok-accept-in-Some-clause-begun : goal.returns-in_ok-accept-in-Some-clause-begun
 returns-in_ok-accept-in-Some-clause-begun g c =
     began c.args.beginning.now c.of_segment.result c.accept.new.self c.accept-in-Some.new.self
-    c.of_segment.ensures
+    c.of_segment.ensures.begun
     (subst (λ x. Accepts c.args.beginning.now.first x c.accept.new.self)
     (c.get_mut.ensures.value ∙ c.in_ok-connection.ensures) c.in_ok-accept.ensures.taken)
     (Some c.in-Some.answer) (sym c.in-Some.is)

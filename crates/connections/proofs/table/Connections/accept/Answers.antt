@@ -1,9 +1,9 @@
 use Rattle.std.proofs.Common.{sym, ap, ◌∙◌, subst}
 use Rattle.connections.specs.Connection.{Accepts, LeavesOut}
 use Rattle.connections.specs.Segment.{five_tuple_of}
-use Rattle.connections.specs.Table.{others, TakesSegment}
+use Rattle.connections.specs.Table.{at, others, TakesSegment}
 use Rattle.connections.proofs.MemoryLemmas.{accounted_written}
-use Rattle.connections.proofs.TableLemmas.{put_in, put_new, left_in, on_err, written, others-first}
+use Rattle.connections.proofs.TableLemmas.{put_in, put_new, left_in, never_none, on_err, written, others-first}
 use Rattle.connections.proofs.table.Connections.accept.Goals as goal
 
 pub returns-in_err-accept-clause-others : goal.returns-in_err-accept-clause-others
@@ -81,3 +81,13 @@ returns-in-Some-clause-accounted g c =
 pub returns-clause-accounted : goal.returns-clause-accounted
 returns-clause-accounted g c =
     rw (← c.self.view_is) (c.begin.ensures.accounted (sym c.in_default.ensures.value))
+
+pub returns-in-Some-clause-attached : goal.returns-in-Some-clause-attached
+returns-in-Some-clause-attached g c =
+    rw (c.between-five_tuple.ensures, ← c.self.view_is)
+    (never_none (at (five_tuple_of c.args.segment.now) c.self.inside.live.entries)
+    c.in-Some.connection.now (rw c.between-five_tuple.ensures at c.in-Some.ensures.value))
+
+pub returns-clause-attached : goal.returns-clause-attached
+returns-clause-attached g c none =
+    rw c.between-five_tuple.ensures at c.in_ok-begin.ensures.attached

@@ -3,8 +3,9 @@ use Rattle.std.proofs.lemmas.Map.Steps.{set_value_same}
 use Rattle.connections.specs.Connection.{IsAfter}
 use Rattle.connections.specs.Datagram.{five_tuple_of_datagram}
 use Rattle.connections.specs.FiveTuple.{is_five_tuple}
+use Rattle.connections.specs.declared.five_tuple.Protocol.TheVariants.{Udp}
 use Rattle.connections.proofs.MemoryLemmas.{accounted_replaced, accounted_with}
-use Rattle.connections.proofs.TableLemmas.{after_at, on_err}
+use Rattle.connections.proofs.TableLemmas.{after_at, begun_written, on_err}
 use Rattle.connections.proofs.table.Connections.take_exchange.Goals as goal
 
 pub returns-in_err-another-clause-err : goal.returns-in_err-another-clause-err
@@ -51,7 +52,7 @@ returns-clause-left g c =
     })
     c.in-Some.exchange.now c.after.result c.saturating_sub-self-inside.result
     (rw c.between-five_tuple.ensures at c.in-Some.ensures.value)
-    (subst (λ x. IsAfter c.args.datagram.now x c.after.result) c.get.ensures c.after.ensures)
+    (subst (λ x. IsAfter c.args.datagram.now x c.after.result) c.get.ensures c.after.ensures.after)
     (rw (c.deref.ensures, c.into_box-over.ensures, c.replace.ensures.value) at
     c.saturating_sub-self-inside.ensures))
 
@@ -72,6 +73,13 @@ returns-clause-accounted g c =
     })
     c.in-Some.exchange.now c.after.result c.saturating_sub-self-inside.result
     (rw c.between-five_tuple.ensures at c.in-Some.ensures.value)
-    (ap (λ x. x.weight) c.after.ensures)
+    (ap (λ x. x.weight) c.after.ensures.after)
     (rw (c.deref.ensures, c.into_box-over.ensures, c.replace.ensures.value) at
     c.saturating_sub-self-inside.ensures))
+
+pub returns-clause-attached : goal.returns-clause-attached
+returns-clause-attached g c =
+    rw (c.between-five_tuple.ensures, c.replace.ensures.after, c.in_ok-another.ensures)
+    (begun_written g.T.Attachment.IsBegun Udp (five_tuple_of_datagram c.args.datagram.now)
+    c.self.inside.live.entries c.in-Some.exchange.now c.after.result
+    (rw c.between-five_tuple.ensures at c.in-Some.ensures.value) c.after.ensures.attached)

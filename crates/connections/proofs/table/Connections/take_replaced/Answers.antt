@@ -2,8 +2,9 @@ use Rattle.std.proofs.Common.{ap, ◌∙◌}
 use Rattle.connections.specs.Connection.{without_syns}
 use Rattle.connections.specs.Segment.{five_tuple_of}
 use Rattle.connections.specs.declared.connection.Connection.{Connection}
+use Rattle.connections.specs.declared.five_tuple.Protocol.TheVariants.{Tcp}
 use Rattle.connections.proofs.MemoryLemmas.{accounted_replaced_first}
-use Rattle.connections.proofs.TableLemmas.{replaced_by}
+use Rattle.connections.proofs.TableLemmas.{begun_promoted, replaced_by}
 use Rattle.connections.proofs.table.Connections.take_replaced.Goals as goal
 
 pub returns-clause-replaced : goal.returns-clause-replaced
@@ -43,3 +44,11 @@ returns-clause-accounted g c =
     (rw c.between-five_tuple.ensures at c.in-Some-get_mut.ensures.value)
     c.in_ok-another.ensures.weight
     (rw (c.deref.ensures, same) at c.saturating_sub-self-inside.ensures))
+
+pub returns-clause-attached : goal.returns-clause-attached
+returns-clause-attached g c =
+    rw (c.between-five_tuple.ensures, c.replace.ensures.after)
+    (begun_promoted g.T.Attachment.IsBegun Tcp (five_tuple_of c.args.segment.now)
+    c.self.inside.live.entries c.in-Some-get_mut.place.now c.in_ok-another.another
+    (rw c.between-five_tuple.ensures at c.in-Some-get_mut.ensures.value)
+    c.in_ok-another.ensures.attached)

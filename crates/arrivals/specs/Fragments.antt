@@ -1,0 +1,93 @@
+-- Fragments that a reader finds, and the datagrams that they complete.
+use Rattle.std.specs.Prelude.{◌≡◌, ◌≤◌, ℕ, Bool, true, false, Option, Some, None, Ok, Err, length}
+use Rattle.std.specs.Option.{option_and_then}
+use Rattle.layouts.specs.Meaning.{Answer}
+use Rattle.layouts.specs.Reading.{reading}
+use Rattle.capture.specs.Fragment.{Fragment, joined, view_fragment}
+use Rattle.capture.specs.Ip.{Datagram, view_address}
+use Rattle.capture.specs.declared.fragment.IpFragment.{IpFragment}
+use Rattle.ip_fragments.specs.Table.{Adds, LeavesOut}
+use Rattle.ip_fragments.specs.declared.fragments.FragmentOutcome.{FragmentOutcome}
+use Rattle.ip_fragments.specs.declared.fragments.FragmentOutcome.TheVariants as outcome
+use Rattle.packets.specs.Section.{Packet}
+use Rattle.tunnels.specs.Fragments.{fragment_in_datagram, fragment_in_packet, unwrapped_in}
+use Rattle.tunnels.specs.declared.tunnel.Tunnels.{Tunnels}
+use Rattle.arrivals.specs.Counts.{with_cut, with_refused, with_unread}
+use Rattle.arrivals.specs.Reader.{ReadsUnwrapped}
+use Rattle.arrivals.specs.declared.arrival.Arrival.{Arrival}
+use Rattle.arrivals.specs.declared.fragments.CompletedDatagram.{CompletedDatagram}
+use Rattle.arrivals.specs.declared.reader.ArrivalReader.{ArrivalReader}
+
+-- The datagram that a fragment completed, if it did, with the fragment's time and tunnels.
+abbrev pub completed : ℕ → Tunnels → FragmentOutcome → Option CompletedDatagram
+completed time tunnels (outcome.Whole d) =
+    Some (record { whole = d; time = time; tunnels = tunnels })
+completed time tunnels outcome.Waits = None
+completed time tunnels (outcome.Refused r) = None
+
+-- A fragment is added to its datagram. A refused one is counted.
+pub record JoinsOne (time : ℕ) (tunnels : Tunnels) (f : IpFragment) (old new : ArrivalReader)
+    (whole : Option CompletedDatagram) : Type 0 where
+  pub said : FragmentOutcome
+  pub adds : Adds time f said old.fragments new.fragments
+  pub is : whole ≡ completed time tunnels said
+  pub same : new ≡ record old {
+    fragments = new.fragments;
+    counts = with_refused said old.counts;
+  }
+
+-- Without memory it is left out.
+pub record LeavesOutOne (time : ℕ) (f : IpFragment) (old new : ArrivalReader) : Type 0 where
+  pub leaves : LeavesOut time f old.fragments new.fragments
+  pub same : new ≡ record old { fragments = new.fragments }
+
+-- The fragment that was found is joined. Without one the packet counts as malformed.
+abbrev pub JoinsFound : ℕ → Option Fragment → ArrivalReader → ArrivalReader
+    → Option CompletedDatagram → Type 0
+JoinsFound time None old new whole =
+    (whole ≡ None) × (new ≡ record old { counts = with_unread old.counts })
+JoinsFound time (Some x) old new whole =
+    (f : IpFragment) × (view_fragment f ≡ x) × JoinsOne time old.tunnels f old new whole
+
+-- It is, if the last content was a fragment. That is no longer noted then.
+abbrev pub Joins : Bool → ℕ → Option Fragment → ArrivalReader → ArrivalReader
+    → Option CompletedDatagram → Type 0
+Joins false time found old new whole = (whole ≡ None) × (new ≡ record old { is_cut = false })
+Joins true time found old new whole = JoinsFound time found (record old { is_cut = false }) new whole
+
+abbrev pub LeavesOutFound : ℕ → Option Fragment → ArrivalReader → ArrivalReader → Type 0
+LeavesOutFound time None old new = ⊥
+LeavesOutFound time (Some x) old new =
+    (f : IpFragment) × (view_fragment f ≡ x) × LeavesOutOne time f (record old { is_cut = false }) new
+
+-- A reassembled datagram; none if its content is malformed.
+abbrev pub datagram_by : Answer Datagram → Option Datagram
+datagram_by (Ok x) = Some x.0
+datagram_by (Err e) = None
+
+abbrev pub datagram_of : CompletedDatagram → Option Datagram
+datagram_of c = datagram_by (reading
+    (joined (view_address c.whole.source) (view_address c.whole.destination) c.whole.protocol
+    c.whole.is_header_right) c.whole.payload.items)
+
+-- The fragment in a packet, and in a reassembled datagram.
+abbrev pub fragment_in : Packet → Option Fragment
+fragment_in p = fragment_in_packet p.link_type p.bytes
+
+abbrev pub fragment_inside : CompletedDatagram → Option Fragment
+fragment_inside c = option_and_then (fragment_in_datagram c.tunnels) (datagram_of c)
+
+-- What a reassembled datagram brings, which is read behind its tunnels. At most 8 tunnels are
+-- followed.
+abbrev pub ReadsWhole : Packet → Tunnels → Option Datagram → ArrivalReader → ArrivalReader
+    → Option Arrival → Type 0
+ReadsWhole p tunnels None old new a =
+    (a ≡ None) × (new ≡ record old { counts = with_unread old.counts })
+ReadsWhole p tunnels (Some d) old new a =
+    tunnels.count ≤ 8 → ReadsUnwrapped p (unwrapped_in tunnels d) old new a
+
+-- Datagrams that were dropped, and those that are still in reassembly, are counted.
+abbrev pub counting_cut : ArrivalReader → ArrivalReader
+counting_cut r = record r {
+  counts = with_cut r.fragments.late r.fragments.crowded (length r.fragments.waiting) r.counts;
+}
