@@ -203,11 +203,7 @@ impl<T: Attachment> Connection<T> {
     }
 
     /// Adds a pending segment to its sender's stream. A SYN's data was counted with the SYN.
-    pub fn accept_pending(
-        &mut self,
-        alloc: Global,
-        kept: &PendingSegment,
-    ) -> Result<(), AllocError>
+    pub fn accept_pending(&mut self, alloc: Global, kept: &PendingSegment) -> Result<(), AllocError>
         ensures taken { OnOk result (AcceptsKept kept.now self.old self.new) }
         ensures left_out { OnErr result (LeavesOutKept kept.now self.old self.new) }
         ensures weight { self.new.weight ≡ self.old.weight }
