@@ -57,12 +57,13 @@ Exits old new exit.Clean = IsReadWhole old new
 Exits old new exit.Broken = HasNoWholeCapture old
 Exits old new e = ⊤
 
--- The exit fits the failure.
+-- The exit fits the failure. A failure other than `Closed` may exit as `Failed`, since the message
+-- may not be printed.
 abbrev pub ExitsBy : Failure → Exit → Type 0
 ExitsBy f exit.Clean = ⊥
 ExitsBy f exit.Closed = f ≡ Closed
 ExitsBy f exit.Broken = IsOfCapture f
-ExitsBy f exit.Failed = ⊤
+ExitsBy f exit.Failed = f ≡ Closed → ⊥
 
 -- It isn't a capture that is at fault.
 abbrev pub IsNotOfCapture : Exit → Type 0

@@ -1,5 +1,5 @@
 //! The captures that the command line names.
-use crate::progress::{ProgressReader, STANDARD_INPUT, Source};
+use crate::progress::{CaptureInput, ProgressReader, STANDARD_INPUT};
 use std::fs;
 use std::io::{self, ErrorKind, Read};
 use std::rt::Runtime;
@@ -13,7 +13,7 @@ pub const DASH: &str = "-";
 /// Opens captures by their numbers.
 pub trait Opener {
     /// What a capture is read from.
-    type Opened: Read + Source + Drop;
+    type Opened: Read + CaptureInput + Drop;
 
     /// The name of the capture with that number, counted from 0; `None` after the last.
     fn name(&self, number: usize) -> Option<&str>;
@@ -46,8 +46,8 @@ impl<'a, R: Runtime> Opener for Files<'a, R> {
         let Some(path) = self.paths.get(number) else {
             return Err(io::Error::from(ErrorKind::NotFound));
         };
-        let place = if *path == DASH { STANDARD_INPUT } else { path };
-        let file = fs::open(self.rt, place)?;
-        Ok(ProgressReader::new(self.rt, path, place, file))
+        let opened = if *path == DASH { STANDARD_INPUT } else { path };
+        let file = fs::open(self.rt, opened)?;
+        Ok(ProgressReader::new(self.rt, path, opened, file))
     }
 }

@@ -116,6 +116,10 @@ impl Display for Failure {
 }
 
 impl From<AllocError> for Failure {
+    ghost use Rattle.log_io.specs.declared.failure.Failure.TheVariants.{OutOfMemory};
+
+    ghost from_gives = { λ _ f. f ≡ OutOfMemory };
+
     fn from(_e: AllocError) -> Failure {
         Failure::OutOfMemory
     }

@@ -1,4 +1,6 @@
 //! The first bytes of a source, and why they begin no capture.
+ghost use Rattle.std.specs.Prelude.{◌≡◌, ◌+◌, ◌-◌, ◌^◌, length, min};
+
 use std::fmt::{self, Display, Formatter};
 
 /// How many of the first bytes are kept.
@@ -81,8 +83,10 @@ pub struct FirstBytes {
 }
 
 impl FirstBytes {
-    /// Returns the front of a source from which nothing was read.
-    pub fn new() -> FirstBytes {
+    /// Returns the first bytes of a source from which nothing was read.
+    pub fn new() -> FirstBytes
+        ensures { result.read ≡ 0 }
+    {
         FirstBytes {
             bytes: [0; KEPT],
             read: 0,
@@ -90,7 +94,9 @@ impl FirstBytes {
     }
 
     /// Returns how many bytes were read.
-    pub fn read(&self) -> u64 {
+    pub fn read(&self) -> u64
+        ensures { result ≡ self.now.read }
+    {
         self.read
     }
 
@@ -105,7 +111,9 @@ impl FirstBytes {
     }
 
     /// Adds bytes that were read after the ones before.
-    pub fn add(&mut self, bytes: &[u8]) {
+    pub fn add(&mut self, bytes: &[u8])
+        ensures { self.new.read ≡ min (self.old.read + length bytes.now) (2 ^ 64 - 1) }
+    {
         let kept = self.kept();
         if kept < KEPT {
             for (place, byte) in self.bytes.iter_mut().skip(kept).zip(bytes) {

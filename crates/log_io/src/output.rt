@@ -1,14 +1,17 @@
 //! Writes lines.
-ghost use Rattle.std.specs.Prelude.{◌≡◌, ◌++◌, [], ◌∷◌, false, OnOk};
+ghost use Rattle.std.specs.Prelude.{◌≡◌, ◌↔◌, ◌++◌, [], ◌∷◌, Some, false, IfNone, IfSome, OnOk};
+ghost use Rattle.std.specs.IoError.{error_kind, raw_os_error};
+ghost use Rattle.std.specs.declared.io.ErrorKind.TheVariants.{BrokenPipe};
 ghost use Rattle.std.specs.Io.KnownBytes.{Appends};
-ghost use Rattle.log_io.specs.Output.{IsOfWriting, Tells};
+ghost use Rattle.log_io.specs.Output.{AppendsFormatted, AppendsLine, IsOfWriting, TracksFailure};
+ghost use Rattle.log_io.specs.declared.output.LineError.TheVariants.{Closed};
 
 use std::alloc::{AllocError, Global};
 use std::io::{self, ErrorKind, Write};
 use std::mem;
 
 /// The largest line, in bytes, whose memory is kept for the next one.
-const MOST_ROOM: usize = 16_384;
+const LONGEST_KEPT: usize = 16_384;
 
 /// Why the system refused a write. It is smaller than an `io::Error`, since logging a packet
 /// returns it.
@@ -20,7 +23,10 @@ pub struct WriteError {
 
 impl WriteError {
     /// Keeps an error, without its message if that isn't the system's.
-    fn of(e: &io::Error) -> WriteError {
+    fn of(e: &io::Error) -> WriteError
+        ensures kind { result.kind ≡ error_kind e.now }
+        ensures code { result.code ≡ raw_os_error e.now }
+    {
         WriteError {
             kind: e.kind(),
             code: e.raw_os_error(),
@@ -28,7 +34,10 @@ impl WriteError {
     }
 
     /// Returns the error.
-    pub fn error(&self) -> io::Error {
+    pub fn error(&self) -> io::Error
+        ensures code { IfSome self.now.code (λ code. raw_os_error result ≡ Some code) }
+        ensures kind { IfNone self.now.code (error_kind result ≡ self.now.kind) }
+    {
         match self.code {
             Some(code) => io::Error::from_raw_os_error(code),
             None => io::Error::from(self.kind),
@@ -58,13 +67,13 @@ impl From<AllocError> for LineError {
 }
 
 /// Returns why a write failed, by its error.
-fn refused_by(e: &io::Error) -> LineError
-    ensures { IsOfWriting result }
+fn line_error(e: &io::Error) -> LineError
+    ensures writing { IsOfWriting result }
+    ensures closed { (result ≡ Closed) ↔ (error_kind e.now ≡ BrokenPipe) }
 {
-    if e.kind() == ErrorKind::BrokenPipe {
-        LineError::Closed
-    } else {
-        LineError::Writing(WriteError::of(e))
+    match e.kind() {
+        ErrorKind::BrokenPipe => LineError::Closed,
+        _ => LineError::Writing(WriteError::of(e)),
     }
 }
 
@@ -75,7 +84,7 @@ pub struct Output<W> {
     writer: W,
     has_failed: bool,
     // The memory of the last line, for the next one.
-    room: Vec<u8>,
+    buffer: Vec<u8>,
 }
 
 impl<W: Write> Output<W> {
@@ -88,7 +97,7 @@ impl<W: Write> Output<W> {
             alloc,
             writer,
             has_failed: false,
-            room: Vec::new(alloc),
+            buffer: Vec::new(alloc),
         }
     }
 
@@ -100,20 +109,20 @@ impl<W: Write> Output<W> {
     }
 
     /// Takes the memory of the last line, which is empty; none if that line was long.
-    pub fn room(&mut self) -> Vec<u8>
-        ensures same { self.new ≡ record self.old { room = self.new.room } }
+    pub fn take_buffer(&mut self) -> Vec<u8>
+        ensures same { self.new ≡ record self.old { buffer = self.new.buffer } }
     {
-        mem::replace(&mut self.room, Vec::new(self.alloc))
+        mem::replace(&mut self.buffer, Vec::new(self.alloc))
     }
 
     /// Keeps the memory of a line unless it is long.
-    fn keep_room(&mut self, line: Vec<u8>)
-        ensures same { self.new ≡ record self.old { room = self.new.room } }
+    fn keep_buffer(&mut self, line: Vec<u8>)
+        ensures same { self.new ≡ record self.old { buffer = self.new.buffer } }
     {
-        if line.capacity() <= MOST_ROOM {
+        if line.capacity() <= LONGEST_KEPT {
             let mut line = line;
             line.clear();
-            self.room = line;
+            self.buffer = line;
         }
     }
 
@@ -122,7 +131,7 @@ impl<W: Write> Output<W> {
         ensures written { OnOk result
             (Appends (W.contents self.old.writer) (W.contents self.new.writer)
             (line.items ++ 10 ∷ [])) }
-        ensures told { Tells self.old.has_failed self.new.has_failed result }
+        ensures failure { TracksFailure self.old.has_failed self.new.has_failed result }
     {
         let mut line = line;
         if line.push(b'\n').is_err() {
@@ -130,19 +139,24 @@ impl<W: Write> Output<W> {
         }
         match self.writer.write_all(line.as_slice()) {
             Ok(()) => {
-                self.keep_room(line);
+                self.keep_buffer(line);
                 Ok(())
             }
             Err(e) => {
                 self.has_failed = true;
-                Err(refused_by(&e))
+                Err(line_error(&e))
             }
         }
     }
 
     /// Writes a line with a line break, unless memory ran out for the line.
-    pub fn write_made(&mut self, line: Result<Vec<u8>, AllocError>) -> Result<(), LineError>
-        ensures told { Tells self.old.has_failed self.new.has_failed result }
+    #[tactic(auto, using(crate::proofs::WriteLemmas::one_line))]
+    pub fn write_formatted(&mut self, line: Result<Vec<u8>, AllocError>) -> Result<(), LineError>
+        ensures written { OnOk result
+            (AppendsFormatted (W.contents self.old.writer) (W.contents self.new.writer) line) }
+        ensures one { OnOk result
+            (AppendsLine (W.contents self.old.writer) (W.contents self.new.writer)) }
+        ensures failure { TracksFailure self.old.has_failed self.new.has_failed result }
     {
         match line {
             Ok(line) => self.write_line(line),

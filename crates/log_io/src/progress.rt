@@ -1,4 +1,4 @@
-//! Sources that show their progress and keep their first bytes.
+//! Inputs that show their progress and keep their first bytes.
 use crate::front::FirstBytes;
 use std::fs;
 use std::io::{self, Read};
@@ -24,8 +24,8 @@ const STEP: u64 = 16 * MEGABYTE;
 /// The shortest time between two lines of progress, in milliseconds.
 const PAUSE: u64 = 2_000;
 
-/// A source of a capture.
-pub trait Source {
+/// An input that a capture is read from.
+pub trait CaptureInput {
     /// Returns its first bytes, and how many were read.
     fn front(&self) -> FirstBytes;
 }
@@ -106,7 +106,7 @@ fn rate_of(read: u64, milliseconds: u64) -> u64 {
     }
 }
 
-/// A source that shows its progress on standard error and keeps its first bytes.
+/// An input that shows its progress on standard error and keeps its first bytes.
 #[derive(Drop)]
 pub struct ProgressReader<'a, R, I> {
     rt: &'a R,
@@ -117,7 +117,7 @@ pub struct ProgressReader<'a, R, I> {
 }
 
 impl<'a, R: Runtime, I: Read> ProgressReader<'a, R, I> {
-    /// Wraps a source with its name in messages and the path where it lies.
+    /// Wraps an input with its name in messages and its path.
     pub fn new(rt: &'a R, name: &'a str, path: &str, source: I) -> ProgressReader<'a, R, I> {
         ProgressReader {
             rt,
@@ -159,7 +159,7 @@ impl<'a, R: Runtime, I: Read> Read for ProgressReader<'a, R, I> {
     }
 }
 
-impl<'a, R, I> Source for ProgressReader<'a, R, I> {
+impl<'a, R, I> CaptureInput for ProgressReader<'a, R, I> {
     fn front(&self) -> FirstBytes {
         self.front
     }

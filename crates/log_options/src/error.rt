@@ -1,4 +1,7 @@
 //! Why the value of an option is refused.
+ghost use Rattle.std.specs.Prelude.{◌≡◌};
+ghost use Rattle.log_options.specs.Status.{status_of};
+
 use log_io::ErrorText;
 use std::alloc::AllocError;
 use std::fmt::{self, Display, Formatter};
@@ -44,8 +47,10 @@ impl Display for OptionError<'_> {
 }
 
 impl OptionError<'_> {
-    /// The exit status: 2 if the arguments are wrong, else 3.
-    pub fn status(&self) -> u8 {
+    /// Returns the exit status: 2 if the arguments are wrong, else 3.
+    pub fn status(&self) -> u8
+        ensures { result ≡ status_of self.now }
+    {
         match self {
             OptionError::NoList(_) | OptionError::NoPart(_) | OptionError::NoSize(_) => 2,
             OptionError::Reading(_, _) | OptionError::OutOfMemory => 3,

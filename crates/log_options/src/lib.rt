@@ -1,7 +1,7 @@
 //! Parses the command line of `tlslog`, and prints its help and errors.
 //!
 //! [`matches`] parses the words. [`part_of`], [`memory_of`], [`suites_of`] and [`formulas_of`]
-//! return the values of options, or an [`OptionError`]. [`tell_error`] prints help and errors.
+//! return the values of options, or an [`OptionError`]. [`report_error`] prints help and errors.
 #![tactic(auto)]
 
 mod arguments;
@@ -14,5 +14,5 @@ mod values;
 pub use arguments::{Choices, matches};
 pub use error::OptionError;
 pub use memory::memory_of;
-pub use usage::tell_error;
+pub use usage::report_error;
 pub use values::{formulas_of, part_of, suites_of};

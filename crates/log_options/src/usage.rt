@@ -41,7 +41,7 @@ fn print_error<R: Runtime + AllocGlobal>(
 
 /// Prints the error, or the help or version that was asked for, and returns the exit status: 0
 /// for help and version, 2 for wrong arguments, 3 if memory ran out or nothing can be printed.
-pub fn tell_error<R: Runtime + AllocGlobal>(rt: &R, error: &clap::Error, words: &[String]) -> u8 {
+pub fn report_error<R: Runtime + AllocGlobal>(rt: &R, error: &clap::Error, words: &[String]) -> u8 {
     let is_printed = print_error(rt, error, words).is_ok();
     match error.kind() {
         ErrorKind::DisplayHelp | ErrorKind::DisplayVersion if is_printed => 0,

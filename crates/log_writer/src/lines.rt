@@ -1,6 +1,6 @@
 //! Writes the lines of a log: its header, its connections, messages or certificates, its footer.
-ghost use Rattle.std.specs.Prelude.{◌≡◌};
-ghost use Rattle.log_io.specs.Output.{Tells};
+ghost use Rattle.std.specs.Prelude.{◌≡◌, OnOk};
+ghost use Rattle.log_io.specs.Output.{AppendsLine, TracksFailure};
 
 use log_fields::summary::Summary;
 use log_io::{LineError, Output};
@@ -16,7 +16,7 @@ pub fn write_header<W: Write>(
     opened: i64,
     out: &mut Output<W>,
 ) -> Result<(), LineError>
-    ensures { Tells out.old.has_failed out.new.has_failed result }
+    ensures { TracksFailure out.old.has_failed out.new.has_failed result }
 {
     match style.header(alloc, opened)? {
         Some(header) => out.write_line(header),
@@ -31,7 +31,7 @@ pub fn write_footer<W: Write>(
     closed: i64,
     out: &mut Output<W>,
 ) -> Result<(), LineError>
-    ensures { Tells out.old.has_failed out.new.has_failed result }
+    ensures { TracksFailure out.old.has_failed out.new.has_failed result }
 {
     match style.footer(alloc, closed)? {
         Some(footer) => out.write_line(footer),
@@ -47,10 +47,12 @@ pub fn print_row<W: Write>(
     summary: &Summary<'_>,
     out: &mut Output<W>,
 ) -> Result<(), LineError>
-    ensures { Tells out.old.has_failed out.new.has_failed result }
+    ensures written { OnOk result
+        (AppendsLine (W.contents out.old.writer) (W.contents out.new.writer)) }
+    ensures failure { TracksFailure out.old.has_failed out.new.has_failed result }
 {
-    let room = out.room();
-    out.write_made(style.connection_line(alloc, places, summary, room))
+    let buffer = out.take_buffer();
+    out.write_formatted(style.connection_line(alloc, places, summary, buffer))
 }
 
 /// Prints the line of a message that was complete at this time.
@@ -60,12 +62,14 @@ pub fn print_message<W: Write>(
     places: &[usize],
     summary: &Summary<'_>,
     time: u64,
-    spoken: SentMessage,
+    sent: SentMessage,
     out: &mut Output<W>,
 ) -> Result<(), LineError>
-    ensures { Tells out.old.has_failed out.new.has_failed result }
+    ensures written { OnOk result
+        (AppendsLine (W.contents out.old.writer) (W.contents out.new.writer)) }
+    ensures failure { TracksFailure out.old.has_failed out.new.has_failed result }
 {
-    out.write_made(style.message_line(alloc, places, summary, time, spoken))
+    out.write_formatted(style.message_line(alloc, places, summary, time, sent))
 }
 
 /// Prints the line of a certificate that arrived at this time.
@@ -75,10 +79,12 @@ pub fn print_certificate<W: Write>(
     places: &[usize],
     summary: &Summary<'_>,
     time: u64,
-    presented: &SentCertificate,
+    sent: &SentCertificate,
     out: &mut Output<W>,
 ) -> Result<(), LineError>
-    ensures { Tells out.old.has_failed out.new.has_failed result }
+    ensures written { OnOk result
+        (AppendsLine (W.contents out.old.writer) (W.contents out.new.writer)) }
+    ensures failure { TracksFailure out.old.has_failed out.new.has_failed result }
 {
-    out.write_made(style.certificate_line(alloc, places, summary, time, presented))
+    out.write_formatted(style.certificate_line(alloc, places, summary, time, sent))
 }

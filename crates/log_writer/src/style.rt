@@ -1,5 +1,5 @@
 //! The style of lines that the options choose.
-use crate::refusal::Refusal;
+use crate::configuration_error::ConfigurationError;
 use clap::ArgMatches;
 use log_lines::{DEFAULT_FORMAT, Format, LineKind, Style, StyleError};
 use log_options::{formulas_of, suites_of};
@@ -28,7 +28,7 @@ fn kind_of<'a>(matches: &ArgMatches<'a>) -> Result<LineKind, StyleError<'a>> {
 pub fn style_of<'a, R: Runtime + AllocGlobal>(
     rt: &R,
     matches: &ArgMatches<'a>,
-) -> Result<Style, Refusal<'a>> {
+) -> Result<Style, ConfigurationError<'a>> {
     let kind = kind_of(matches)?;
     let suites = suites_of(rt, matches)?;
     let (format, fields) = (format_of(matches), matches.get_str("fields"));

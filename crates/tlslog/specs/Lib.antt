@@ -1,1 +1,4 @@
 pub mod Failures
+pub mod Memory
+pub mod Pieces
+pub mod Summary

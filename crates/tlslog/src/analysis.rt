@@ -1,4 +1,7 @@
 //! What is kept of each connection, and the summary that its line is made of.
+ghost use Rattle.tlslog.specs.Pieces.{IsCollectorOf};
+ghost use Rattle.tlslog.specs.Summary.{IsParty, IsSummary};
+
 use connections::{Connection, Side};
 use log_connections::{PieceCollector, PieceKind, TlsAnalysis};
 use log_fields::summary::{Party, Summary};
@@ -23,7 +26,9 @@ pub enum CollectedPieces {
 }
 
 impl PieceCollector for CollectedPieces {
-    fn begin(alloc: Global, pieces: PieceKind) -> CollectedPieces {
+    fn begin(alloc: Global, pieces: PieceKind) -> CollectedPieces
+        ensures { IsCollectorOf pieces result }
+    {
         match pieces {
             PieceKind::Messages => CollectedPieces::Messages(MessageCollector::new(
                 alloc,
@@ -53,12 +58,12 @@ impl Observer for CollectedPieces {
     fn on_stream_event(
         &mut self,
         side: Direction,
-        said: &SideEvent<'_>,
+        event: &SideEvent<'_>,
         message: Option<&HandshakeMessage<'_>>,
     ) -> Result<(), AllocError> {
         match self {
-            CollectedPieces::Messages(speech) => speech.on_stream_event(side, said, message),
-            CollectedPieces::Certificates(chains) => chains.add_message(side, message),
+            CollectedPieces::Messages(messages) => messages.on_stream_event(side, event, message),
+            CollectedPieces::Certificates(certificates) => certificates.add_message(side, message),
             CollectedPieces::Chains(lists) => {
                 lists.add_message(side, message);
                 Ok(())
@@ -73,8 +78,8 @@ impl Observer for CollectedPieces {
         message: Option<&HandshakeMessage<'_>>,
     ) -> Result<(), AllocError> {
         match self {
-            CollectedPieces::Messages(speech) => speech.on_datagram_event(side, event, message),
-            CollectedPieces::Certificates(chains) => chains.add_message(side, message),
+            CollectedPieces::Messages(messages) => messages.on_datagram_event(side, event, message),
+            CollectedPieces::Certificates(certificates) => certificates.add_message(side, message),
             CollectedPieces::Chains(lists) => {
                 lists.add_message(side, message);
                 Ok(())
@@ -89,7 +94,7 @@ pub type Analysis = TlsAnalysis<CollectedPieces>;
 /// Takes the messages that are kept.
 pub fn take_messages(alloc: Global, attachment: &mut Analysis) -> Vec<SentMessage> {
     match attachment.collector() {
-        Some(CollectedPieces::Messages(speech)) => speech.take(),
+        Some(CollectedPieces::Messages(messages)) => messages.take(),
         Some(CollectedPieces::Certificates(_) | CollectedPieces::Chains(_)) | None => Vec::new(
             alloc,
         ),
@@ -99,13 +104,15 @@ pub fn take_messages(alloc: Global, attachment: &mut Analysis) -> Vec<SentMessag
 /// Takes the certificates that are kept.
 pub fn take_certificates(alloc: Global, attachment: &mut Analysis) -> Vec<SentCertificate> {
     match attachment.collector() {
-        Some(CollectedPieces::Certificates(chains)) => chains.take(),
+        Some(CollectedPieces::Certificates(certificates)) => certificates.take(),
         Some(CollectedPieces::Messages(_) | CollectedPieces::Chains(_)) | None => Vec::new(alloc),
     }
 }
 
 /// Returns one side of a connection for its summary.
-fn party(connection: &Connection<Analysis>, side: Side) -> Party<'_> {
+fn party(connection: &Connection<Analysis>, side: Side) -> Party<'_>
+    ensures { IsParty side connection.now result }
+{
     Party {
         end: match side {
             Side::Originator => connection.originator,
@@ -129,23 +136,25 @@ fn chain(attachment: &Analysis, direction: Direction) -> &[u8] {
 }
 
 /// Returns the summary of a connection that its lines are made of.
-pub fn summary(connection: &Connection<Analysis>) -> Summary<'_> {
-    let heard = &connection.attachment;
+pub fn summary(connection: &Connection<Analysis>) -> Summary<'_>
+    ensures { IsSummary connection.now result }
+{
+    let analysis = &connection.attachment;
     Summary {
         protocol: connection.protocol,
         first_time: connection.first_time,
         last_time: connection.last_time,
         originator: party(connection, Side::Originator),
         responder: party(connection, Side::Responder),
-        handshake: heard.handshake(),
-        client_chain: chain(heard, Direction::ToServer),
-        server_chain: chain(heard, Direction::FromServer),
-        history: heard.history(),
-        outcome: heard.outcome(),
-        stop: heard.stop(),
-        is_established: heard.is_established(),
-        is_resumed: heard.is_resumed(),
-        is_ended_early: heard.is_ended_early,
-        tunnels: heard.tunnels(),
+        handshake: analysis.handshake(),
+        client_chain: chain(analysis, Direction::ToServer),
+        server_chain: chain(analysis, Direction::FromServer),
+        history: analysis.history(),
+        outcome: analysis.outcome(),
+        stop: analysis.stop(),
+        is_established: analysis.is_established(),
+        is_resumed: analysis.is_resumed(),
+        is_ended_early: analysis.is_ended_early,
+        tunnels: analysis.tunnels(),
     }
 }

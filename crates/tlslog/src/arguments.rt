@@ -1,11 +1,11 @@
-//! Turns the command line into what is asked for.
+//! Turns the command line into the options of a run.
 use crate::memory::part_of_connections;
 use crate::program::RunOptions;
 use arrivals::Checksums;
 use clap::ArgMatches;
 use log_lines::FORMAT_NAMES;
 use log_options::{Choices, memory_of, part_of};
-use log_writer::{Refusal, style_of};
+use log_writer::{ConfigurationError, style_of};
 use std::rt::Runtime;
 
 /// The values of `--checksums`, handed to the macro that is named, with what else is passed. A row
@@ -72,7 +72,7 @@ fn checksums_of(matches: &ArgMatches<'_>) -> Checksums {
 pub fn run_options_of<'a, R: Runtime + AllocGlobal>(
     rt: &R,
     matches: &ArgMatches<'a>,
-) -> Result<RunOptions, Refusal<'a>> {
+) -> Result<RunOptions, ConfigurationError<'a>> {
     let part = part_of(matches)?;
     let memory = part_of_connections(memory_of(matches)?);
     let checksums = checksums_of(matches);

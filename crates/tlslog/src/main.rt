@@ -25,8 +25,8 @@ use crate::program::{RunOptions, log_file, log_joined, log_standard_input};
 use clap::ArgMatches;
 use log_io::{DASH, Exit, Failure, Files, Output, STANDARD_OUTPUT, report};
 use log_lines::Style;
-use log_options::{matches, tell_error};
-use log_writer::{Refusal, write_footer, write_header};
+use log_options::{matches, report_error};
+use log_writer::{ConfigurationError, write_footer, write_header};
 use std::io::{self, Write};
 use std::process::ExitCode;
 use std::random::RandomSource;
@@ -47,16 +47,16 @@ fn now<R: Runtime>(rt: &R) -> i64 {
 /// Logs the capture with that path; `-` is standard input.
 fn log_one<R: Runtime + AllocGlobal + RandomSource, W: Write>(
     rt: &R,
-    asked: &RunOptions,
+    options: &RunOptions,
     path: &str,
     out: Output<W>,
 ) -> (Exit, Output<W>)
     ensures { HasWritten out.has_failed result.0 result.1.has_failed }
 {
     if path == DASH {
-        log_standard_input(rt, asked, out)
+        log_standard_input(rt, options, out)
     } else {
-        log_file(rt, asked, path, out)
+        log_file(rt, options, path, out)
     }
 }
 
@@ -64,22 +64,22 @@ fn log_one<R: Runtime + AllocGlobal + RandomSource, W: Write>(
 /// when the output is closed.
 fn log_each<R: Runtime + AllocGlobal + RandomSource, W: Write>(
     rt: &R,
-    asked: &RunOptions,
+    options: &RunOptions,
     matches: &ArgMatches<'_>,
     out: Output<W>,
 ) -> (Exit, Output<W>)
     ensures { HasWritten out.has_failed result.0 result.1.has_failed }
 {
     let Some(paths) = matches.get_strs("captures") else {
-        return log_standard_input(rt, asked, out);
+        return log_standard_input(rt, options, out);
     };
     if matches.get_flag("join") {
-        return log_joined(rt, asked, &Files { rt, paths }, out);
+        return log_joined(rt, options, &Files { rt, paths }, out);
     }
     let mut out = out;
     let mut exit = Exit::Clean;
     'paths: for path in paths {
-        let (of_path, behind) = log_one(rt, asked, path, out);
+        let (of_path, behind) = log_one(rt, options, path, out);
         exit = exit.and(of_path);
         out = behind;
         if matches!(exit, Exit::Closed) {
@@ -115,24 +115,24 @@ fn end_log<R: Runtime + AllocGlobal, W: Write>(
 /// Logs all captures, between the format's header and footer.
 fn log_all<R: Runtime + AllocGlobal + RandomSource, W: Write>(
     rt: &R,
-    asked: &RunOptions,
+    options: &RunOptions,
     matches: &ArgMatches<'_>,
     out: Output<W>,
 ) -> (Exit, Output<W>)
     ensures { HasWritten out.has_failed result.0 result.1.has_failed }
 {
     let mut out = out;
-    if let Err(e) = write_header(rt.alloc(), &asked.style, now(rt), &mut out) {
+    if let Err(e) = write_header(rt.alloc(), &options.style, now(rt), &mut out) {
         return (report(rt, STANDARD_OUTPUT, Failure::from(e), 0), out);
     }
-    let (exit, out) = log_each(rt, asked, matches, out);
-    end_log(rt, &asked.style, exit, out)
+    let (exit, out) = log_each(rt, options, matches, out);
+    end_log(rt, &options.style, exit, out)
 }
 
 /// Prints why the arguments are refused, and returns the exit status.
-fn refuse<R: Runtime + AllocGlobal>(rt: &R, refusal: Refusal<'_>) -> u8 {
-    match eprintln!(rt; "tlslog: {refusal}") {
-        Ok(()) => refusal.status(),
+fn refuse<R: Runtime + AllocGlobal>(rt: &R, error: ConfigurationError<'_>) -> u8 {
+    match eprintln!(rt; "tlslog: {error}") {
+        Ok(()) => error.status(),
         Err(_) => 3,
     }
 }
@@ -140,16 +140,16 @@ fn refuse<R: Runtime + AllocGlobal>(rt: &R, refusal: Refusal<'_>) -> u8 {
 /// Runs as the arguments ask, and returns the exit status.
 fn run_by<R: Runtime + AllocGlobal + RandomSource>(rt: &R, matches: &ArgMatches<'_>) -> u8 {
     match run_options_of(rt, matches) {
-        Ok(asked) => {
+        Ok(options) => {
             let (exit, _out) = log_all(
                 rt,
-                &asked,
+                &options,
                 matches,
                 Output::new(rt.alloc(), io::writer(rt)),
             );
             u8::from(exit)
         }
-        Err(refusal) => refuse(rt, refusal),
+        Err(error) => refuse(rt, error),
     }
 }
 
@@ -157,7 +157,7 @@ fn run_by<R: Runtime + AllocGlobal + RandomSource>(rt: &R, matches: &ArgMatches<
 fn run<R: Runtime + AllocGlobal + RandomSource>(rt: &R, words: &[String]) -> u8 {
     match matches(rt.alloc(), words, choices()) {
         Ok(matches) => run_by(rt, &matches),
-        Err(error) => tell_error(rt, &error, words),
+        Err(error) => report_error(rt, &error, words),
     }
 }
 

@@ -1,4 +1,7 @@
 //! The memory limit of connections.
+ghost use Rattle.std.specs.Prelude.{◌≡◌};
+ghost use Rattle.tlslog.specs.Memory.{connection_memory};
+
 use crate::analysis::Analysis;
 use connections::{CONNECTION_COST, Connection, FiveTuple};
 use ip_fragments::HELD_LIMIT;
@@ -17,7 +20,9 @@ const _: () = prove!(
 );
 
 /// Returns how many bytes of the limit are left for connections. Fragments have their own limit.
-pub fn part_of_connections(limit: Option<usize>) -> usize {
+pub fn part_of_connections(limit: Option<usize>) -> usize
+    ensures { result ≡ connection_memory limit }
+{
     match limit {
         Some(size) => size.saturating_sub(HELD_LIMIT).saturating_sub(REST),
         None => usize::MAX,

@@ -1,8 +1,10 @@
 //! Logs captures: packets in, lines out.
-ghost use Rattle.std.specs.Prelude.{◌≡◌, Bool, true, not, None, OnOk};
+ghost use Rattle.std.specs.Prelude.{◌≡◌, Bool, true, not, None, IfOk, OnOk};
 ghost use Rattle.log_connections.specs.Sink.{Receives};
-ghost use Rattle.log_io.specs.Output.{Tells};
+ghost use Rattle.std.specs.Io.KnownBytes.{Keeps};
+ghost use Rattle.log_io.specs.Output.{TracksFailure};
 ghost use Rattle.tlslog.specs.Failures.{line_error_of};
+ghost use Rattle.tlslog.specs.Summary.{LogsConnection, are_connections};
 ghost use Rattle.log_io.specs.Run.{EndsBy, Exits, HasFailed, HasWritten, IsAsBefore, IsNotOfCapture, StaysSound};
 
 use crate::analysis::{Analysis, CollectedPieces, summary, take_certificates, take_messages};
@@ -11,8 +13,8 @@ use connection_parts::Part;
 use connections::Connection;
 use log_connections::{Log, LogError, PieceKind, Sink};
 use log_io::{
-    Exit, Failure, LineError, Opener, Output, ProgressReader, STANDARD_INPUT, STANDARD_INPUT_NAME,
-    Source, report,
+    CaptureInput, Exit, Failure, LineError, Opener, Output, ProgressReader, STANDARD_INPUT,
+    STANDARD_INPUT_NAME, report,
 };
 use log_lines::{Lines, Style};
 use log_writer::{print_certificate, print_message, print_row};
@@ -29,13 +31,16 @@ const JOINED_NAME: &str = "all captures";
 
 /// Prints the line of a connection that is over, if it speaks TLS or DTLS and connections are
 /// logged.
+#[tactic(auto, using(crate::proofs::LineLemmas::logs_none, crate::proofs::LineLemmas::logs_one))]
 fn print_line<W: Write>(
     alloc: Global,
     style: &Style,
     connection: &Connection<Analysis>,
     out: &mut Output<W>,
 ) -> Result<(), LineError>
-    ensures { Tells out.old.has_failed out.new.has_failed result }
+    ensures logged { LogsConnection style.now.lines connection.now (W.contents out.old.writer)
+        (W.contents out.new.writer) result }
+    ensures failure { TracksFailure out.old.has_failed out.new.has_failed result }
 {
     if !connection.attachment.is_tls_or_dtls() {
         return Ok(());
@@ -57,12 +62,12 @@ fn print_messages<W: Write>(
     time: u64,
     out: &mut Output<W>,
 ) -> Result<(), LineError>
-    ensures { Tells out.old.has_failed out.new.has_failed result }
+    ensures { TracksFailure out.old.has_failed out.new.has_failed result }
 {
     let all = take_messages(alloc, &mut connection.attachment);
     let summary = summary(connection);
-    'messages: for spoken in all {
-        print_message(alloc, style, places, &summary, time, spoken, out)?;
+    'messages: for sent in all {
+        print_message(alloc, style, places, &summary, time, sent, out)?;
     }
     Ok(())
 }
@@ -76,18 +81,19 @@ fn print_certificates<W: Write>(
     time: u64,
     out: &mut Output<W>,
 ) -> Result<(), LineError>
-    ensures { Tells out.old.has_failed out.new.has_failed result }
+    ensures { TracksFailure out.old.has_failed out.new.has_failed result }
 {
     let all = take_certificates(alloc, &mut connection.attachment);
     let summary = summary(connection);
-    'certificates: for presented in &all {
-        print_certificate(alloc, style, places, &summary, time, presented, out)?;
+    'certificates: for sent in &all {
+        print_certificate(alloc, style, places, &summary, time, sent, out)?;
     }
     Ok(())
 }
 
 /// Prints the connection's messages or certificates that were complete at this time, if those are
 /// logged.
+#[tactic(auto, using(log_io::proofs::WriteLemmas::keeps_itself))]
 fn print_pieces<W: Write>(
     alloc: Global,
     style: &Style,
@@ -95,7 +101,9 @@ fn print_pieces<W: Write>(
     time: u64,
     out: &mut Output<W>,
 ) -> Result<(), LineError>
-    ensures { Tells out.old.has_failed out.new.has_failed result }
+    ensures none { are_connections style.now.lines ≡ true
+        → OnOk result (Keeps (W.contents out.old.writer) (W.contents out.new.writer)) }
+    ensures failure { TracksFailure out.old.has_failed out.new.has_failed result }
 {
     match &style.lines {
         Lines::Connections(_) => Ok(()),
@@ -116,7 +124,7 @@ fn print_last<W: Write>(
     time: u64,
     out: &mut Output<W>,
 ) -> Result<(), LineError>
-    ensures { Tells out.old.has_failed out.new.has_failed result }
+    ensures { TracksFailure out.old.has_failed out.new.has_failed result }
 {
     print_pieces(alloc, style, connection, time, out)?;
     print_line(alloc, style, connection, out)
@@ -211,7 +219,8 @@ impl<'a, W: Write> PacketVisitor for Logger<'a, W> {
 /// Logs the packets of a source.
 fn log_packets<I: Read, W: Write>(logger: &mut Logger<'_, W>, reader: &mut I) -> Result<(), Failure>
     ensures ends { EndsBy (I.remaining reader.old) (I.remaining reader.new) result }
-    ensures sound { StaysSound logger.old.printer.out.has_failed logger.new.printer.out.has_failed result }
+    ensures sound { StaysSound logger.old.printer.out.has_failed
+        logger.new.printer.out.has_failed result }
 {
     match visit_packets(logger.printer.alloc, reader, logger) {
         Ok(()) => Ok(()),
@@ -220,14 +229,15 @@ fn log_packets<I: Read, W: Write>(logger: &mut Logger<'_, W>, reader: &mut I) ->
 }
 
 /// Logs the packets of a source, and reports a failure.
-fn log_source<R: Runtime + AllocGlobal, I: Read + Source, W: Write>(
+fn log_source<R: Runtime + AllocGlobal, I: Read + CaptureInput, W: Write>(
     rt: &R,
     name: &str,
     logger: &mut Logger<'_, W>,
     reader: &mut I,
 ) -> Exit
     ensures exits { Exits (I.remaining reader.old) (I.remaining reader.new) result }
-    ensures written { HasWritten logger.old.printer.out.has_failed result logger.new.printer.out.has_failed }
+    ensures written { HasWritten logger.old.printer.out.has_failed result
+        logger.new.printer.out.has_failed }
 {
     match log_packets(logger, reader) {
         Ok(()) => Exit::Clean,
@@ -245,7 +255,8 @@ fn log_left<R: Runtime + AllocGlobal, W: Write>(
     logger: &mut Logger<'_, W>,
 ) -> Exit
     ensures cause { IsNotOfCapture result }
-    ensures written { HasWritten logger.old.printer.out.has_failed result logger.new.printer.out.has_failed }
+    ensures written { HasWritten logger.old.printer.out.has_failed result
+        logger.new.printer.out.has_failed }
 {
     match logger.log.finish(&mut logger.printer) {
         Ok(()) => Exit::Clean,
@@ -257,14 +268,15 @@ fn log_left<R: Runtime + AllocGlobal, W: Write>(
 }
 
 /// Logs the packets of a source, and the connections that are still open at its end.
-fn log_whole<R: Runtime + AllocGlobal, I: Read + Source, W: Write>(
+fn log_whole<R: Runtime + AllocGlobal, I: Read + CaptureInput, W: Write>(
     rt: &R,
     name: &str,
     logger: &mut Logger<'_, W>,
     reader: &mut I,
 ) -> Exit
     ensures exits { Exits (I.remaining reader.old) (I.remaining reader.new) result }
-    ensures written { HasWritten logger.old.printer.out.has_failed result logger.new.printer.out.has_failed }
+    ensures written { HasWritten logger.old.printer.out.has_failed result
+        logger.new.printer.out.has_failed }
 {
     let exit = log_source(rt, name, logger, reader);
     if matches!(exit, Exit::Failed | Exit::Closed) {
@@ -275,7 +287,7 @@ fn log_whole<R: Runtime + AllocGlobal, I: Read + Source, W: Write>(
 
 /// Prints what was found and left out, unless the output was closed, or the source failed before
 /// its first packet. If that can't be printed, the run fails.
-fn tell_counts<R: Runtime>(rt: &R, name: &str, counts: &Counts, exit: Exit) -> Exit
+fn report_counts<R: Runtime>(rt: &R, name: &str, counts: &Counts, exit: Exit) -> Exit
     ensures { IsAsBefore exit result }
 {
     let is_of_none = counts.packets == 0 && !matches!(exit, Exit::Clean);
@@ -288,8 +300,8 @@ fn tell_counts<R: Runtime>(rt: &R, name: &str, counts: &Counts, exit: Exit) -> E
     }
 }
 
-/// Returns what is kept of connections until it is printed.
-fn kept_for(style: &Style) -> Option<PieceKind> {
+/// Returns which pieces of connections are kept until they are printed.
+fn piece_kind_of(style: &Style) -> Option<PieceKind> {
     match &style.lines {
         Lines::Connections(_) if style.has_chains() => Some(PieceKind::Chains),
         Lines::Connections(_) => None,
@@ -317,16 +329,18 @@ pub struct RunOptions {
 /// Returns an empty log by the options, with these keys for the hashes of its tables.
 fn log_of(
     alloc: Global,
-    asked: &RunOptions,
+    options: &RunOptions,
     keys: RandomState,
-) -> Result<Log<CollectedPieces>, AllocError> {
-    let mut log = Log::new(alloc, keys, kept_for(&asked.style))?;
-    log.arrivals.set_checksums(asked.checksums);
-    log.set_memory(asked.memory);
-    if let Some(part) = asked.part {
+) -> Result<Log<CollectedPieces>, AllocError>
+    ensures { IfOk result (λ log. log.memory ≡ options.now.memory) }
+{
+    let mut log = Log::new(alloc, keys, piece_kind_of(&options.style))?;
+    log.arrivals.set_checksums(options.checksums);
+    log.set_memory(options.memory);
+    if let Some(part) = options.part {
         log.arrivals.set_part(part);
     }
-    if asked.is_by_network {
+    if options.is_by_network {
         log.arrivals.separate_networks(keys)?;
     }
     Ok(log)
@@ -335,7 +349,7 @@ fn log_of(
 /// Returns an empty log by the options, or reports why there is none.
 fn begin_log<R: Runtime + AllocGlobal + RandomSource>(
     rt: &R,
-    asked: &RunOptions,
+    options: &RunOptions,
     name: &str,
 ) -> Result<Log<CollectedPieces>, Exit>
     ensures { HasFailed result }
@@ -346,7 +360,7 @@ fn begin_log<R: Runtime + AllocGlobal + RandomSource>(
             return Err(report(rt, "the system's random numbers", Failure::Reading(e), 0));
         }
     };
-    match log_of(rt.alloc(), asked, keys) {
+    match log_of(rt.alloc(), options, keys) {
         Ok(log) => Ok(log),
         Err(_) => Err(report(rt, name, Failure::OutOfMemory, 0)),
     }
@@ -359,9 +373,9 @@ fn begin_log<R: Runtime + AllocGlobal + RandomSource>(
 /// - `Broken` if the source has no capture, or a truncated one,
 /// - `Closed` if the reader of the output closed it,
 /// - `Failed` if memory ran out, or a read or a write failed.
-pub fn log_input<R: Runtime + AllocGlobal + RandomSource, I: Read + Source, W: Write>(
+pub fn log_input<R: Runtime + AllocGlobal + RandomSource, I: Read + CaptureInput, W: Write>(
     rt: &R,
-    asked: &RunOptions,
+    options: &RunOptions,
     name: &str,
     reader: &mut I,
     out: Output<W>,
@@ -369,14 +383,14 @@ pub fn log_input<R: Runtime + AllocGlobal + RandomSource, I: Read + Source, W: W
     ensures exits { Exits (I.remaining reader.old) (I.remaining reader.new) result.0 }
     ensures written { HasWritten out.has_failed result.0 result.1.has_failed }
 {
-    let log = match begin_log(rt, asked, name) {
+    let log = match begin_log(rt, options, name) {
         Ok(log) => log,
         Err(exit) => return (exit, out),
     };
-    let mut logger = Logger::new(rt.alloc(), &asked.style, log, out);
+    let mut logger = Logger::new(rt.alloc(), &options.style, log, out);
     let exit = log_whole(rt, name, &mut logger, reader);
     let Logger { log, printer } = logger;
-    let exit = tell_counts(rt, name, &log.arrivals.counts, exit);
+    let exit = report_counts(rt, name, &log.arrivals.counts, exit);
     drop(log);
     (exit, printer.out)
 }
@@ -389,7 +403,8 @@ fn log_next<R: Runtime + AllocGlobal, O: Opener, W: Write>(
     name: &str,
     logger: &mut Logger<'_, W>,
 ) -> Exit
-    ensures { HasWritten logger.old.printer.out.has_failed result logger.new.printer.out.has_failed }
+    ensures { HasWritten logger.old.printer.out.has_failed result
+        logger.new.printer.out.has_failed }
 {
     match opener.open(number) {
         Ok(mut reader) => log_source(rt, name, logger, &mut reader),
@@ -416,17 +431,17 @@ fn log_last<R: Runtime + AllocGlobal, W: Write>(
 /// read whole, the next one still is.
 pub fn log_joined<R: Runtime + AllocGlobal + RandomSource, O: Opener, W: Write>(
     rt: &R,
-    asked: &RunOptions,
+    options: &RunOptions,
     opener: &O,
     out: Output<W>,
 ) -> (Exit, Output<W>)
     ensures { HasWritten out.has_failed result.0 result.1.has_failed }
 {
-    let log = match begin_log(rt, asked, JOINED_NAME) {
+    let log = match begin_log(rt, options, JOINED_NAME) {
         Ok(log) => log,
         Err(exit) => return (exit, out),
     };
-    let mut logger = Logger::new(rt.alloc(), &asked.style, log, out);
+    let mut logger = Logger::new(rt.alloc(), &options.style, log, out);
     let mut exit = Exit::Clean;
     'captures: for number in 0..usize::MAX {
         let Some(name) = opener.name(number) else {
@@ -439,7 +454,7 @@ pub fn log_joined<R: Runtime + AllocGlobal + RandomSource, O: Opener, W: Write>(
     }
     let exit = log_last(rt, exit, &mut logger);
     let Logger { log, printer } = logger;
-    let exit = tell_counts(rt, JOINED_NAME, &log.arrivals.counts, exit);
+    let exit = report_counts(rt, JOINED_NAME, &log.arrivals.counts, exit);
     drop(log);
     (exit, printer.out)
 }
@@ -447,7 +462,7 @@ pub fn log_joined<R: Runtime + AllocGlobal + RandomSource, O: Opener, W: Write>(
 /// Logs the capture in a file. Its progress is shown on a terminal.
 pub fn log_file<R: Runtime + AllocGlobal + RandomSource, W: Write>(
     rt: &R,
-    asked: &RunOptions,
+    options: &RunOptions,
     path: &str,
     out: Output<W>,
 ) -> (Exit, Output<W>)
@@ -456,7 +471,7 @@ pub fn log_file<R: Runtime + AllocGlobal + RandomSource, W: Write>(
     match fs::open(rt, path) {
         Ok(file) => {
             let mut reader = ProgressReader::new(rt, path, path, file);
-            log_input(rt, asked, path, &mut reader, out)
+            log_input(rt, options, path, &mut reader, out)
         }
         Err(e) => (report(rt, path, Failure::Opening(e), 0), out),
     }
@@ -465,11 +480,11 @@ pub fn log_file<R: Runtime + AllocGlobal + RandomSource, W: Write>(
 /// Logs the capture on standard input.
 pub fn log_standard_input<R: Runtime + AllocGlobal + RandomSource, W: Write>(
     rt: &R,
-    asked: &RunOptions,
+    options: &RunOptions,
     out: Output<W>,
 ) -> (Exit, Output<W>)
     ensures { HasWritten out.has_failed result.0 result.1.has_failed }
 {
     let mut reader = ProgressReader::new(rt, STANDARD_INPUT_NAME, STANDARD_INPUT, rt.reader());
-    log_input(rt, asked, STANDARD_INPUT_NAME, &mut reader, out)
+    log_input(rt, options, STANDARD_INPUT_NAME, &mut reader, out)
 }
