@@ -1,3 +1,4 @@
+mod DatagramLemmas
 mod FrontLemmas
 mod LogLemmas
 mod SinkLemmas

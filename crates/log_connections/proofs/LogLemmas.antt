@@ -59,7 +59,7 @@ module _ {K : Type 0} where
       (c d : Connection (TlsAnalysis K)) → b ≡ true
       → Puts b s old mid → mid.closed ≡ closed_behind b s old
       → Some c ≡ at (five_tuple_of s) mid.live
-      → HearsSide (side_of c s.source) c d
+      → HearsSide s (side_of c s.source) c d
       → HearsSegment s old
       (record mid { live = set_value (is_five_tuple (five_tuple_of s)) mid.live d })
   segment_heard b s old mid c d is puts closed found hears =
@@ -68,7 +68,7 @@ module _ {K : Type 0} where
         its = d;
         takes = put.takes;
         hears =
-            subst (λ z. HearsSide (side_of z s.source) z d)
+            subst (λ z. HearsSide s (side_of z s.source) z d)
             (lent (five_tuple_of s) (TakesSegment s) old.live mid.live put c found) hears;
         stands = written_first (five_tuple_of s) (TakesSegment s) old.live mid.live put d;
         closed = closed ∙ ap (λ x. closed_behind x s old) is;
@@ -78,7 +78,7 @@ module _ {K : Type 0} where
   pub heard_by_open : (s : Segment) (old : Table (TlsAnalysis K))
       (c put its : Connection (TlsAnalysis K))
       → Some c ≡ at (five_tuple_of s) old.live → Accepts s c put
-      → HearsSide (side_of put s.source) put its
+      → HearsSide s (side_of put s.source) put its
       → HearsSegment s old (with_first (five_tuple_of s) its old)
   heard_by_open s old c put its found accepts hears = record {
     put = put;
@@ -94,7 +94,7 @@ module _ {K : Type 0} where
   pub heard_in_place : (s : Segment) (old : Table (TlsAnalysis K))
       (c put its : Connection (TlsAnalysis K))
       → Some c ≡ at (five_tuple_of s) old.live → Accepts s c put
-      → HearsSide (side_of put s.source) put its
+      → HearsSide s (side_of put s.source) put its
       → HearsSegment s old
       (promoting (five_tuple_of s) (with_other (five_tuple_of s) its old))
   heard_in_place s old c put its found accepts hears = record {

@@ -44,11 +44,11 @@ module _ {K : Type 0} where
   pub marked : (c d e : Connection (TlsAnalysis K)) → IsEnded c d
       → e ≡ record d { attachment = record d.attachment { is_ended_early = true } } → IsEnded c e
   marked c d e ends is = subst (IsEnded c) (sym is) (record {
-    turned = ends.turned;
     between = ends.between;
+    last = ends.last;
     originator = ends.originator;
     responder = ends.responder;
-    same = ap {A = Connection (TlsAnalysis K)} (λ x. record x { attachment = record d.attachment { is_ended_early = true } }) ends.same;
+    same = ap {A = Connection (TlsAnalysis K)} (λ x. record x { attachment = record x.attachment { is_ended_early = true } }) ends.same;
   })
 
   pub marked_as : {B : Type 0} (value : B → Connection (TlsAnalysis K)) (taken : Option B)

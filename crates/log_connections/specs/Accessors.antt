@@ -8,9 +8,11 @@ use Rattle.connections.specs.declared.five_tuple.Protocol.{Protocol}
 use Rattle.connections.specs.declared.five_tuple.Protocol.TheVariants.{Tcp, Udp}
 use Rattle.tls_flow.specs.Table.{outcome_at}
 use Rattle.tls_flow.specs.declared.symbol.Direction.{Direction}
+use Rattle.tls_flow.specs.declared.symbol.Direction.TheVariants.{ToServer, FromServer}
 use Rattle.tls_flow.specs.declared.state.Outcome.{Outcome}
 use Rattle.tls_flow.specs.declared.flow.Stop.{Stop}
 use Rattle.tls_summary.specs.HandshakeSummary.{HandshakeSummary, view_summary}
+use Rattle.tls_analyzer.specs.Another.{begins_another}
 use Rattle.tls_analyzer.specs.Datagrams.{IsKnown, spoken}
 use Rattle.tls_analyzer.specs.Datagrams as datagrams
 use Rattle.tls_analyzer.specs.Ends.{is_established, is_resumed}
@@ -58,6 +60,17 @@ abbrev pub LacksFront : Bool → Direction → TransportAnalyzer → Type 0
 LacksFront b d (said.Stream x f) = b ≡ false
 LacksFront b d (said.Datagrams t) =
     (k : datagrams.Analyzer) → IsKnown k t → b ≡ (spoken k d).lacks_front
+
+-- A datagram that is sent in this direction begins another DTLS association, or not. Only one of the
+-- client does.
+abbrev pub begins_by : Direction → datagrams.Analyzer → Bytes → Bool
+begins_by ToServer k datagram = begins_another k datagram
+begins_by FromServer k datagram = false
+
+abbrev pub BeginsAnother : Bool → Direction → Bytes → TransportAnalyzer → Type 0
+BeginsAnother b d datagram (said.Stream x f) = b ≡ false
+BeginsAnother b d datagram (said.Datagrams t) =
+    (k : datagrams.Analyzer) → IsKnown k t → b ≡ begins_by d k datagram
 
 module _ {K : Type 0} where
   -- How many records a side sent.

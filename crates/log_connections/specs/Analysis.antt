@@ -1,26 +1,42 @@
 -- What is analyzed of a connection's bytes.
-use Rattle.std.specs.Prelude.{◌≡◌, ◌⊎◌, ◌-◌, ◌&&◌, ℕ, Bool, true, false, not, Ok, Err, length, drop}
+use Rattle.std.specs.Prelude.{◌≡◌, ◌==◌, ◌-◌, ◌*◌, ◌^◌, ◌&&◌, ◌||◌, if◌then◌else◌, min, ℕ, Bool, true, false, not, Option, Some, None, List, [], Ok, Err, is_some, length, drop}
+use Rattle.std.specs.Option.{option_map}
+use Rattle.std.specs.Global.{Box}
 use Rattle.layouts.specs.Bytes.{Bytes}
-use Rattle.connections.specs.Stream.{handing_on, has_urgent_next, is_cut_short, next_bytes, passing_urgent, stopped}
-use Rattle.connections.specs.declared.stream.Stream.{Stream}
-use Rattle.connections.specs.declared.stream.Reading.TheVariants.{Over}
-use Rattle.connections.specs.declared.connection.Side.{Side}
-use Rattle.connections.specs.declared.connection.Side.TheVariants.{Originator, Responder}
-use Rattle.tls_flow.specs.declared.symbol.Direction.{Direction}
-use Rattle.tls_flow.specs.declared.symbol.Direction.TheVariants.{ToServer, FromServer}
-use Rattle.tls_analyzer.specs.Datagrams.{IsKnown, heard}
-use Rattle.tls_analyzer.specs.Datagrams as datagrams
-use Rattle.tls_analyzer.specs.Analyzers.{IsHeardAsNone, IsHeardInSsl2, IsHeardOn, is_over}
-use Rattle.ssl2_hello.specs.ClientHello as ssl2
 use Rattle.layouts.specs.Meaning.{Answer}
 use Rattle.layouts.specs.Reading.{reading}
-use Rattle.tls_analyzer.specs.declared.analyzer.Analyzer.{Analyzer}
-use Rattle.log_connections.specs.declared.fronts.Fronts.{Fronts}
-use Rattle.log_connections.specs.Fronts.{are_answered, beginning, front_of, is_sought, leaving, passing, with_begun}
-use Rattle.log_connections.specs.declared.fronts.Beginning.{Beginning}
-use Rattle.log_connections.specs.declared.fronts.Beginning.TheVariants as beginnings
+use Rattle.connections.specs.Segment.{has_data}
+use Rattle.connections.specs.Stream.{handing_on, has_urgent_next, is_cut_short, next_bytes, passed, passing_behind, passing_urgent, stopped}
+use Rattle.connections.specs.Traffic.{plus}
+use Rattle.connections.specs.declared.connection.Side.{Side}
+use Rattle.connections.specs.declared.connection.Side.TheVariants.{Originator, Responder}
+use Rattle.connections.specs.declared.five_tuple.Protocol.{Protocol}
+use Rattle.connections.specs.declared.five_tuple.Protocol.TheVariants.{Tcp, Udp}
+use Rattle.connections.specs.declared.segment.Segment.{Segment}
+use Rattle.connections.specs.declared.stream.Stream.{Stream}
+use Rattle.ssl2_hello.specs.ClientHello as ssl2
+use Rattle.tls_detection.specs.Front.{first_message}
+use Rattle.tls_flow.specs.Table.{outcome_at}
+use Rattle.tls_flow.specs.declared.symbol.Direction.{Direction}
+use Rattle.tls_flow.specs.declared.symbol.Direction.TheVariants.{ToServer, FromServer}
+use Rattle.tls_analyzer.specs.Analyzers.{IsHeardAsNone, IsHeardInSsl2, IsHeardOn, IsNew, is_over}
+use Rattle.tls_analyzer.specs.DatagramRecords.{no_datagrams, with_datagram}
+use Rattle.tls_analyzer.specs.Datagrams.{IsKnown, heard, untold}
+use Rattle.tls_analyzer.specs.Datagrams as datagrams
+use Rattle.tls_analyzer.specs.Ends.{is_13}
+use Rattle.tls_analyzer.specs.Records.{no_records, with_bytes}
+use Rattle.tls_summary.specs.Told.{connection_id_length}
+use Rattle.tunnels.specs.Tunnel.{listed}
+use Rattle.tunnels.specs.declared.tunnel.Tunnel.{Tunnel}
+use Rattle.tunnels.specs.declared.tunnel.Tunnels.{Tunnels}
+use Rattle.log_connections.specs.declared.analysis.PieceKind.{PieceKind}
+use Rattle.log_connections.specs.declared.analysis.PieceKind.TheVariants as pieces
+use Rattle.log_connections.specs.declared.analysis.TlsAnalysis.{TlsAnalysis}
 use Rattle.log_connections.specs.declared.analysis.TransportAnalyzer.{TransportAnalyzer}
 use Rattle.log_connections.specs.declared.analysis.TransportAnalyzer.TheVariants as said
+use Rattle.log_connections.specs.declared.fronts.Beginning.{Beginning}
+use Rattle.log_connections.specs.declared.fronts.Beginning.TheVariants as beginnings
+use Rattle.log_connections.specs.Fronts.{are_answered, are_silent, beginning, front_of, is_sought, leaving, no_fronts, passing, with_begun}
 
 -- The originator is the client, unless its first message is a server's: then the sides are turned.
 abbrev pub direction_of : Bool → Side → Direction
@@ -29,47 +45,31 @@ direction_of false Responder = FromServer
 direction_of true Originator = FromServer
 direction_of true Responder = ToServer
 
--- The next bytes of a stream were read, and it is read on or no further.
-abbrev pub IsTakenOff : Stream → Stream → Type 0
-IsTakenOff t u = (u ≡ handing_on (length (next_bytes t t.reading)) t) ⊎ (u.reading ≡ Over)
+abbrev pub is_responder : Side → Bool
+is_responder Originator = false
+is_responder Responder = true
 
--- The next bytes of a side's stream were analyzed behind the n bytes before its TLS, and all of
--- them were read.
-unfoldable pub HearsAt : Side → Direction → ℕ → Stream → Stream → TransportAnalyzer
-    → TransportAnalyzer → Type 0
-HearsAt s d n t u (said.Stream x f) (said.Stream y g) =
-    IsHeardOn x d (drop n (next_bytes t t.reading)) y × (g ≡ with_begun s n f) × IsTakenOff t u
-HearsAt s d n t u (said.Stream x f) (said.Datagrams y) = ⊥
-HearsAt s d n t u (said.Datagrams x) y = (y ≡ said.Datagrams x) × (u ≡ t)
+-- A ClientHello (type 1) of the responder turns the sides, and so does a ServerHello (type 2) of
+-- the originator. It doesn't if the opening was captured: a server that opens the connection waits
+-- for the client's hello.
+abbrev pub turned_by : Option ℕ → Side → Bool → Bool
+turned_by None s opened = false
+turned_by (Some kind) s opened =
+    if kind == 1 then is_responder s else kind == 2 && not (is_responder s) && not opened
 
--- This many bytes of it were skipped, and no more.
-unfoldable pub PassesOver : Side → ℕ → Stream → Stream → TransportAnalyzer
-    → TransportAnalyzer → Type 0
-PassesOver s n t u (said.Stream x f) y = (y ≡ said.Stream x (passing s n f)) × (u ≡ handing_on n t)
-PassesOver s n t u (said.Datagrams x) y = (y ≡ said.Datagrams x) × (u ≡ t)
+-- No side's TLS was found, and none was found not to speak it.
+abbrev pub is_silent_in : TransportAnalyzer → Bool
+is_silent_in (said.Stream x f) = are_silent f
+is_silent_in (said.Datagrams x) = false
 
--- The side was analyzed as one that doesn't speak TLS, and is read no further.
-unfoldable pub HearsNone : Side → Direction → Stream → Stream → TransportAnalyzer
-    → TransportAnalyzer → Type 0
-HearsNone s d t u (said.Stream x f) (said.Stream y g) = IsHeardAsNone x d y × (g ≡ leaving s f)
-    × (u ≡ stopped t t.reading)
-HearsNone s d t u (said.Stream x f) (said.Datagrams y) = ⊥
-HearsNone s d t u (said.Datagrams x) y = (y ≡ said.Datagrams x) × (u ≡ t)
+-- Whether the sides are turned, by the first message of the connection. Later ones don't matter.
+abbrev pub turned : Option ℕ → Side → Bool → TransportAnalyzer → Bool → Bool
+turned message s opened x was = if is_silent_in x then turned_by message s opened else was
 
--- The next SSL 2.0 ClientHello of its stream was analyzed and read; without one, nothing.
-abbrev pub HearsHello : Answer ssl2.ClientHello → Side → Direction → Stream → Stream → Analyzer
-    → Fronts → TransportAnalyzer → Type 0
-HearsHello (Ok h) s d t u x f (said.Stream y g) =
-    IsHeardInSsl2 x d h.0 y × (g ≡ with_begun s 0 f)
-    × (u ≡ handing_on (length (next_bytes t t.reading) - length h.1) t)
-HearsHello (Ok h) s d t u x f (said.Datagrams y) = ⊥
-HearsHello (Err e) s d t u x f y = (y ≡ said.Stream x f) × (u ≡ t)
-
-unfoldable pub HearsSsl2 : Side → Direction → Stream → Stream → TransportAnalyzer
-    → TransportAnalyzer → Type 0
-HearsSsl2 s d t u (said.Stream x f) y =
-    HearsHello (reading ssl2.client_hello (next_bytes t t.reading)) s d t u x f y
-HearsSsl2 s d t u (said.Datagrams x) y = (y ≡ said.Datagrams x) × (u ≡ t)
+-- A stream whose side is over is read no further.
+abbrev pub stopped_if : Bool → Stream → Stream
+stopped_if true t = stopped t t.reading
+stopped_if false t = t
 
 -- Where a side's TLS begins, by the next bytes of its stream. It answers if the other's began.
 abbrev pub begins_in : Side → Bool → TransportAnalyzer → Bytes → Beginning
@@ -81,48 +81,18 @@ abbrev pub is_over_in : Side → Direction → TransportAnalyzer → Bool
 is_over_in s d (said.Stream x f) = not (is_sought (front_of s f)) && is_over x d
 is_over_in s d (said.Datagrams x) = false
 
-abbrev pub HearsBy : Beginning → Side → Direction → Stream → Stream → TransportAnalyzer
-    → TransportAnalyzer → Type 0
-HearsBy beginnings.Waits s d t u x y = (u ≡ t) × (y ≡ x)
-HearsBy (beginnings.PassesOver n) s d t u x y = PassesOver s n t u x y
-HearsBy (beginnings.At n) s d t u x y = HearsAt s d n t u x y
-HearsBy beginnings.InSsl2 s d t u x y = HearsSsl2 s d t u x y
-HearsBy beginnings.Nowhere s d t u x y = HearsNone s d t u x y
+-- A segment's bytes are passed on, if it has any.
+abbrev pub passing_on : Segment → Stream → Stream
+passing_on s t =
+    record t { passing = if has_data s then passing_behind t.passing s else t.passing }
 
--- The next bytes of a side's stream were analyzed from where its TLS begins, or skipped.
-unfoldable pub HearsStream : Side → Bool → Direction → Stream → Stream → TransportAnalyzer
-    → TransportAnalyzer → Type 0
-HearsStream s last d t u x y = HearsBy (begins_in s last x (next_bytes t t.reading)) s d t u x y
+-- The most that the buffers of a conversation take, by the bytes that were analyzed.
+abbrev pub buffers_of : ℕ → ℕ
+buffers_of heard = min (min (heard * 2) (2 ^ 64 - 1)) 2621440
 
--- The next bytes were analyzed on both sides of an urgent byte, if one comes next behind them. The
--- bytes before it are the last that may show where TLS begins.
-pub data HearsNext (side : Side) (d : Direction) (t u : Stream)
-    (x y : TransportAnalyzer) : Type 0 where
-  all :
-      has_urgent_next u ≡ false → HearsStream side (is_cut_short t t.reading) d t u x y
-      → HearsNext side d t u x y
-  around_urgent :
-      (turned : Bool) (mid : Stream) (z : TransportAnalyzer)
-      → HearsStream side (is_cut_short t t.reading) (direction_of turned side) t mid x z
-      → has_urgent_next mid ≡ true
-      → HearsStream side (is_cut_short (passing_urgent mid) (passing_urgent mid).reading) d
-      (passing_urgent mid) u z y
-      → HearsNext side d t u x y
-
--- The next bytes were analyzed. For a stream that is read no further, the bytes to pass on may
--- change.
-pub record HearsOn (side : Side) (d : Direction) (t u : Stream)
-    (x y : TransportAnalyzer) : Type 0 where
-  pub mid : Stream
-  pub hears : HearsNext side d t mid x y
-  pub passes : u ≡ record mid { passing = u.passing }
-
--- A side's datagram was analyzed.
-abbrev pub HearsDatagram : Direction → Bytes → TransportAnalyzer → TransportAnalyzer → Type 0
-HearsDatagram d datagram (said.Datagrams t) (said.Datagrams u) =
-    (k : datagrams.Analyzer) → IsKnown k t → IsKnown (heard k d datagram) u
-HearsDatagram d datagram (said.Datagrams t) (said.Stream u f) = ⊥
-HearsDatagram d datagram (said.Stream t f) u = u ≡ said.Stream t f
+abbrev pub is_client : Direction → Bool
+is_client ToServer = true
+is_client FromServer = false
 
 -- How many bytes came before a side's TLS. Over UDP there are none.
 abbrev pub preamble_of : Side → TransportAnalyzer → ℕ
@@ -133,3 +103,227 @@ preamble_of s (said.Datagrams x) = 0
 abbrev pub IsSpokenBy : Bool → TransportAnalyzer → Type 0
 IsSpokenBy b (said.Stream x f) = b ≡ (x.is_tls && are_answered f)
 IsSpokenBy b (said.Datagrams t) = (k : datagrams.Analyzer) → IsKnown k t → b ≡ k.is_dtls
+
+-- Nothing was analyzed: over TCP the beginning of TLS is looked for on both sides.
+abbrev pub IsSilent : Protocol → TransportAnalyzer → Type 0
+IsSilent Tcp (said.Stream x f) = IsNew x × (f ≡ no_fronts)
+IsSilent Tcp (said.Datagrams t) = ⊥
+IsSilent Udp (said.Stream x f) = ⊥
+IsSilent Udp (said.Datagrams t) = IsKnown untold t
+
+-- All but chains are passed on as they come.
+abbrev pub are_passed : PieceKind → Bool
+are_passed pieces.Messages = true
+are_passed pieces.NumberedMessages = true
+are_passed pieces.Certificates = true
+are_passed pieces.Chains = false
+
+-- The tunnels of the first packet that was in any.
+abbrev pub noted_tunnels : Tunnels → Option Tunnels → Option Tunnels
+noted_tunnels ts (Some first) = Some first
+noted_tunnels ts None = if length (listed ts) == 0 then None else Some ts
+
+abbrev pub tunnels_in : Option (Box Tunnels) → List Tunnel
+tunnels_in None = []
+tunnels_in (Some b) = listed b.value
+
+module _ {K : Type 0} where
+  -- It begins with the client as originator, no bytes, no records, and nothing that is kept.
+  abbrev pub IsBegun : Protocol → TlsAnalysis K → Type 0
+  IsBegun protocol a = IsSilent protocol a.said
+      × (a ≡ record {
+        alloc = a.alloc;
+        protocol = protocol;
+        said = a.said;
+        is_turned = false;
+        heard = 0;
+        is_ended_early = false;
+        collector = None;
+        tunnels = None;
+        from_originator = no_records;
+        from_responder = no_records;
+        by_originator = no_datagrams;
+        by_responder = no_datagrams;
+      })
+
+  -- Pieces are kept from here on, or still. Nothing else changes.
+  pub record Keeps (a b : TlsAnalysis K) : Type 0 where
+    pub kept : is_some b.collector ≡ true
+    pub stays : is_some a.collector ≡ true → b.collector ≡ a.collector
+    pub same : b ≡ record a { collector = b.collector }
+
+  -- The records in more bytes of a side's stream are counted.
+  abbrev pub counting : Side → Bytes → TlsAnalysis K → TlsAnalysis K
+  counting s b a = record a {
+    from_originator =
+        if is_responder s then a.from_originator else with_bytes b a.from_originator;
+    from_responder = if is_responder s then with_bytes b a.from_responder else a.from_responder;
+  }
+
+  -- These bytes of a side were analyzed as TLS. They count, and the first of the connection show
+  -- which side is the client.
+  abbrev pub analyzing : Side → Bool → Bytes → TlsAnalysis K → TlsAnalysis K → TlsAnalysis K
+  analyzing s opened b a new = record (counting s b a) {
+    said = new.said;
+    is_turned = turned (first_message b) s opened a.said a.is_turned;
+    heard = plus a.heard (length b);
+    collector = new.collector;
+  }
+
+  -- The next bytes of a side's stream were analyzed behind the n bytes before its TLS, and all of
+  -- them were read. The stream is read no further if the side is over then.
+  abbrev pub HearsAtIn : TransportAnalyzer → TransportAnalyzer → Side → Bool → ℕ → Stream → Stream
+      → TlsAnalysis K → TlsAnalysis K → Type 0
+  HearsAtIn (said.Stream x f) (said.Stream y g) s opened n t u a b =
+      IsHeardOn x (direction_of b.is_turned s) (drop n (next_bytes t t.reading)) y
+      × (g ≡ with_begun s n f)
+      × (u ≡ stopped_if (is_over y (direction_of b.is_turned s))
+      (handing_on (length (next_bytes t t.reading)) t))
+      × (b ≡ analyzing s opened (drop n (next_bytes t t.reading)) a b)
+  HearsAtIn (said.Stream x f) (said.Datagrams y) s opened n t u a b = ⊥
+  HearsAtIn (said.Datagrams x) y s opened n t u a b = (b ≡ a) × (u ≡ t)
+
+  unfoldable pub HearsAt : Side → Bool → ℕ → Stream → Stream → TlsAnalysis K → TlsAnalysis K
+      → Type 0
+  HearsAt s opened n t u a b = HearsAtIn a.said b.said s opened n t u a b
+
+  -- This many bytes of it were skipped, and no more.
+  abbrev pub PassesOverIn : TransportAnalyzer → Side → ℕ → Stream → Stream → TlsAnalysis K
+      → TlsAnalysis K → Type 0
+  PassesOverIn (said.Stream x f) s n t u a b =
+      (b ≡ record a { said = said.Stream x (passing s n f) }) × (u ≡ handing_on n t)
+  PassesOverIn (said.Datagrams x) s n t u a b = (b ≡ a) × (u ≡ t)
+
+  unfoldable pub PassesOver : Side → ℕ → Stream → Stream → TlsAnalysis K → TlsAnalysis K → Type 0
+  PassesOver s n t u a b = PassesOverIn a.said s n t u a b
+
+  -- The side was analyzed as one that doesn't speak TLS, and is read no further.
+  abbrev pub HearsNoneIn : TransportAnalyzer → TransportAnalyzer → Side → Stream → Stream
+      → TlsAnalysis K → TlsAnalysis K → Type 0
+  HearsNoneIn (said.Stream x f) (said.Stream y g) s t u a b =
+      IsHeardAsNone x (direction_of a.is_turned s) y × (g ≡ leaving s f)
+      × (u ≡ stopped t t.reading) × (b ≡ record a { said = b.said })
+  HearsNoneIn (said.Stream x f) (said.Datagrams y) s t u a b = ⊥
+  HearsNoneIn (said.Datagrams x) y s t u a b = (b ≡ a) × (u ≡ t)
+
+  unfoldable pub HearsNone : Side → Stream → Stream → TlsAnalysis K → TlsAnalysis K → Type 0
+  HearsNone s t u a b = HearsNoneIn a.said b.said s t u a b
+
+  -- The next SSL 2.0 ClientHello of its stream was analyzed and read; without one, nothing.
+  abbrev pub HearsHello : Answer ssl2.ClientHello → TransportAnalyzer → TransportAnalyzer → Side
+      → Stream → Stream → TlsAnalysis K → TlsAnalysis K → Type 0
+  HearsHello (Ok h) (said.Stream x f) (said.Stream y g) s t u a b =
+      IsHeardInSsl2 x (direction_of b.is_turned s) h.0 y × (g ≡ with_begun s 0 f)
+      × (u ≡ handing_on (length (next_bytes t t.reading) - length h.1) t)
+      × (b ≡ record a {
+        said = b.said;
+        is_turned = turned (Some 1) s false a.said a.is_turned;
+      })
+  HearsHello (Ok h) (said.Stream x f) (said.Datagrams y) s t u a b = ⊥
+  HearsHello (Ok h) (said.Datagrams x) y s t u a b = (b ≡ a) × (u ≡ t)
+  HearsHello (Err e) x y s t u a b = (b ≡ a) × (u ≡ t)
+
+  unfoldable pub HearsSsl2 : Side → Stream → Stream → TlsAnalysis K → TlsAnalysis K → Type 0
+  HearsSsl2 s t u a b =
+      HearsHello (reading ssl2.client_hello (next_bytes t t.reading)) a.said b.said s t u a b
+
+  abbrev pub HearsBy : Beginning → Side → Bool → Stream → Stream → TlsAnalysis K → TlsAnalysis K
+      → Type 0
+  HearsBy beginnings.Waits s opened t u a b = (u ≡ t) × (b ≡ a)
+  HearsBy (beginnings.PassesOver n) s opened t u a b = PassesOver s n t u a b
+  HearsBy (beginnings.At n) s opened t u a b = HearsAt s opened n t u a b
+  HearsBy beginnings.InSsl2 s opened t u a b = HearsSsl2 s t u a b
+  HearsBy beginnings.Nowhere s opened t u a b = HearsNone s t u a b
+
+  -- The next bytes of a side's stream were analyzed from where its TLS begins, or skipped.
+  unfoldable pub HearsFurther : Side → Bool → Bool → Stream → Stream → TlsAnalysis K
+      → TlsAnalysis K → Type 0
+  HearsFurther s opened last t u a b =
+      HearsBy (begins_in s last a.said (next_bytes t t.reading)) s opened t u a b
+
+  -- A side that is over and has no next bytes is read no further. That of any other is analyzed.
+  abbrev pub is_done : Side → Stream → TlsAnalysis K → Bool
+  is_done s t a = length (next_bytes t t.reading) == 0
+      && is_over_in s (direction_of a.is_turned s) a.said
+
+  abbrev pub HearsUnless : Bool → Side → Bool → Bool → Stream → Stream → TlsAnalysis K
+      → TlsAnalysis K → Type 0
+  HearsUnless true s opened last t u a b = (u ≡ stopped t t.reading) × (b ≡ a)
+  HearsUnless false s opened last t u a b = HearsFurther s opened last t u a b
+
+  unfoldable pub HearsStream : Side → Bool → Bool → Stream → Stream → TlsAnalysis K
+      → TlsAnalysis K → Type 0
+  HearsStream s opened last t u a b = HearsUnless (is_done s t a) s opened last t u a b
+
+  -- The next bytes were analyzed on both sides of an urgent byte, if one comes next behind them.
+  -- The bytes before it are the last that may show where TLS begins.
+  pub data HearsNext (side : Side) (opened : Bool) (t u : Stream) (a b : TlsAnalysis K)
+      : Type 0 where
+    all :
+        has_urgent_next u ≡ false → HearsStream side opened (is_cut_short t t.reading) t u a b
+        → HearsNext side opened t u a b
+    around_urgent :
+        (mid : Stream) (between : TlsAnalysis K)
+        → HearsStream side opened (is_cut_short t t.reading) t mid a between
+        → has_urgent_next mid ≡ true
+        → HearsStream side opened (is_cut_short (passing_urgent mid) (passing_urgent mid).reading)
+        (passing_urgent mid) u between b
+        → HearsNext side opened t u a b
+
+  -- The next bytes were analyzed. In a stream that is read no further, the records in the segment's
+  -- bytes are counted, as long as none is missing.
+  abbrev pub counting_on : Side → Segment → Stream → TlsAnalysis K → TlsAnalysis K
+  counting_on side s t a = if has_data s then counting side (passed t.passing s) a else a
+
+  pub record HearsOn (side : Side) (opened : Bool) (s : Segment) (t u : Stream)
+      (a b : TlsAnalysis K) : Type 0 where
+    pub mid : Stream
+    pub between : TlsAnalysis K
+    pub hears : HearsNext side opened t mid a between
+    pub passes : u ≡ passing_on s mid
+    pub counts : b ≡ counting_on side s mid between
+
+  -- A packet's tunnels are noted, and pieces kept if the log keeps any.
+  pub record IsPrepared (ts : Tunnels) (kept : Option PieceKind) (a b : TlsAnalysis K)
+      : Type 0 where
+    pub tunnels :
+        option_map (λ t. t.value) b.tunnels ≡ noted_tunnels ts (option_map (λ t. t.value) a.tunnels)
+    pub keeps : is_some b.collector ≡ (is_some kept || is_some a.collector)
+    pub stays : (is_some a.collector || not (is_some kept)) ≡ true → b.collector ≡ a.collector
+    pub same : b ≡ record a { tunnels = b.tunnels; collector = b.collector }
+
+  -- The records in a side's datagram are counted.
+  abbrev pub counted : Direction → Bytes → Bool → ℕ → TlsAnalysis K → TlsAnalysis K
+  counted d b d13 id_length a = record a {
+    by_originator =
+        if is_client d then with_datagram d13 id_length b a.by_originator else a.by_originator;
+    by_responder =
+        if is_client d then a.by_responder else with_datagram d13 id_length b a.by_responder;
+  }
+
+  -- What is known behind it shows how they are written.
+  abbrev pub counting_datagram : Direction → Bytes → datagrams.Analyzer → TlsAnalysis K
+      → TlsAnalysis K
+  counting_datagram d b k a = counted d b (is_13 (outcome_at k.flow.state))
+      (connection_id_length d k.handshake) a
+
+  -- A side's datagram, or the DTLS datagram inside it, was analyzed.
+  abbrev pub HearsDatagramIn : TransportAnalyzer → TransportAnalyzer → Direction → Bytes
+      → TlsAnalysis K → TlsAnalysis K → Type 0
+  HearsDatagramIn (said.Datagrams t) (said.Datagrams u) d datagram a b =
+      ((k : datagrams.Analyzer) → IsKnown k t → IsKnown (heard k d datagram) u
+      × (b ≡ record (counting_datagram d datagram (heard k d datagram) a) {
+        said = b.said;
+        collector = b.collector;
+      }))
+      × (b ≡ record a {
+        said = b.said;
+        collector = b.collector;
+        by_originator = b.by_originator;
+        by_responder = b.by_responder;
+      })
+  HearsDatagramIn (said.Datagrams t) (said.Stream y g) d datagram a b = ⊥
+  HearsDatagramIn (said.Stream x f) y d datagram a b = b ≡ a
+
+  abbrev pub HearsDatagram : Direction → Bytes → TlsAnalysis K → TlsAnalysis K → Type 0
+  HearsDatagram d datagram a b = HearsDatagramIn a.said b.said d datagram a b

@@ -71,6 +71,13 @@ abbrev pub with_front : Side → Front → Fronts → Fronts
 with_front Originator x f = record f { originator = x }
 with_front Responder x f = record f { responder = x }
 
+-- It is looked for on both sides, and no bytes were skipped.
+abbrev pub no_fronts : Fronts
+no_fronts = record {
+  originator = record { passed = 0; standing = Sought };
+  responder = record { passed = 0; standing = Sought };
+}
+
 -- Neither side is analyzed yet.
 abbrev pub are_silent : Fronts → Bool
 are_silent f = is_sought f.originator && is_sought f.responder

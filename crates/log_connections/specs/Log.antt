@@ -1,7 +1,7 @@
 -- What an arrival does to the log: its connection takes it, and that connection's analysis processes
 -- it.
 use Rattle.std.specs.Prelude.{◌≡◌, Bool, true, false, ◌∷◌}
-use Rattle.connections.specs.Connection.{side_of}
+use Rattle.connections.specs.Connection.{has_opening, side_of}
 use Rattle.connections.specs.Datagram.{five_tuple_of_datagram}
 use Rattle.connections.specs.Segment.{five_tuple_of}
 use Rattle.connections.specs.Table.{DropsDatagram, Table, TakesDatagram, TakesSegment, at, closed_behind, others}
@@ -19,16 +19,21 @@ use Rattle.log_connections.specs.declared.log.Reception.{Reception}
 use Rattle.log_connections.specs.declared.log.Reception.TheVariants as reception
 
 module _ {K : Type 0} where
+  -- A packet's tunnels are noted, and its pieces kept. Nothing else in the analysis changes.
+  abbrev pub IsReady : TlsAnalysis K → TlsAnalysis K → Type 0
+  IsReady a b = b ≡ record a { tunnels = b.tunnels; collector = b.collector }
+
   -- The next bytes of a side's stream are analyzed. Everything else in the connection stays, the
   -- other side's stream included.
-  abbrev pub HearsSide : Side → Connection (TlsAnalysis K) → Connection (TlsAnalysis K) → Type 0
-  HearsSide Originator c c' =
-      HearsOn Originator (direction_of c'.attachment.is_turned Originator) c.from_originator
-      c'.from_originator c.attachment.said c'.attachment.said
+  abbrev pub HearsSide : Segment → Side → Connection (TlsAnalysis K) → Connection (TlsAnalysis K)
+      → Type 0
+  HearsSide s Originator c c' =
+      (a : TlsAnalysis K) × IsReady c.attachment a
+      × HearsOn Originator (has_opening c) s c.from_originator c'.from_originator a c'.attachment
       × (c' ≡ record c { from_originator = c'.from_originator; attachment = c'.attachment })
-  HearsSide Responder c c' =
-      HearsOn Responder (direction_of c'.attachment.is_turned Responder) c.from_responder
-      c'.from_responder c.attachment.said c'.attachment.said
+  HearsSide s Responder c c' =
+      (a : TlsAnalysis K) × IsReady c.attachment a
+      × HearsOn Responder (has_opening c) s c.from_responder c'.from_responder a c'.attachment
       × (c' ≡ record c { from_responder = c'.from_responder; attachment = c'.attachment })
 
   -- The segment's connection takes it, and the next bytes of its sender's stream are analyzed. All
@@ -37,7 +42,7 @@ module _ {K : Type 0} where
     pub put : Connection (TlsAnalysis K)
     pub its : Connection (TlsAnalysis K)
     pub takes : TakesSegment s (at (five_tuple_of s) old.live) put
-    pub hears : HearsSide (side_of put s.source) put its
+    pub hears : HearsSide s (side_of put s.source) put its
     pub stands : new.live ≡ (five_tuple_of s, its) ∷ others (five_tuple_of s) old.live
     pub closed : new.closed ≡ closed_behind true s old
 
@@ -49,8 +54,9 @@ module _ {K : Type 0} where
   -- A datagram, or the DTLS datagram inside it, is analyzed. Everything else in the exchange stays.
   abbrev pub HearsFrom : Datagram → Connection (TlsAnalysis K) → Connection (TlsAnalysis K) → Type 0
   HearsFrom d c c' =
-      HearsDatagram (direction_of c.attachment.is_turned (side_of c d.source))
-      (held_datagram d.payload.now) c.attachment.said c'.attachment.said
+      (a : TlsAnalysis K) × IsReady c.attachment a
+      × HearsDatagram (direction_of c.attachment.is_turned (side_of c d.source))
+      (held_datagram d.payload.now) a c'.attachment
       × (c' ≡ record c { attachment = c'.attachment })
 
   -- The datagram's exchange takes and analyzes it. All others stay.

@@ -1,13 +1,13 @@
 -- The connections that a log passes to its sink.
 use Rattle.std.specs.Prelude.{◌≡◌, ⊤, ℕ, ◌<◌, ◌≤◌, IfSome, Bool, true, Result, Ok, Err, List, [], ◌∷◌, ◌++◌, Option, Some, None}
+use Rattle.connections.specs.Connection.{has_opening}
 use Rattle.connections.specs.Memory.{IsAccounted, open_part, total}
 use Rattle.connections.specs.Table.{IsOver, NoneIsOver, Table}
 use Rattle.connections.specs.declared.five_tuple.FiveTuple.{FiveTuple}
 use Rattle.connections.specs.declared.connection.Connection.{Connection}
 use Rattle.connections.specs.declared.connection.Side.TheVariants.{Originator, Responder}
-use Rattle.log_connections.specs.Analysis.{HearsStream, direction_of}
+use Rattle.log_connections.specs.Analysis.{HearsStream}
 use Rattle.log_connections.specs.declared.analysis.TlsAnalysis.{TlsAnalysis}
-use Rattle.log_connections.specs.declared.analysis.TransportAnalyzer.{TransportAnalyzer}
 use Rattle.log_connections.specs.declared.sink.LogError.{LogError}
 use Rattle.log_connections.specs.declared.sink.LogError.TheVariants.{OutOfMemory, Sink}
 
@@ -30,21 +30,21 @@ module _ {X : Type 0} where
   Receives old new (Err e) x = Adds old new []
 
 module _ {K : Type 0} where
-  -- The last bytes of both streams, which were held back, were analyzed. All else stays.
+  -- The last bytes of both streams, which were held back, were analyzed, and it may be marked as
+  -- ended early. All else stays.
   pub record IsEnded (c c' : Connection (TlsAnalysis K)) : Type 0 where
-    pub turned : Bool
-    pub between : TransportAnalyzer
+    pub between : TlsAnalysis K
+    pub last : TlsAnalysis K
     pub originator :
-        HearsStream Originator true (direction_of turned Originator) c.from_originator
-        c'.from_originator c.attachment.said between
+        HearsStream Originator (has_opening c) true c.from_originator c'.from_originator
+        c.attachment between
     pub responder :
-        HearsStream Responder true (direction_of c'.attachment.is_turned Responder) c.from_responder
-        c'.from_responder between c'.attachment.said
+        HearsStream Responder (has_opening c) true c.from_responder c'.from_responder between last
     pub same :
         c' ≡ record c {
           from_originator = c'.from_originator;
           from_responder = c'.from_responder;
-          attachment = c'.attachment;
+          attachment = record last { is_ended_early = c'.attachment.is_ended_early };
         }
 
   abbrev pub EndsAs : Option (Connection (TlsAnalysis K)) → Option (Connection (TlsAnalysis K))

@@ -1,10 +1,11 @@
 //! The TLS or DTLS analysis of a connection.
-ghost use Rattle.std.specs.Prelude.{◌≡◌, ◌||◌, OnOk, drop};
-ghost use Rattle.tls_detection.specs.Front.{held_datagram as held_datagram_of};
+ghost use Rattle.std.specs.Prelude.{◌≡◌, ◌||◌, OnErr, OnOk, Some, drop, false};
+ghost use Rattle.std.specs.Option.{option_copied_mut, option_map};
+ghost use Rattle.tls_detection.specs.Front.{first_message as first_in, held_datagram as held_datagram_of};
 ghost use Rattle.connections.specs.Stream.{is_cut_short};
 ghost use Rattle.tls_summary.specs.HandshakeSummary.{view_summary};
-ghost use Rattle.log_connections.specs.Accessors.{HasHandshake, HasHistory, HasOutcome, HasStop, IsEstablishedBy, IsResumedBy, LacksFront, records_of};
-ghost use Rattle.log_connections.specs.Analysis.{HearsAt, HearsDatagram, HearsNone, HearsStream, HearsSsl2, IsSpokenBy, PassesOver, begins_in, direction_of as direction_by, is_over_in, preamble_of};
+ghost use Rattle.log_connections.specs.Accessors.{BeginsAnother, HasHandshake, HasHistory, HasOutcome, HasStop, IsEstablishedBy, IsResumedBy, LacksFront, records_of};
+ghost use Rattle.log_connections.specs.Analysis.{HearsAt, HearsDatagram, HearsFurther, HearsNone, HearsSsl2, HearsStream, IsBegun, IsPrepared, IsSpokenBy, Keeps, PassesOver, are_passed as are_passed_on, begins_in, buffers_of as buffers_by, counted, counting, direction_of as direction_by, is_done as is_done_in, is_over_in, is_responder as is_responder_side, is_silent_in, noted_tunnels, preamble_of, stopped_if, tunnels_in, turned, turned_by as turned_by_message};
 
 use crate::audience::Audience;
 use crate::fronts::{Beginning, Fronts, begins_at};
@@ -49,7 +50,9 @@ pub enum PieceKind {
 
 impl PieceKind {
     /// Returns whether they are passed on as they come, and not with the connection.
-    pub(crate) fn are_passed(self) -> bool {
+    pub(crate) fn are_passed(self) -> bool
+        ensures { result ≡ are_passed_on self }
+    {
         !matches!(self, PieceKind::Chains)
     }
 }
@@ -99,7 +102,9 @@ pub struct TlsAnalysis<K> {
 
 /// Returns an upper bound for the buffers of a conversation of which this many bytes were analyzed.
 /// Their memory grows by doubling.
-fn buffers_of(heard: usize) -> usize {
+fn buffers_of(heard: usize) -> usize
+    ensures { result ≡ buffers_by heard }
+{
     heard.saturating_mul(2).min(MAX_BUFFERS)
 }
 
@@ -126,8 +131,41 @@ fn direction_of(is_turned: bool, side: Side) -> Direction
     }
 }
 
+/// Returns whether a side is the responder.
+fn is_responder(side: Side) -> bool
+    ensures { result ≡ is_responder_side side }
+{
+    matches!(side, Side::Responder)
+}
+
+/// Returns whether the originator is the server, by the type of a side's first message. The
+/// connection's opening was captured if it `is_opened`. A ServerHello counts only if it wasn't: a
+/// server that opens the connection waits for the client's hello.
+fn turned_by(message: Option<u8>, side: Side, is_opened: bool) -> bool
+    ensures { result ≡ turned_by_message message side is_opened }
+{
+    let Some(kind) = message else {
+        return false;
+    };
+    if kind == CLIENT_HELLO {
+        return is_responder(side);
+    }
+    kind == SERVER_HELLO && !is_responder(side) && !is_opened
+}
+
+/// Stops reading the stream of a side that is over.
+fn stop_if(stream: &mut Stream, is_over: bool)
+    ensures { stream.new ≡ stopped_if is_over stream.old }
+{
+    if is_over {
+        stream.stop();
+    }
+}
+
 impl<K: PieceCollector> Attachment for TlsAnalysis<K> {
-    fn begin(alloc: Global, protocol: Protocol) -> TlsAnalysis<K> {
+    fn begin(alloc: Global, protocol: Protocol) -> TlsAnalysis<K>
+        ensures { IsBegun protocol result }
+    {
         let said = match protocol {
             Protocol::Tcp => TransportAnalyzer::Stream(Analyzer::new(alloc), Fronts::NONE),
             Protocol::Udp => TransportAnalyzer::Datagrams(DatagramAnalyzer::new(alloc)),
@@ -255,39 +293,68 @@ impl<K: PieceCollector> TlsAnalysis<K> {
     }
 
     /// Returns whether a side's datagram begins another DTLS association.
-    pub(crate) fn begins_another(&self, side: Side, payload: &[u8]) -> bool {
+    pub(crate) fn begins_another(&self, side: Side, payload: &[u8]) -> bool
+        ensures { BeginsAnother result (direction_by self.now.is_turned side)
+            (held_datagram_of payload.now) self.now.said }
+    {
         match &self.said {
             TransportAnalyzer::Stream(_, _) => false,
             TransportAnalyzer::Datagrams(analyzer) => {
-                self.direction(side) == Direction::ToServer
+                matches!(self.direction(side), Direction::ToServer)
                     && analyzer.begins_another(held_datagram(payload))
             }
         }
     }
 
     /// Keeps the pieces that come from here on.
-    pub(crate) fn keep(&mut self, pieces: PieceKind) -> Result<(), AllocError>
-        ensures { self.new.said ≡ self.old.said }
+    fn keep(&mut self, pieces: PieceKind) -> Result<(), AllocError>
+        ensures kept { OnOk result (Keeps self.old self.new) }
+        ensures err { OnErr result (self.new ≡ self.old) }
     {
-        if self.collector.is_none() {
-            let collector = K::begin(self.alloc, pieces);
-            self.collector = Some(Box::new(self.alloc, collector)?);
+        if self.collector.is_some() {
+            return Ok(());
         }
+        let collector = K::begin(self.alloc, pieces);
+        self.collector = Some(Box::new(self.alloc, collector)?);
         Ok(())
     }
 
     /// Notes the tunnels of a packet, unless an earlier packet was in any.
-    pub(crate) fn note_tunnels(&mut self, tunnels: &Tunnels) -> Result<(), AllocError>
-        ensures { self.new.said ≡ self.old.said }
+    fn note_tunnels(&mut self, tunnels: &Tunnels) -> Result<(), AllocError>
+        ensures noted { OnOk result (option_map (λ t. t.value) self.new.tunnels
+            ≡ noted_tunnels tunnels.now (option_map (λ t. t.value) self.old.tunnels)) }
+        ensures same { self.new ≡ record self.old { tunnels = self.new.tunnels } }
+        ensures err { OnErr result (self.new ≡ self.old) }
     {
-        if self.tunnels.is_none() && !tunnels.is_empty() {
-            self.tunnels = Some(Box::new(self.alloc, *tunnels)?);
+        if let Some(_) = &self.tunnels {
+            return Ok(());
         }
+        if tunnels.is_empty() {
+            return Ok(());
+        }
+        self.tunnels = Some(Box::new(self.alloc, *tunnels)?);
         Ok(())
     }
 
+    /// Notes the tunnels of the next packet, and keeps its pieces if any are `kept`.
+    pub(crate) fn prepare(
+        &mut self,
+        tunnels: &Tunnels,
+        kept: Option<PieceKind>,
+    ) -> Result<(), AllocError>
+        ensures { OnOk result (IsPrepared tunnels.now kept self.old self.new) }
+    {
+        self.note_tunnels(tunnels)?;
+        match kept {
+            Some(pieces) => self.keep(pieces),
+            None => Ok(()),
+        }
+    }
+
     /// Returns the tunnels of the first packet that was in any, outermost first.
-    pub fn tunnels(&self) -> &[Tunnel] {
+    pub fn tunnels(&self) -> &[Tunnel]
+        ensures { result.now ≡ tunnels_in self.now.tunnels }
+    {
         match &self.tunnels {
             Some(tunnels) => tunnels.as_slice(),
             None => &[],
@@ -295,7 +362,9 @@ impl<K: PieceCollector> TlsAnalysis<K> {
     }
 
     /// Returns the collector, if pieces are kept.
-    pub fn collector(&mut self) -> Option<&mut K> {
+    pub fn collector(&mut self) -> Option<&mut K>
+        ensures { option_copied_mut result ≡ option_map (λ b. b.value) self.old.collector }
+    {
         match &mut self.collector {
             Some(collector) => Some(&mut **collector),
             None => None,
@@ -303,7 +372,9 @@ impl<K: PieceCollector> TlsAnalysis<K> {
     }
 
     /// Returns the collector, if there is one.
-    pub fn kept(&self) -> Option<&K> {
+    pub fn kept(&self) -> Option<&K>
+        ensures { option_map (λ k. k.now) result ≡ option_map (λ b. b.value) self.now.collector }
+    {
         match &self.collector {
             Some(collector) => Some(&**collector),
             None => None,
@@ -341,30 +412,44 @@ impl<K: PieceCollector> TlsAnalysis<K> {
         }
     }
 
-    /// Decides which side is the client, by the first analyzed bytes of the connection. A
-    /// ServerHello counts only if the opening wasn't captured: a server that opens the connection
-    /// waits for the client's hello.
-    fn see_client(&mut self, side: Side, bytes: &[u8], is_opened: bool)
-        ensures { self.new ≡ record self.old { is_turned = self.new.is_turned } }
+    /// Returns whether neither side of a stream is analyzed yet.
+    fn are_silent(&self) -> bool
+        ensures { result ≡ is_silent_in self.now.said }
     {
-        let is_first = match &self.said {
+        match &self.said {
             TransportAnalyzer::Stream(_, fronts) => fronts.are_silent(),
             TransportAnalyzer::Datagrams(_) => false,
-        };
-        if !is_first {
+        }
+    }
+
+    /// Decides which side is the client, if these are the first analyzed bytes of the connection.
+    fn see_client(&mut self, side: Side, bytes: &[u8], is_opened: bool)
+        ensures { self.new ≡ record self.old {
+          is_turned =
+              turned (first_in bytes.now) side is_opened self.old.said self.old.is_turned;
+        } }
+    {
+        if !self.are_silent() {
             return;
         }
-        self.is_turned = match first_message(bytes) {
-            Some(CLIENT_HELLO) => side == Side::Responder,
-            Some(SERVER_HELLO) => side == Side::Originator && !is_opened,
-            _ => false,
-        };
+        self.is_turned = turned_by(first_message(bytes), side, is_opened);
+    }
+
+    /// Decides which side is the client, if an SSL 2.0 ClientHello of this side is the first
+    /// message of the connection.
+    fn see_ssl2_client(&mut self, side: Side)
+        ensures { self.new ≡ record self.old
+            { is_turned = turned (Some 1) side false self.old.said self.old.is_turned } }
+    {
+        if !self.are_silent() {
+            return;
+        }
+        self.is_turned = is_responder(side);
     }
 
     /// Counts the records in a side's next bytes.
     pub(crate) fn count_records(&mut self, side: Side, bytes: &[u8])
-        ensures { self.new ≡ record self.old
-            { from_originator = self.new.from_originator; from_responder = self.new.from_responder } }
+        ensures { self.new ≡ counting side bytes.now self.old }
     {
         match side {
             Side::Originator => self.from_originator.add(bytes),
@@ -383,8 +468,7 @@ impl<K: PieceCollector> TlsAnalysis<K> {
         known: &mut CertificateCache,
     ) -> Result<(), AllocError>
         ensures { OnOk result
-            (HearsAt side (direction_by self.new.is_turned side) n stream.old stream.new
-            self.old.said self.new.said) }
+            (HearsAt side is_opened n stream.old stream.new self.old self.new) }
     {
         let all = stream.available();
         let bytes = behind(all, n);
@@ -410,9 +494,7 @@ impl<K: PieceCollector> TlsAnalysis<K> {
         self.count_records(side, bytes);
         let len = all.len();
         stream.take(len);
-        if is_over {
-            stream.stop();
-        }
+        stop_if(stream, is_over);
         Ok(())
     }
 
@@ -420,22 +502,18 @@ impl<K: PieceCollector> TlsAnalysis<K> {
     /// with the next bytes.
     #[tactic(auto, unfolding(crate::specs::Analysis::HearsSsl2))]
     fn analyze_ssl2(&mut self, stream: &mut Stream, side: Side) -> Result<(), AllocError>
-        ensures { OnOk result
-            (HearsSsl2 side (direction_by self.new.is_turned side) stream.old stream.new
-            self.old.said self.new.said) }
+        ensures { OnOk result (HearsSsl2 side stream.old stream.new self.old self.new) }
     {
         let bytes = stream.available();
         let Ok((rest, hello)) = parse_ssl2_client_hello(bytes) else {
             return Ok(());
         };
         let n = bytes.len().saturating_sub(rest.len());
+        self.see_ssl2_client(side);
+        let direction = self.direction(side);
         let TransportAnalyzer::Stream(analyzer, fronts) = &mut self.said else {
             return Ok(());
         };
-        if fronts.are_silent() {
-            self.is_turned = side == Side::Responder;
-        }
-        let direction = direction_of(self.is_turned, side);
         fronts.begin(side, 0);
         analyzer.analyze_ssl2(self.alloc, direction, &hello)?;
         stream.take(n);
@@ -445,9 +523,7 @@ impl<K: PieceCollector> TlsAnalysis<K> {
     /// Analyzes a side as one that doesn't speak TLS, and stops reading its stream.
     #[tactic(auto, unfolding(crate::specs::Analysis::HearsNone))]
     fn skip_side(&mut self, stream: &mut Stream, side: Side) -> Result<(), AllocError>
-        ensures { OnOk result
-            (HearsNone side (direction_by self.new.is_turned side) stream.old stream.new
-            self.old.said self.new.said) }
+        ensures { OnOk result (HearsNone side stream.old stream.new self.old self.new) }
     {
         let direction = self.direction(side);
         let TransportAnalyzer::Stream(analyzer, fronts) = &mut self.said else {
@@ -462,8 +538,7 @@ impl<K: PieceCollector> TlsAnalysis<K> {
     /// Skips bytes of a side before its TLS.
     #[tactic(auto, unfolding(crate::specs::Analysis::PassesOver))]
     fn pass_over(&mut self, stream: &mut Stream, side: Side, n: usize)
-        ensures passed { PassesOver side n stream.old stream.new self.old.said self.new.said }
-        ensures turned { self.new.is_turned ≡ self.old.is_turned }
+        ensures { PassesOver side n stream.old stream.new self.old self.new }
     {
         if let TransportAnalyzer::Stream(_, fronts) = &mut self.said {
             fronts.pass(side, n);
@@ -496,10 +571,17 @@ impl<K: PieceCollector> TlsAnalysis<K> {
         }
     }
 
+    /// Returns whether a side is over and has no next bytes.
+    fn is_done(&self, stream: &Stream, side: Side) -> bool
+        ensures { result ≡ is_done_in side stream.now self.now }
+    {
+        stream.available().is_empty() && self.is_over(side)
+    }
+
     /// Analyzes the next bytes of a side's stream, from where its TLS begins, and skips those
     /// before. They are its last if they `are_last`. The connection's opening was captured if it
     /// `is_opened`.
-    #[tactic(auto, using(crate::proofs::FrontLemmas::over_stays))]
+    #[tactic(auto, unfolding(crate::specs::Analysis::HearsStream))]
     pub(crate) fn analyze_stream(
         &mut self,
         stream: &mut Stream,
@@ -509,12 +591,11 @@ impl<K: PieceCollector> TlsAnalysis<K> {
         known: &mut CertificateCache,
     ) -> Result<(), AllocError>
         ensures { OnOk result
-            (HearsStream side (are_last || is_cut_short stream.old stream.old.reading)
-            (direction_by self.new.is_turned side)
-            stream.old stream.new self.old.said self.new.said) }
+            (HearsStream side is_opened (are_last || is_cut_short stream.old stream.old.reading)
+            stream.old stream.new self.old self.new) }
     {
         // (most packets come after the whole handshake was analyzed)
-        if stream.available().is_empty() && self.is_over(side) {
+        if self.is_done(stream, side) {
             stream.stop();
             return Ok(());
         }
@@ -522,7 +603,7 @@ impl<K: PieceCollector> TlsAnalysis<K> {
     }
 
     /// Analyzes the next bytes of a side that has any, or may be analyzed further.
-    #[tactic(auto, unfolding(crate::specs::Analysis::HearsStream))]
+    #[tactic(auto, unfolding(crate::specs::Analysis::HearsFurther))]
     fn hear_further(
         &mut self,
         stream: &mut Stream,
@@ -532,9 +613,8 @@ impl<K: PieceCollector> TlsAnalysis<K> {
         known: &mut CertificateCache,
     ) -> Result<(), AllocError>
         ensures { OnOk result
-            (HearsStream side (are_last || is_cut_short stream.old stream.old.reading)
-            (direction_by self.new.is_turned side)
-            stream.old stream.new self.old.said self.new.said) }
+            (HearsFurther side is_opened (are_last || is_cut_short stream.old stream.old.reading)
+            stream.old stream.new self.old self.new) }
     {
         let are_last = are_last || stream.is_cut();
         match self.beginning(stream.available(), side, are_last) {
@@ -549,6 +629,22 @@ impl<K: PieceCollector> TlsAnalysis<K> {
         }
     }
 
+    /// Counts the records in a side's datagram.
+    fn count_datagram(
+        &mut self,
+        direction: Direction,
+        payload: &[u8],
+        connection_id_len: usize,
+        is_13: bool,
+    )
+        ensures { self.new ≡ counted direction payload.now is_13 connection_id_len self.old }
+    {
+        match direction {
+            Direction::ToServer => self.by_originator.add(payload, connection_id_len, is_13),
+            Direction::FromServer => self.by_responder.add(payload, connection_id_len, is_13),
+        }
+    }
+
     /// Analyzes a side's datagram, or the DTLS datagram inside it.
     pub(crate) fn analyze_datagram(
         &mut self,
@@ -557,7 +653,7 @@ impl<K: PieceCollector> TlsAnalysis<K> {
         known: &mut CertificateCache,
     ) -> Result<(), AllocError>
         ensures { OnOk result
-            (HearsDatagram direction (held_datagram_of payload.now) self.old.said self.new.said) }
+            (HearsDatagram direction (held_datagram_of payload.now) self.old self.new) }
     {
         let payload = held_datagram(payload);
         let TransportAnalyzer::Datagrams(analyzer) = &mut self.said else {
@@ -578,10 +674,7 @@ impl<K: PieceCollector> TlsAnalysis<K> {
         // records)
         let id_len = analyzer.handshake().connection_id_len(direction);
         let is_13 = analyzer.is_13();
-        match direction {
-            Direction::ToServer => self.by_originator.add(payload, id_len, is_13),
-            Direction::FromServer => self.by_responder.add(payload, id_len, is_13),
-        }
+        self.count_datagram(direction, payload, id_len, is_13);
         Ok(())
     }
 }

@@ -2,7 +2,7 @@
 ghost use Rattle.std.specs.Prelude.{◌≡◌, ◌<◌, IfOk, IfSome, OnOk, is_some, length};
 ghost use Rattle.std.specs.Option.{option_map};
 ghost use Rattle.connections.specs.Connection.{side_of};
-ghost use Rattle.log_connections.specs.Analysis.{HearsNext, HearsOn, direction_of as direction};
+ghost use Rattle.log_connections.specs.Analysis.{HearsNext, HearsOn};
 ghost use Rattle.log_connections.specs.Log.{HearsFrom, HearsSide, Logs, LogsDatagram, LogsExchange, LogsOpen};
 ghost use Rattle.log_connections.specs.Sink.{EndsAs, EndsIdle, EndsLast, IsEnded};
 
@@ -101,9 +101,7 @@ fn analyze_next<K: PieceCollector>(
     is_opened: bool,
     known: &mut CertificateCache,
 ) -> Result<(), AllocError>
-    ensures { OnOk result
-        (HearsNext side (direction heard.new.is_turned side) stream.old stream.new heard.old.said
-        heard.new.said) }
+    ensures { OnOk result (HearsNext side is_opened stream.old stream.new heard.old heard.new) }
 {
     heard.analyze_stream(stream, side, is_opened, false, known)?;
     if stream.pass_urgent() {
@@ -124,8 +122,7 @@ fn analyze_side<K: PieceCollector>(
     known: &mut CertificateCache,
 ) -> Result<(), AllocError>
     ensures { OnOk result
-        (HearsOn side (direction heard.new.is_turned side) stream.old stream.new heard.old.said
-        heard.new.said) }
+        (HearsOn side is_opened segment.now stream.old stream.new heard.old heard.new) }
 {
     analyze_next(heard, stream, side, is_opened, known)?;
     if segment.has_data() {
@@ -144,14 +141,12 @@ fn analyze<K: PieceCollector>(
     known: &mut CertificateCache,
 ) -> Result<(), AllocError>
     ensures { OnOk result
-        (HearsSide (side_of connection.old segment.now.source) connection.old connection.new) }
+        (HearsSide segment.now (side_of connection.old segment.now.source) connection.old
+        connection.new) }
 {
     let (side, is_opened) = (connection.side_of(segment.source), connection.has_opening());
     let heard = &mut connection.attachment;
-    heard.note_tunnels(tunnels)?;
-    if let Some(pieces) = kept {
-        heard.keep(pieces)?;
-    }
+    heard.prepare(tunnels, kept)?;
     match side {
         Side::Originator => {
             let stream = &mut connection.from_originator;
@@ -177,10 +172,7 @@ fn analyze_from<K: PieceCollector>(
     let side = exchange.side_of(datagram.source);
     let heard = &mut exchange.attachment;
     let direction = heard.direction(side);
-    heard.note_tunnels(tunnels)?;
-    if let Some(pieces) = kept {
-        heard.keep(pieces)?;
-    }
+    heard.prepare(tunnels, kept)?;
     heard.analyze_datagram(direction, datagram.payload, known)
 }
 

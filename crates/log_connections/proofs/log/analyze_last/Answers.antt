@@ -6,9 +6,9 @@ pub returns : goal.returns
 returns g c =
     IfOk-weaker c.analyze_stream-2.result _ _
     (λ _ heard. record {
-      turned = c.analyze_stream.new.self.is_turned;
-      between = c.analyze_stream.new.self.said;
-      originator = c.in_ok-analyze_stream.ensures;
-      responder = heard;
+      between = c.analyze_stream.new.self;
+      last = c.analyze_stream-2.new.self;
+      originator = rw (← c.has_opening-is_opened.ensures) c.in_ok-analyze_stream.ensures;
+      responder = rw (← c.has_opening-is_opened.ensures) heard;
       same = refl;
     }) c.analyze_stream-2.ensures

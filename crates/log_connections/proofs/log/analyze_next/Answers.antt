@@ -1,17 +1,15 @@
 use Rattle.std.proofs.Common.{sym, ◌∙◌, subst}
 use Rattle.connections.specs.Stream.{is_cut_short}
-use Rattle.log_connections.specs.Analysis.{HearsStream, direction_of as direction}
+use Rattle.log_connections.specs.Analysis.{HearsStream}
 use Rattle.log_connections.specs.Analysis.HearsNext.{around_urgent}
 use Rattle.log_connections.proofs.log.analyze_next.Goals as goal
 
 pub returns-in_ok-analyze_stream-2 : goal.returns-in_ok-analyze_stream-2
 returns-in_ok-analyze_stream-2 g c =
     let again = c.analyze_stream-then-pass_urgent.new in
-    around_urgent c.analyze_stream.new.self.is_turned c.analyze_stream.new.stream
-    c.analyze_stream.new.self.said
+    around_urgent c.analyze_stream.new.stream c.analyze_stream.new.self
     c.in_ok-analyze_stream.ensures (sym c.pass_urgent.ensures.next ∙ c.if-pass_urgent.true)
     (subst
-    (λ m. HearsStream c.args.side (is_cut_short m m.reading)
-    (direction again.self.is_turned c.args.side) m again.stream
-    c.analyze_stream.new.self.said again.self.said)
+    (λ m. HearsStream c.args.side c.args.is_opened (is_cut_short m m.reading) m again.stream
+    c.analyze_stream.new.self again.self)
     c.pass_urgent.ensures.passed c.in_ok-analyze_stream-2.ensures)

@@ -1,15 +1,12 @@
-use Rattle.std.proofs.Common.{rules, subst}
+use Rattle.std.proofs.Common.{rules, refl, subst}
 use Rattle.tls_analyzer.specs.Analyzers.{IsHeardAsNone}
-use Rattle.log_connections.specs.Analysis.{direction_of}
 use Rattle.log_connections.proofs.FrontLemmas.{heard_none}
 use Rattle.log_connections.proofs.analysis.TlsAnalysis.skip_side.Goals as goal
 
 pub returns : goal.returns
 returns g c =
-    heard_none c.args.side (direction_of c.args.self.now.is_turned c.args.side) c.args.stream.now
-    c.stop.new.self
-    c.args.self.now.said c.in-Stream.analyzer c.in-Stream.fronts c.skip_side.new.self
-    c.leave.new.self (search rules)
+    heard_none c.args.side c.args.stream.now c.stop.new.self c.args.self.now _ c.in-Stream.analyzer
+    c.in-Stream.fronts c.skip_side.new.self c.leave.new.self (search rules) refl
     (subst (λ d. IsHeardAsNone c.in-Stream.analyzer d c.skip_side.new.self)
     c.direction-direction.ensures
     c.in_ok-skip_side.ensures)
