@@ -124,6 +124,7 @@ impl ArrivalReader {
             (datagram_of_whole joined.now) self.old self.new) }
         ensures time { IfOk result
             (λ arrival. IfSome arrival (λ a. time_of a ≡ packet.entry.time)) }
+        ensures err { OnErr result (self.new ≡ record self.old { tunnels = self.new.tunnels }) }
         ensures fails { OnErr result (is_some self.old.networks ≡ true) }
     {
         let Some(datagram) = joined.datagram() else {

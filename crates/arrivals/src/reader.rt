@@ -7,7 +7,7 @@ ghost use Rattle.networks.specs.Networks.{none_held};
 ghost use Rattle.packets.specs.Section.{view_packet};
 ghost use Rattle.tunnels.specs.Walk.{view_inside, Held};
 ghost use Rattle.arrivals.specs.Arrival.{is_logged, time_of};
-ghost use Rattle.arrivals.specs.Counts.{with_other_part};
+ghost use Rattle.arrivals.specs.Counts.{with_other_part, with_packet_counted};
 ghost use Rattle.arrivals.specs.Reader.{IsNew, IsNumbered, Reads, ReadsContent, ReadsInside};
 
 use crate::arrival::{Arrival, Checksums, checksum_of, datagram_of, end, segment_of};
@@ -146,6 +146,7 @@ impl ArrivalReader {
             (ReadsInside (view_packet packet.entry) (view_inside inside.now) self.old self.new) }
         ensures time { IfOk result
             (λ arrival. IfSome arrival (λ a. time_of a ≡ packet.entry.time)) }
+        ensures err { OnErr result (self.new ≡ self.old) }
         ensures fails { OnErr result (is_some self.old.networks ≡ true) }
         ensures tunnels { self.new.tunnels ≡ self.old.tunnels }
     {
@@ -171,6 +172,7 @@ impl ArrivalReader {
             (content.Tcp (view_segment tcp.now)) self.old self.new) }
         ensures time { IfOk result
             (λ arrival. IfSome arrival (λ a. time_of a ≡ packet.entry.time)) }
+        ensures err { OnErr result (self.new ≡ self.old) }
         ensures fails { OnErr result (is_some self.old.networks ≡ true) }
         ensures tunnels { self.new.tunnels ≡ self.old.tunnels }
     {
@@ -197,6 +199,7 @@ impl ArrivalReader {
             (content.Udp (view_user_datagram udp.now)) self.old self.new) }
         ensures time { IfOk result
             (λ arrival. IfSome arrival (λ a. time_of a ≡ packet.entry.time)) }
+        ensures err { OnErr result (self.new ≡ self.old) }
         ensures fails { OnErr result (is_some self.old.networks ≡ true) }
         ensures tunnels { self.new.tunnels ≡ self.old.tunnels }
     {
@@ -220,6 +223,10 @@ impl ArrivalReader {
         ensures reads { IfOk result (Reads (view_packet packet.entry) self.old self.new) }
         ensures time { IfOk result
             (λ arrival. IfSome arrival (λ a. time_of a ≡ packet.entry.time)) }
+        ensures err { OnErr result (self.new ≡ record self.old {
+          counts = with_packet_counted self.old.counts;
+          tunnels = self.new.tunnels;
+        }) }
         ensures fails { OnErr result (is_some self.old.networks ≡ true) }
     {
         add_one(&mut self.counts.packets);
@@ -270,6 +277,7 @@ impl ArrivalReader {
             self.new) }
         ensures time { IfOk result
             (λ arrival. IfSome arrival (λ a. time_of a ≡ packet.entry.time)) }
+        ensures err { OnErr result (self.new ≡ self.old) }
         ensures fails { OnErr result (is_some self.old.networks ≡ true) }
         ensures tunnels { self.new.tunnels ≡ self.old.tunnels }
     {
