@@ -44,7 +44,7 @@ def require_malloc_alone(program: Path) -> None:
 def environment(heap: str, number: int, counter: str) -> dict[str, str]:
     """The environment of a run whose request of this number is refused (0 refuses none), and which
     leaves the number of its requests in the file `counter`."""
-    return {"LD_PRELOAD": heap, "REFUSED": str(number), "TOLD": counter}
+    return {"LD_PRELOAD": heap, "REFUSED": str(number), "COUNT_FILE": counter}
 
 
 def take_count(counter: str) -> int:

@@ -2,7 +2,7 @@
 //
 // REFUSED: the number of the read or write that fails, counted from 1; 0 lets none fail.
 // SHORT: if it is set, each of them moves one byte at most.
-// TOLD: a file that gets the number of reads and writes when the program ends.
+// COUNT_FILE: a file that gets the number of reads and writes when the program ends.
 
 #include <errno.h>
 #include <fcntl.h>
@@ -39,8 +39,8 @@ __attribute__((constructor)) static void begin(void) {
 }
 
 __attribute__((destructor)) static void end(void) {
-    const char *told = getenv("TOLD");
-    int file = told ? open(told, O_WRONLY | O_CREAT | O_TRUNC, 0600) : -1;
+    const char *place = getenv("COUNT_FILE");
+    int file = place ? open(place, O_WRONLY | O_CREAT | O_TRUNC, 0600) : -1;
     if (file >= 0) {
         // The reader of the file reports one that is too short.
         ssize_t written = syscall(SYS_write, file, &made, sizeof made);

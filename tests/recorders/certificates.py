@@ -1,4 +1,4 @@
-"""Handshakes of TLS 1.2 with certificates of all fields that tlslog prints.
+"""Handshakes of TLS 1.2 with certificates that have all fields that tlslog prints.
 
 Both peers are OpenSSL's, in this process (Python's `ssl` over buffers); their bytes are put into
 segments of TCP. wanted.json has the expected lines: of connections by tshark's fields and what
@@ -23,7 +23,7 @@ from tests.support.shapes import Line
 
 FOLDER = Path(__file__).resolve().parents[2] / "captures/certificates"
 CLIENT, SERVER = (bytes([192, 0, 2, 1]), 50000), (bytes([192, 0, 2, 2]), 443)
-# When each capture begins, in microseconds since 1970.
+# The start of each capture, in microseconds since 1970.
 BEGIN = 1_795_700_000_000_000
 STEP = 1000
 EC = ["-newkey", "ec", "-pkeyopt", "ec_paramgen_curve:P-256"]
@@ -32,7 +32,7 @@ basicConstraints = CA:FALSE
 keyUsage = critical, digitalSignature, keyEncipherment
 extendedKeyUsage = serverAuth, clientAuth, 1.2.3.4
 """
-# The subject, the key and the extensions of each certificate, and who signs it.
+# The subject, key, extensions and issuer of each certificate.
 CERTIFICATES = {
     "root": (
         "/C=DE/O=Caf\u00e9, Inc./CN=root",
@@ -60,7 +60,7 @@ CERTIFICATES = {
         "root",
     ),
 }
-# The server's certificates, the client's, and the host that is asked for.
+# The server's certificates, the client's, and the requested host.
 CASES = {
     "names": (["leaf", "issuer", "root"], [], "example.test"),
     "wildcard": (["leaf", "issuer"], [], "Host.WILD.test"),
@@ -122,7 +122,7 @@ def context(work: Path, side: int, chain: list[str], other: bool) -> ssl.SSLCont
 
 
 def talk(work: Path, server: list[str], client: list[str], host: str) -> list[tuple[bool, bytes]]:
-    """The pieces of a handshake in their order, each with whether the client sends it."""
+    """Returns the pieces of a handshake in order, each with whether the client sends it."""
     buffers = [ssl.MemoryBIO() for _ in range(4)]
     of_client = context(work, ssl.PROTOCOL_TLS_CLIENT, client, False).wrap_bio(
         buffers[0], buffers[1], server_hostname=host
@@ -151,7 +151,7 @@ def talk(work: Path, server: list[str], client: list[str], host: str) -> list[tu
 
 
 class Capture:
-    """Segments of one connection, with the numbers that they should have."""
+    """Builds the segments of one connection, with correct sequence numbers."""
 
     def __init__(self) -> None:
         self.time, self.sent, self.segments = BEGIN, {True: 1000, False: 2000}, []
@@ -197,13 +197,13 @@ def der(work: Path, name: str) -> bytes:
 
 
 def bent(pieces: Iterable[tuple[bool, bytes]], work: Path) -> list[tuple[bool, bytes]]:
-    """The pieces with another tag at the front of the second certificate."""
+    """Returns the pieces with another tag at the start of the second certificate."""
     before = der(work, "issuer")
     return [(is_client, piece.replace(before, b"\x31" + before[1:])) for is_client, piece in pieces]
 
 
 def detail(one: bytes, fault: str | None) -> Line:
-    """The expected line of one certificate."""
+    """Returns the expected line of one certificate."""
     line = {"fingerprint": wanted_certificates.fingerprint(one), "length": len(one)}
     return line | ({"error": fault} if fault else wanted_certificates.of_line(one))
 
@@ -238,8 +238,8 @@ def wanted_of(work: Path, file: Path, case: str) -> dict[str, list[Line]]:
 
 
 def wanted_of_broken(work: Path, file: Path) -> Line:
-    """The line of a connection whose second certificate tshark can't read: the line with the intact
-    certificate, except for the fields that the changed byte affects."""
+    """Returns the line of a connection whose second certificate tshark can't parse: the line with
+    the intact certificate, except for the fields that the changed byte affects."""
     [found] = wanted.lines(file)
     chain = [der(work, name) for name in CASES[BROKEN][0]]
     chain[1] = b"\x31" + chain[1][1:]
@@ -256,7 +256,7 @@ def wanted_of_broken(work: Path, file: Path) -> Line:
 
 
 def time_of_messages(file: Path) -> dict[bool, float]:
-    """When the Certificate of each side is whole."""
+    """Returns when each side's Certificate was complete."""
     words = [
         "tshark",
         "-r",

@@ -29,7 +29,7 @@ STORED_DTLS = """
     openssl_dtls12 openssl_dtls12_cookie openssl_dtls12_resumed openssl_dtls12_mtu openssl_dtls12_client_certificate
     gnutls_dtls12 gnutls_dtls12_no_cookie gnutls_dtls12_mtu
 """.split()
-# Packets on these are of at most 576 bytes, so that a message comes in several.
+# Packets on these have at most 576 bytes, so that messages span several.
 SMALL = {
     "openssl_rsa",
     "openssl_client_certificate_rsa",

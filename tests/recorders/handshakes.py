@@ -1,5 +1,5 @@
-"""Handshakes of this machine's OpenSSL and GnuTLS, by their commands, and a relay on 127.0.0.1 that
-records the bytes."""
+"""Runs handshakes of this machine's OpenSSL and GnuTLS through a relay on 127.0.0.1, which records
+the bytes."""
 
 from __future__ import annotations
 
@@ -26,8 +26,8 @@ def sh(work: Path, command: str) -> None:
 
 
 def make_keys(work: Path) -> None:
-    """A CA, and certificates of it: RSA and EC for the server, EC for the client; and a certificate
-    status of each of the server's."""
+    """Makes a CA, and its certificates: RSA and EC for the server, EC for the client, and a
+    certificate status for each of the server's."""
     new = "openssl req -x509 -nodes -days 3650 -subj /CN="
     curve = "-newkey ec -pkeyopt ec_paramgen_curve:P-256"
     sh(work, f"{new}ca.test {curve} -keyout ca.key -out ca.pem")
@@ -58,7 +58,7 @@ def make_keys(work: Path) -> None:
 
 
 class Relay(threading.Thread):
-    """Relays the bytes of client and server, and records them."""
+    """Relays and records the bytes of client and server."""
 
     def __init__(self, udp: bool) -> None:
         super().__init__(daemon=True)
@@ -134,7 +134,7 @@ class Relay(threading.Thread):
 
 
 def converse(work: Path, client: str, wait: float) -> None:
-    """Runs a client to its end, which comes a while after its standard input's."""
+    """Runs a client until it ends, some time after its standard input does."""
     process = subprocess.Popen(
         client,
         shell=True,
@@ -162,8 +162,7 @@ def record(
     udp: bool = False,
     wait: float = 1.5,
 ) -> None:
-    """The last client's conversation is kept. Where a client is None, the server is started
-    again."""
+    """Records the last client's conversation. Where a client is None, the server is restarted."""
     relay = Relay(udp)
     relay.start()
 
@@ -195,7 +194,7 @@ def record(
 
 
 def conversations() -> dict[str, tuple]:
-    """Name: server, clients, whether DTLS."""
+    """Returns the handshakes by name: the server, the clients, and whether it is DTLS."""
     s = f"openssl s_server -accept 127.0.0.1:{SERVER} -quiet"
     c = f"openssl s_client -connect 127.0.0.1:{RELAY}"
     rsa, ec, none = "-cert rsa.pem -key rsa.key", "-cert ec.pem -key ec.key", "-nocert"

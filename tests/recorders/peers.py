@@ -1,4 +1,4 @@
-"""Live peers of TLS and DTLS in a network of their own, and tcpdump beside them."""
+"""Live TLS and DTLS peers in a network namespace, captured by tcpdump."""
 
 from __future__ import annotations
 
@@ -14,8 +14,8 @@ HOST = "127.0.0.1"
 
 
 def enter_own_network() -> None:
-    """Starts the script again in a separate network, in which nothing else is captured and any port
-    is free."""
+    """Restarts the script in a network namespace, where nothing else is captured and all ports are
+    free."""
     script.enter_own_network()
     for words in (["gso_max_segs", "1"], ["up"]):
         subprocess.run(["ip", "link", "set", "dev", "lo", *words], check=True)
@@ -29,7 +29,7 @@ def make_keys(work: Path) -> None:
 
 
 class Dump:
-    """tcpdump, while the block runs."""
+    """Runs tcpdump while the block runs."""
 
     def __init__(self, file: Path, words: str) -> None:
         self.file, self.words = Path(file), words
@@ -57,7 +57,7 @@ class Dump:
 
 
 class Peer:
-    """A program that talks, with what it prints."""
+    """A running peer and its output."""
 
     def __init__(self, work: Path, command: str, name: str) -> None:
         self.file = Path(work) / f"{name}.said"
@@ -70,7 +70,7 @@ class Peer:
                 stderr=subprocess.STDOUT,
             )
 
-    def said(self) -> str:
+    def output(self) -> str:
         return self.file.read_text(errors="replace")
 
     def tell(self, line: bytes) -> None:
@@ -81,18 +81,18 @@ class Peer:
             pass
 
     def waits_for(self, words: Iterable[str], seconds: float = 4) -> bool:
-        """Whether it printed one of the words in that time."""
+        """Returns whether it printed one of the words within that time."""
         end = time.monotonic() + seconds
         while time.monotonic() < end:
-            if any(word in self.said() for word in words):
+            if any(word in self.output() for word in words):
                 return True
             if self.process.poll() is not None:
-                return any(word in self.said() for word in words)
+                return any(word in self.output() for word in words)
             time.sleep(0.05)
         return False
 
     def end(self, seconds: float = 2) -> None:
-        """Closes its standard input, and ends it where it goes on."""
+        """Closes its standard input, and kills it if it doesn't end."""
         try:
             self.process.stdin.close()
         except OSError:

@@ -1,6 +1,6 @@
-"""A connection of OpenSSL by each cipher suite up to TLS 1.2 that it has.
+"""An OpenSSL connection for each of its cipher suites up to TLS 1.2.
 
-FOLDER/suites.pcap gets them in TLS 1.2, TLS 1.0 and DTLS 1.2.
+FOLDER/suites.pcap has them in TLS 1.2, TLS 1.0 and DTLS 1.2.
 `tests/oracle/compare exchanges PROGRAM FOLDER/suites.pcap` compares the fields of their messages.
 """
 
@@ -13,7 +13,7 @@ from pathlib import Path
 
 from tests.support import script
 
-# A capture of these is stored nowhere.
+# The repository stores no capture of these.
 FOLDER = None
 ALL = "ALL:COMPLEMENTOFALL:@SECLEVEL=0"
 KEY = "-psk 0a0b0c0d"
@@ -72,7 +72,7 @@ def record(into: Path, _: list[str]) -> bool:
         make_keys(room)
         running = []
         for version, port in VERSIONS.items():
-            # One asks for a certificate of the client.
+            # One requests a client certificate.
             one = f"{SERVER} {version} -cert rsa.pem -key rsa.key -dcert ec.pem -dkey ec.key -verify 1 -accept {port}"
             other = f"{SERVER} {version} -cert dsa.pem -key dsa.key -accept {port + 1}"
             running += [

@@ -1,7 +1,7 @@
 """Connections of OpenSSL, GnuTLS, curl and Python's ssl to servers of OpenSSL and GnuTLS.
 
-`talks/COUNT` records COUNT connections to FOLDER/talks.pcap. Each has a version, suites, groups and
-protocols by chance, from a seed; a few have none in common with the server. The servers listen on
+`talks/COUNT` records COUNT connections to FOLDER/talks.pcap. Each has a random version, suites,
+groups and protocols, from a seed; a few have none in common with the server. The servers listen on
 ports from 14433 on: `tests/oracle/compare lines FOLDER/talks.pcap LINES 14433-14440` compares.
 """
 
@@ -19,7 +19,7 @@ from pathlib import Path
 from tests.recorders import peers
 from tests.support import script
 
-# A capture of these is stored nowhere.
+# The repository stores no capture of these.
 FOLDER = None
 SEED = 2
 FIRST = 14433

@@ -9,8 +9,8 @@ from typing import Any
 
 
 def keep(folder: Path, name: str, entry: dict[str, Any]) -> None:
-    """Writes a capture's entry into the folder's wanted.json. Members that a recorder doesn't give
-    (`is`, `rule`, `why`) stay as they were."""
+    """Writes a capture's entry to the folder's wanted.json. Members that the recorder doesn't set
+    (`is`, `rule`, `why`) stay."""
     file = folder / "wanted.json"
     known = json.loads(file.read_text()) if file.exists() else {}
     known[name] = {**known.get(name, {}), **entry}
@@ -22,8 +22,8 @@ def keep(folder: Path, name: str, entry: dict[str, Any]) -> None:
 
 
 def text(entry: dict[str, Any]) -> str:
-    """An entry as JSON: a line for each member and for each of its log lines, so that a change is
-    read in the lines that differ."""
+    """Returns an entry as JSON, with a line for each member and each log line, so that diffs are
+    readable."""
     notes = [
         f"  {json.dumps(member)}: {json.dumps(value)},\n"
         for member, value in entry.items()

@@ -51,7 +51,7 @@ def refuse_each(
         whole, number, made = without_times(program.run(arguments, capture.bytes)[1]), 0, 1
         while made >= number:
             number += 1
-            preload = {"LD_PRELOAD": str(library), "REFUSED": str(number), "TOLD": str(counter)}
+            preload = {"LD_PRELOAD": str(library), "REFUSED": str(number), "COUNT_FILE": str(counter)}
             status, text, report = program.run(arguments, capture.bytes, env=preload)
             text = without_times(text)
             made = int.from_bytes(counter.read_bytes(), sys.byteorder)

@@ -1,1 +1,1 @@
-"""Scenes with what hosts drop, played beside a live connection."""
+"""Scenes: packets that a host drops or treats specially, sent during a live connection."""

@@ -1,5 +1,5 @@
-"""Packets before a real ClientHello that the host drops: of flags, acknowledgements, places
-and timestamps that it doesn't take."""
+"""Packets that the host drops before the real ClientHello: their flags, acknowledgement, sequence
+number or timestamp is unacceptable."""
 
 from __future__ import annotations
 

@@ -1,5 +1,5 @@
-"""Packets that the host's client drops, before the server's real messages; and its responses
-to answers to its SYN."""
+"""Packets that the host's client drops before the server's real messages, and how it responds to
+forged answers to its SYN."""
 
 from __future__ import annotations
 
@@ -18,8 +18,8 @@ SUITE, OTHER = bytes.fromhex("c02b"), bytes.fromhex("c02c")
 
 
 def begin_served(room: Room, **more: Any) -> tuple[End, Analyzer, bytes, bytes]:
-    """Opens a connection from the host's client, and receives its hello. Returns the end, the
-    talk, the server's messages, and the same messages with another suite."""
+    """Accepts a connection from the host's client and receives its ClientHello. Returns our
+    endpoint, the TLS session, the server's messages, and those messages with another suite."""
     end = host_connects(room, **more)
     end.accept()
     talk = Analyzer(end, is_server=True, work=room.work)

@@ -1,5 +1,5 @@
-"""What the scenes share: their list, how a connection with OpenSSL's server begins and ends, and
-the lines that are wanted."""
+"""Shared by the scenes: their list, the start and end of a connection with OpenSSL's server, and
+the expected lines."""
 
 from __future__ import annotations
 
@@ -18,10 +18,10 @@ from tests.recorders.evasions.wire import ACK, PSH, Packet
 
 SCENES = []
 ORIG, RESP = "orig", "resp"
-# Why a segment is dropped whose connection is over. It isn't counted in a line.
+# The reason for dropping a segment of a closed connection. No line counts it.
 CLOSED = "closed"
-# What the kernel's reasons are also called here: what it calls a segment of LISTEN, a place outside
-# the window, and no new data.
+# Other names of the kernel's reasons: a segment in LISTEN, one outside the window, and one without
+# new data.
 ALSO = {
     "no_ack": ("ack", "syn", CLOSED),
     "window": ("old", "syn", "rst"),
@@ -29,29 +29,29 @@ ALSO = {
     "old": ("syn", "rst", "fin"),
     "ack": ("rst",),
 }
-# The messages of a full handshake of TLS 1.2 without tickets, as `ssl_history` has them; and where
-# the server warns of another name.
+# `ssl_history` of a full TLS 1.2 handshake without tickets, and of one in which the server sends a
+# warning about the name.
 FULL, WARNED = "CsxknGIi", {"ssl_history": "ClsxknGIi", "last_alert": "unrecognized_name"}
-# A field that the line mustn't have, which is null in what is written.
+# Stands for a field that must be absent; null in wanted.json.
 ABSENT = object()
 
 
-# What plays a scene.
+# A function that plays a scene.
 Play = Callable[[rooms.Room], None]
 
 
 @dataclass
 class Scene:
     name: str
-    says: str  # What is in the capture.
-    rule: str  # The RFC's section with the rule.
+    says: str  # Describes the capture.
+    rule: str  # The RFC section that has the rule.
     play: Play
     settings: dict
     offloads: bool
 
 
 def scene(says: str, rule: str, offloads: bool = False, **settings: Any) -> Callable[[Play], Play]:
-    """Adds a function to the list. It plays a scene in a room."""
+    """Registers a function that plays a scene."""
 
     def add(play: Play) -> Play:
         SCENES.append(Scene(play.__name__, says, rule, play, settings, offloads))
@@ -73,7 +73,7 @@ def begin(
     opens: dict[str, Any] | None = None,
     **more: Any,
 ) -> tuple[End, Analyzer, bytes]:
-    """A connection to OpenSSL's server, with the hello that comes next."""
+    """Opens a connection to OpenSSL's server. Returns it with the ClientHello to send next."""
     room.server(server)
     end = room.end(version, **more)
     end.open(**(opens or {}))
@@ -91,8 +91,8 @@ def forge(
     flags: int = PSH | ACK,
     **more: Any,
 ) -> list[Packet]:
-    """Sends a packet that the host drops, for the reason `why`, and notes its response. If the
-    kernel has a name for the reason, `why` is one with that name."""
+    """Sends a packet that the host must drop for the reason `why`, and records its response. The
+    reason must match the kernel's, if it has one."""
     found = room.try_packet(end, what, wait, flags=flags, payload=payload, **more)
     sending = room.sendings[-1]
     words = {rooms.WORDS.get(reason) for reason in sending["reasons"]} - {None}
@@ -115,8 +115,8 @@ def take(
     upto: int | None = None,
     **more: Any,
 ) -> list[Packet]:
-    """A packet that the host takes: it acknowledges up to its end, or up to the number that is
-    given. Moves to there."""
+    """Sends a packet that the host must accept: it acknowledges the packet's end, or the given
+    number. Advances to there."""
     number = end.next if number is None else number
     found = room.try_packet(end, what, wait, flags=flags, payload=payload, number=number, **more)
     wanted = (number + len(payload) if upto is None else upto) % 2**32
@@ -129,7 +129,7 @@ def take(
 def finish(
     room: rooms.Room, end: End, talk: Analyzer, rest: bytes = b"", name: str = REAL, **fields: Any
 ) -> None:
-    """The rest of the handshake and of the connection; and its line."""
+    """Completes the handshake, closes the connection, and adds its expected line."""
     if rest:
         end.say(rest)
     talk.finish()
@@ -142,8 +142,8 @@ def finish(
 def took(
     room: rooms.Room, talk: Analyzer, name: str = REAL, certificate: str | None = None
 ) -> None:
-    """Checks that the host took the hello with this name: its server prints the name, and answers
-    with that certificate."""
+    """Checks that the host accepted the hello with this name: its server prints the name and sends
+    the matching certificate."""
     room.await_text("server", HOSTNAME_LINE.format(name))
     printed = HOSTNAME.findall(room.printed("server"))
     expect(printed and printed[-1] == name, f"the server prints {printed}")
@@ -164,7 +164,7 @@ def serve(
     is_orig: bool = False,
     **fields: Any,
 ) -> None:
-    """The server's part of a handshake with the host's client and of the connection; and its
+    """Plays the server for the host's client, closes the connection, and adds its expected
     line."""
     talk = Analyzer(end, is_server=True, work=room.work)
     talk.give(end.hear())
@@ -210,8 +210,8 @@ def line(
     drops: bool = True,
     **fields: Any,
 ) -> None:
-    """Adds an expected line. A field that is given as None is left out, since it isn't known
-    for certain."""
+    """Adds an expected line. A field whose value is None is left out, since its value isn't
+    certain."""
     ours, other = (str(end.address), end.port), (str(end.to_address), end.to_port)
     orig, resp = (ours, other) if is_orig else (other, ours)
     wanted = {
@@ -246,7 +246,7 @@ def line(
 
 
 def stream_lengths(end: End, is_orig: bool) -> dict[str, int]:
-    """The bytes of each stream as TCP numbers them, where both FINs are known to be there."""
+    """Returns the bytes of each stream by sequence numbers, if both FINs were captured."""
     if not end.its_fin or end.expected is None:
         return {}
     sent, got = (end.next - end.first - 2) % 2**32, (end.expected - end.its_first - 2) % 2**32
@@ -254,7 +254,7 @@ def stream_lengths(end: End, is_orig: bool) -> dict[str, int]:
 
 
 def dropped(room: rooms.Room, end: End, is_orig: bool) -> dict[str, dict[str, int]]:
-    """How many of our packets the host dropped, and why."""
+    """Counts our packets that the host dropped, by reason."""
     found = Counter(
         one["why"]
         for one in room.sendings

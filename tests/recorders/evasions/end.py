@@ -1,5 +1,5 @@
-"""A TCP endpoint in this program, in which each number, flag, window, timestamp and checksum of a
-segment can be set."""
+"""A TCP endpoint in this program. Each field of its segments can be set: numbers, flags, window,
+timestamp and checksum."""
 
 from __future__ import annotations
 
@@ -12,10 +12,10 @@ from tests.recorders.evasions.wire import ACK, FIN, PSH, SYN
 if TYPE_CHECKING:
     from tests.recorders.evasions.room import Room
 
-# Segments that we make are acknowledged by the host within this time, in seconds, or aren't at all.
+# If the host acknowledges a segment of ours, it does so within this time, in seconds.
 SOON = 0.06
 LONG = 3.0
-# The beginning of our clock of timestamps, in milliseconds.
+# The first value of our timestamp clock, in milliseconds.
 CLOCK = 5_000_000
 
 
@@ -40,7 +40,7 @@ class End:
         self.room, self.wire = room, room.wire
         self.address, self.port, self.to_address, self.to_port = address, port, to_address, to_port
         self.first = self.next = number
-        self.expected = None  # The host's number that comes next.
+        self.expected = None  # The host's next sequence number.
         self.its_first = None
         self.has_stamps, self.scale, self.window, self.size = has_stamps, scale, window, size
         self.clock, self.its_stamp, self.ticks = CLOCK, 0, 0
@@ -49,10 +49,10 @@ class End:
         self.heard = b""
         self.its_window = self.its_scale = 0
         self.its_fin = False
-        self.seen = []  # What the host sent, in order.
+        self.seen = []  # The segments that the host sent, in order.
         self.macs = wire.HOST_MAC + wire.OUR_MAC
 
-    # What is sent.
+    # Sending.
 
     def options_of_syn(self, cookie: bytes | None = None) -> bytes:
         found = struct.pack(">BBH", wire.SIZE, 4, self.size)
@@ -66,7 +66,7 @@ class End:
         return found + bytes([wire.NOTHING]) * (-len(found) % 4)
 
     def stamp(self) -> int:
-        """Each segment is a millisecond later."""
+        """Returns the next timestamp: each segment is sent a millisecond later."""
         self.ticks += 1
         return self.clock + self.ticks
 
@@ -91,9 +91,9 @@ class End:
         words: int | None = None,
         **more: Any,
     ) -> None:
-        """Sends a segment, and leaves the state as it is. Fields that aren't given are right;
-        `words` is the length in the header, and `more` has the timestamp and its echo, and whether
-        it is recorded and delivered."""
+        """Sends a segment without changing the state. Fields that aren't given have correct
+        values. `words` is the header's length field; `more` sets the timestamp, its echo, and
+        whether the segment is recorded and delivered."""
         stamp, echo = more.pop("stamp", None), more.pop("echo", None)
         if options is None:
             options = self.options_of_syn() if flags & SYN else self.options(stamp, echo)
@@ -116,7 +116,7 @@ class End:
         self.room.sent(self, one, flags, payload, number, **more)
 
     def say(self, payload: bytes, flags: int = PSH | ACK, **more: Any) -> None:
-        """Sends the next bytes, and moves by them."""
+        """Sends the next bytes and advances past them."""
         self.send(flags, payload, **more)
         self.move(payload, flags)
 
@@ -124,7 +124,8 @@ class End:
         self.next = (self.next + len(payload) + bool(flags & (SYN | FIN))) % 2**32
 
     def in_name_of_host(self) -> End:
-        """An end that forges packets of the host to us. They are recorded, and reach no one."""
+        """Returns an endpoint that forges packets from the host to us. They are recorded, but not
+        delivered."""
         other = End(self.room, self.to_address, self.to_port, self.address, self.port)
         other.macs = wire.OUR_MAC + wire.HOST_MAC
         other.expected, other.its_scale, other.both_stamp = self.next, self.scale, self.both_stamp
@@ -135,11 +136,11 @@ class End:
         )
         return other
 
-    # What is received.
+    # Receiving.
 
     def receive(self, wait: float = SOON) -> wire.Packet | None:
-        """Returns the host's next segment to this end, or None if none comes. In-order bytes are
-        added to what was received."""
+        """Returns the host's next segment to this endpoint, or None if none arrives. In-order bytes
+        are added to those received."""
         while True:
             packet = self.wire.receive(wait)
             if packet is None:
@@ -178,14 +179,14 @@ class End:
         self.its_fin |= bool(packet.flags & FIN)
 
     def replies(self, wait: float = SOON) -> list[wire.Packet]:
-        """What the host sends until it is silent for so long."""
+        """Returns what the host sends until it is silent for this long."""
         found = []
         while (packet := self.receive(wait)) is not None:
             found.append(packet)
         return found
 
     def hear(self, wait: float = LONG) -> bytes:
-        """Bytes that come next, which are acknowledged; none if the host closed or is silent."""
+        """Receives and acknowledges the next bytes; none if the host closed or is silent."""
         while not self.heard:
             packet = self.receive(wait)
             if packet is None or packet.flags & wire.RST:
@@ -201,7 +202,7 @@ class End:
     # Opening and closing.
 
     def open(self, **more: Any) -> wire.Packet:
-        """As the originator."""
+        """Opens the connection as the originator."""
         self.send(SYN, **more)
         self.next = (self.first + 1) % 2**32
         answer = self.receive(LONG)
@@ -211,7 +212,7 @@ class End:
         return answer
 
     def accept(self) -> wire.Packet:
-        """As the responder: of a SYN that is awaited."""
+        """Accepts a connection: waits for a SYN and answers it."""
         asked = self.receive(LONG)
         self.send(SYN | ACK)
         self.next = (self.first + 1) % 2**32
@@ -221,7 +222,7 @@ class End:
         return asked
 
     def close(self) -> None:
-        """Sends a FIN, awaits the host's, and acknowledges it."""
+        """Sends a FIN, waits for the host's, and acknowledges it."""
         self.say(b"", FIN | ACK)
         while not self.its_fin:
             packet = self.receive(LONG)
@@ -231,7 +232,7 @@ class End:
         self.replies(0.01)
 
     def answer_close(self) -> None:
-        """Awaits the host's FIN and closes too."""
+        """Waits for the host's FIN and closes too."""
         while not self.its_fin:
             if self.receive(LONG) is None:
                 raise RuntimeError("the host doesn't close")

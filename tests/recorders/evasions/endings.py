@@ -1,4 +1,4 @@
-"""How a connection ends, and how it doesn't: RSTs and FINs, and what comes after them."""
+"""RSTs and FINs that end a connection, ones that don't, and packets after them."""
 
 from __future__ import annotations
 
@@ -24,7 +24,7 @@ from tests.recorders.evasions.talk import HOSTNAME, Analyzer, other_name
 from tests.recorders.evasions.wire import ACK, FIN, RST, SYN
 
 CLOSE_WAIT, TIME_WAIT = "08", "06"
-# The messages of a handshake up to the server's last ones in the clear.
+# `ssl_history` up to the server's last unencrypted messages.
 BEGUN = "Csxkn"
 
 
@@ -81,7 +81,7 @@ def up_to_the_server(room: Room) -> tuple[End, Analyzer, bytes]:
 def closed_by(
     room: Room, end: End, answer: bytes, what: str, unknown: tuple[str, ...] = (), **how: Any
 ) -> None:
-    """An RST that closes the connection. What comes after it belongs to none."""
+    """Sends an RST that closes the connection. Later packets belong to no connection."""
     length, heard = end.next - end.first - 1, (end.expected - end.its_first - 1) % 2**32
     room.try_packet(end, what, **how)
     expect(room.state(end.port) is None, "the host still has the connection")
@@ -386,7 +386,7 @@ def fin_again_in_time_wait(room: Room) -> None:
 
 
 def packets(room: Room, end: End, talk: Analyzer) -> None:
-    """A line of all the packets of the capture."""
+    """Adds an expected line that counts all packets of the capture."""
     room.wire.drain()
     total, ours = len(room.wire.recorded), sum(one["end"] is end for one in room.sendings)
     line(room, end, talk, orig_pkts=ours, resp_pkts=total - ours)

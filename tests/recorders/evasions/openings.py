@@ -1,4 +1,4 @@
-"""How a connection opens: data in a SYN, a SYN where a connection is open, and both sides' SYNs."""
+"""Openings: data in a SYN, a SYN on an open connection, and SYNs of both sides at once."""
 
 from __future__ import annotations
 
@@ -16,7 +16,7 @@ FAST_OPEN = {"tcp_fastopen": 0x403}
 
 
 def open_with(room: rooms.Room, end: End, payload: bytes, cookie: bytes | None = None) -> Packet:
-    """A SYN with data. The answer, which is acknowledged."""
+    """Sends a SYN with data. Returns the answer, which it acknowledges."""
     end.send(SYN, payload, options=end.options_of_syn(cookie))
     end.move(b"", SYN)
     answer = end.receive(LONG)
@@ -42,7 +42,7 @@ def data_in_syn_not_acknowledged(room: rooms.Room) -> None:
 
 
 def cookie_of(room: rooms.Room) -> bytes:
-    """The host's cookie for our address."""
+    """Returns the host's Fast Open cookie for our address."""
     end = room.end(port=rooms.FIRST_PORT)
     room.wire.records = False
     end.send(SYN, options=end.options_of_syn(b""))
@@ -171,7 +171,7 @@ def second_syn_within_the_window(room: rooms.Room) -> None:
 
 
 def host_connects(room: rooms.Room, **more: Any) -> End:
-    """The host's client sends its SYN, which is awaited."""
+    """Starts the host's client and waits for its SYN."""
     port = rooms.OUR_SERVER_PORT + room.number
     end = room.end(
         port=port, to_port=rooms.CLIENT_PORT + room.number, number=SERVERS_NUMBER, **more

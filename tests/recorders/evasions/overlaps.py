@@ -1,5 +1,6 @@
 """Overlapping segments that disagree: the real hello, and parts of one for fake.test at the same
-sequence numbers. Linux chooses which to keep; acknowledged bytes always stay."""
+sequence numbers. Linux keeps either copy of pending bytes, and always those that it has
+acknowledged."""
 
 from __future__ import annotations
 
@@ -13,14 +14,15 @@ NONE = "none: Linux's own"
 
 
 def begin_both(room: Room) -> tuple[End, Analyzer, bytes, bytes, int, int]:
-    """A connection with the real hello, one for the other name, and where the names differ."""
+    """Opens a connection. Returns it with the real hello, one for the other name, and the offset
+    at which they differ."""
     end, talk, hello = begin(room)
     place = hello.index(REAL.encode())
     return end, talk, hello, other_name(hello), place, place + len(REAL)
 
 
 def wait(room: Room, end: End, what: str, hello: bytes, begin_at: int, end_at: int) -> None:
-    """A part that waits for the bytes before it, and is kept."""
+    """Sends an out-of-order part, which the host keeps."""
     number = end.next
     take(room, end, what, hello[begin_at:end_at], number=number + begin_at, upto=number)
 
@@ -30,7 +32,7 @@ def drop(room: Room, end: End, what: str, hello: bytes, begin_at: int, end_at: i
 
 
 def fill(room: Room, end: End, what: str, hello: bytes, end_at: int, upto: int) -> None:
-    """The bytes in front."""
+    """Sends the missing bytes, up to `end_at`."""
     number = end.next
     take(room, end, what, hello[:end_at], number=number, upto=number + upto)
 

@@ -1,8 +1,8 @@
-"""Captures of TLS with packets that a host drops, or takes in its own way.
+"""Captures of TLS with packets that a host drops or treats specially.
 
-In a network namespace this machine's kernel is one end of a wire, with OpenSSL's s_server or
-s_client on it; the other end is in this program. Each scene becomes a capture, and an item of
-wanted.json. A scene in which the host does something else is printed with the reason.
+In a network namespace, this machine's kernel is the host, with OpenSSL's s_server or s_client; this
+program is the other end of the wire. Each scene becomes a capture and an entry of wanted.json. If
+the host behaves otherwise, the scene is printed with the reason.
 """
 
 from __future__ import annotations
@@ -50,7 +50,7 @@ def make_keys(work: Path) -> None:
 def play(
     one: Scene, number: int, work: Path, reasons: rooms.Reasons
 ) -> tuple[bytes, dict[str, Any]]:
-    """A scene's capture, and what is wanted of it."""
+    """Records a scene. Returns its capture and its entry of wanted.json."""
     room = rooms.Room(work, reasons, number, one.offloads)
     try:
         room.set(**one.settings)
@@ -76,7 +76,7 @@ def play(
 
 
 def with_why(told: dict[str, Any], had: dict[str, Any]) -> dict[str, Any]:
-    """An entry with the `why` of the one that it replaces, which is written by hand."""
+    """Returns the entry with the handwritten `why` of the one that it replaces."""
     noted = {"why": had["why"]} if "why" in had else {}
     return {name: told[name] for name in ("capture", "is", "rule")} | noted | told
 

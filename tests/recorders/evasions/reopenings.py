@@ -1,4 +1,4 @@
-"""Connections between ports that had one before: in its TIME-WAIT, or when one side has lost it."""
+"""Port pairs that are reused: in TIME-WAIT, or after one side lost the connection."""
 
 from __future__ import annotations
 
@@ -17,7 +17,7 @@ TIME_WAIT = "06"
 def open_again(
     room: Room, end: End, ahead: int, is_recorded: bool = True, **more: Any
 ) -> tuple[End, Analyzer, bytes]:
-    """Another connection between the same ports, for another name."""
+    """Opens another connection between the same ports, for another name."""
     again = room.end(port=end.port, number=(end.next + ahead) % 2**32, **more)
     again.clock = end.clock + 100_000
     again.open(is_recorded=is_recorded)

@@ -1,5 +1,5 @@
-"""A separate network with one host, which is the kernel of this machine: its settings, OpenSSL's
-server and client on it, and the reasons for which the kernel drops packets."""
+"""A network namespace with one host, this machine's kernel: its settings, OpenSSL's server and
+client, and the kernel's reasons for dropping packets."""
 
 from __future__ import annotations
 
@@ -18,12 +18,11 @@ from tests.recorders.evasions.end import End
 HOST = {4: ipaddress.ip_address("192.0.2.1"), 6: ipaddress.ip_address("2001:db8::1")}
 OURS = {4: ipaddress.ip_address("192.0.2.2"), 6: ipaddress.ip_address("2001:db8::2")}
 SERVER_PORT, CLIENT_PORT = 14433, 50000
-# Our ports are these plus the number of the scene; the last is for a connection that isn't
-# recorded.
+# Our ports are these plus the scene's number; the last is for connections that aren't recorded.
 OUR_PORT, OUR_SERVER_PORT, FIRST_PORT = 40000, 44000, 39000
 TRACING = Path("/sys/kernel/tracing")
 REASON = re.compile(r"kfree_skb: .* reason: (\w+)")
-# What each of the kernel's reasons is called in the lines that are wanted.
+# The name of each of the kernel's reasons in expected lines.
 WORDS = {
     "TCP_CSUM": "checksum", "UDP_CSUM": "checksum", "IP_CSUM": "checksum", "TCP_FLAGS": "no_ack", "TCP_ACK_UNSENT_DATA": "ack",
     "TCP_TOO_OLD_ACK": "ack", "TCP_INVALID_ACK_SEQUENCE": "ack", "TCP_INVALID_SEQUENCE": "window", "TCP_OVERWINDOW": "window",
@@ -45,7 +44,8 @@ def run(words: str, **more: Any) -> str:
 
 
 def prepare() -> None:
-    """The wire's device, with an address of each kind and no packets of the kernel's own."""
+    """Sets up the wire's device with an IPv4 and an IPv6 address, and without background
+    traffic."""
     Path("/proc/sys/net/ipv6/conf/default/accept_dad").write_text("0")
     Path("/proc/sys/net/ipv6/conf/default/router_solicitations").write_text("0")
     run("ip link set dev lo up")
@@ -59,8 +59,8 @@ def prepare() -> None:
 
 
 def setting(name: str, value: object = None) -> str | None:
-    """A setting of the kernel below net/ipv4, or None where it has none of that name. A value is
-    set."""
+    """Returns a kernel setting below net/ipv4, or None if there is no such setting. Sets it if a
+    value is given."""
     file = Path("/proc/sys/net/ipv4") / name
     if not file.exists():
         return None
@@ -71,7 +71,7 @@ def setting(name: str, value: object = None) -> str | None:
 
 
 def counters() -> dict[str, int]:
-    """The kernel's counts of this network, by name."""
+    """Returns the kernel's network counters by name."""
     found = {}
     for file in ("snmp", "netstat"):
         lines = Path("/proc/net", file).read_text().splitlines()
@@ -85,8 +85,7 @@ def counters() -> dict[str, int]:
 
 
 class Reasons:
-    """The kernel's reasons for dropping packets, from its tracepoint kfree_skb, of those that we
-    send."""
+    """The kernel's reasons for dropping our packets, from its tracepoint kfree_skb."""
 
     def __init__(self) -> None:
         self.folder = TRACING / "instances" / f"wire_{os.getpid()}"
@@ -120,7 +119,7 @@ class Reasons:
 
 
 class Room:
-    """One capture: the wire, the programs of the host, what was sent, and its description."""
+    """One capture: the wire, the host's programs, the packets sent, and the description."""
 
     def __init__(self, work: Path, reasons: Reasons, number: int, offloads: bool = False) -> None:
         self.work, self.reasons, self.number = work, reasons, number
@@ -128,13 +127,13 @@ class Room:
         self.running, self.changed = [], {}
         self.sendings = (
             []
-        )  # Each packet that we sent: its place in the capture, words, and the kernel's reasons.
+        )  # Each packet that we sent: its number, a description, and the kernel's reasons.
         self.notes = []
         self.lines = []
         self.began = counters()
         reasons.read()
 
-    # Settings and programs of the host.
+    # The host's settings and programs.
 
     def set(self, **settings: object) -> None:
         for name, value in settings.items():
@@ -160,7 +159,7 @@ class Room:
         port: int = SERVER_PORT,
         by_name: str = "-servername real.test -cert2 real.pem -key2 real.key",
     ) -> subprocess.Popen[bytes]:
-        """OpenSSL's server, which has another certificate for real.test."""
+        """Starts OpenSSL's server, which has a separate certificate for real.test."""
         process = self.start(
             f"openssl s_server -accept {port} -cert other.pem -key other.key {by_name} {more}",
             "server",
@@ -183,7 +182,7 @@ class Room:
         raise RuntimeError("no server")
 
     def state(self, port: int) -> str | None:
-        """The state of the host's connection with a port of ours, as the kernel numbers it."""
+        """Returns the TCP state of the host's connection to our port, as a kernel number."""
         for file in ("tcp", "tcp6"):
             for text in Path("/proc/net", file).read_text().splitlines()[1:]:
                 words = text.split()
@@ -194,7 +193,7 @@ class Room:
     def client(
         self, port: int, more: str = "-tls1_2", from_port: int = CLIENT_PORT
     ) -> subprocess.Popen[bytes]:
-        """OpenSSL's client, to our end."""
+        """Starts OpenSSL's client, connecting to our endpoint."""
         return self.start(
             f"openssl s_client -connect {OURS[4]}:{port} -bind {HOST[4]}:{from_port} -servername real.test {more}",
             "client",
@@ -211,7 +210,7 @@ class Room:
             time.sleep(0.01)
         return False
 
-    # Our ends.
+    # Our endpoints.
 
     def end(
         self, version: int = 4, port: int | None = None, to_port: int = SERVER_PORT, **more: Any
@@ -239,7 +238,7 @@ class Room:
         )
 
     def try_packet(self, end: End, what: str, wait: float = 0.08, **more: Any) -> list[wire.Packet]:
-        """Sends a segment of interest, and notes what the host said to it."""
+        """Sends a packet of the scene, and records the host's response."""
         end.send(**more)
         said = self.sendings[-1]
         found = end.replies(wait)
@@ -254,7 +253,7 @@ class Room:
         return found
 
     def told(self) -> list[str]:
-        """In short what the host did with the packets of interest: the kernel's reason, and its
+        """Summarizes the host's responses to the scene's packets: the kernel's reasons and the
         answers."""
         found = []
         for one in self.sendings:

@@ -1,5 +1,5 @@
-"""Checksums of TCP, UDP and IPv4's header that are wrong, or not there; and those, and the lengths,
-that a sender leaves to its network card."""
+"""Checksums of TCP, UDP and the IPv4 header: wrong, missing, or left to the network card, as are
+some lengths."""
 
 from __future__ import annotations
 
@@ -238,8 +238,8 @@ def finish_large(room: rooms.Room) -> None:
 
 
 def note_partial(room: rooms.Room, end: End, names: Iterable[str] = ()) -> None:
-    """The host's checksums are the sums of their pseudo headers alone; those of packets of these
-    names are right."""
+    """Checks that the host's checksums are the sums of the pseudo headers alone, and right in the
+    named packets."""
     room.wire.drain()
     found = {True: [], False: []}
     for _, one in room.wire.recorded:
@@ -262,7 +262,7 @@ def note_partial(room: rooms.Room, end: End, names: Iterable[str] = ()) -> None:
 
 
 class Relay:
-    """OpenSSL's client of DTLS, whose datagrams are sent on to the host from our address."""
+    """OpenSSL's DTLS client. Its datagrams are relayed to the host from our address."""
 
     def __init__(self, room: rooms.Room, version: int = 4) -> None:
         self.room, self.version = room, version
@@ -282,7 +282,7 @@ class Relay:
         return data
 
     def from_host(self, wait: float) -> wire.Packet | None:
-        """Its next datagram, or nothing if none comes within this many seconds."""
+        """Returns its next datagram, or None after this many seconds without one."""
         while (packet := self.room.wire.receive(wait)) and packet.protocol != wire.UDP:
             pass
         return packet
@@ -305,7 +305,7 @@ class Relay:
         expect(not found, "the host answered")
 
     def run(self, spoilt: tuple[str, ...] = ()) -> None:
-        """Both ways, until the client has said all."""
+        """Relays both ways until the client is done."""
         while True:
             packet = self.from_host(0.01)
             if packet:
@@ -327,7 +327,7 @@ class Relay:
         line(self.room, self, version="DTLSv12", ssl_history=None, **lengths, proto="udp")
         self.inner.close()
 
-    its_fin = False  # As an end of TCP has it; no lengths are known by numbers.
+    its_fin = False  # As in a TCP endpoint; UDP has no sequence numbers.
 
 
 def serve_dtls(room: rooms.Room) -> None:

@@ -1,4 +1,4 @@
-"""TLS over an end of TCP in this program, by Python's ssl: as OpenSSL speaks it."""
+"""TLS by Python's ssl (OpenSSL) over a TCP endpoint of this program."""
 
 from __future__ import annotations
 
@@ -16,7 +16,7 @@ HOSTNAME = re.compile(HOSTNAME_LINE.format('([^"]*)'))
 
 
 class Analyzer:
-    """The client or the server of a connection, over an end."""
+    """A TLS client or server over an endpoint."""
 
     def __init__(
         self,
@@ -53,7 +53,7 @@ class Analyzer:
         self.asked = name
 
     def step(self) -> bool:
-        """Whether the handshake is over. What has to be sent is in `flight`."""
+        """Continues the handshake. Returns whether it is complete; `flight` has what to send."""
         try:
             self.tls.do_handshake()
             return True
@@ -61,7 +61,7 @@ class Analyzer:
             return False
 
     def flight(self) -> bytes:
-        """What is to be sent next: at first the ClientHello."""
+        """Returns the bytes to send next: at first the ClientHello."""
         self.step()
         return self.outgoing.read()
 
@@ -69,7 +69,7 @@ class Analyzer:
         self.incoming.write(data)
 
     def finish(self) -> Analyzer:
-        """The rest of the handshake."""
+        """Completes the handshake."""
         while True:
             is_over = self.step()
             flight = self.outgoing.read()
@@ -85,7 +85,7 @@ class Analyzer:
             self.give(heard)
 
     def answer(self) -> Analyzer:
-        """The server's part: awaits the hello, and all else."""
+        """Plays the server: waits for the ClientHello, then completes the handshake."""
         while not self.step():
             flight = self.outgoing.read()
             if flight:
@@ -104,7 +104,7 @@ class Analyzer:
         self.end.say(self.outgoing.read())
 
     def goodbye(self) -> bytes:
-        """The alert close_notify."""
+        """Returns the record of a close_notify alert."""
         try:
             self.tls.unwrap()
         except ssl.SSLWantReadError:
@@ -112,13 +112,13 @@ class Analyzer:
         return self.outgoing.read()
 
     def certificate_name(self) -> str:
-        """The name in the certificate that the server sent."""
+        """Returns the name in the server's certificate."""
         found = re.search(rb"(real\.test|other\.test)", self.tls.getpeercert(binary_form=True))
         return found[1].decode()
 
 
 def other_name(hello: bytes) -> bytes:
-    """Returns the hello, of the same length, for another name."""
+    """Returns the hello for another name of the same length."""
     changed = hello.replace(REAL.encode(), FAKE.encode())
     if changed == hello:
         raise ValueError("the name isn't there")

@@ -1,5 +1,5 @@
-"""The edge of the host's window, window probes, and bytes outside the stream: those of keep-alives
-and urgent ones."""
+"""The edge of the host's window, window probes, and bytes outside the stream: keep-alives and
+urgent data."""
 
 from __future__ import annotations
 
@@ -13,13 +13,13 @@ from tests.recorders.evasions.room import Room
 from tests.recorders.evasions.talk import Analyzer
 from tests.recorders.evasions.wire import ACK, PSH, URG
 
-# A receive buffer of the host of 2,304 bytes, whose window is of some 1,152.
+# A receive buffer of 2,304 bytes, which gives the host a window of about 1,152.
 SMALL = {"tcp_rmem": "4096 2304 2304"}
 REAL_ONE, FAKE_ONE = "real-one", "fake-one"
-# The client offers so many long protocols first that its hello is longer than the window.
+# Long protocol names that the client offers first, so that its hello exceeds the window.
 PROTOCOLS = [f"{letter}" * 200 for letter in "abcdefghijk"] + [REAL_ONE]
 PART = 200
-# An urgent byte that isn't of the stream.
+# An urgent byte, which isn't part of the stream.
 MARK = b"\xee"
 
 
@@ -28,8 +28,8 @@ def other_protocol(hello: bytes) -> bytes:
 
 
 def begin_small(room: Room) -> tuple[subprocess.Popen[bytes], End, Analyzer, bytes, int]:
-    """A connection whose server is stopped, so that its window closes; with a hello whose last
-    protocol is beyond the window."""
+    """Opens a connection and stops its server, so that the window closes. The hello's last protocol
+    is beyond the window."""
     server = room.server(f"-alpn {REAL_ONE},{FAKE_ONE}")
     end = room.end()
     end.open()
@@ -49,7 +49,7 @@ def begin_small(room: Room) -> tuple[subprocess.Popen[bytes], End, Analyzer, byt
 def go_on(
     room: Room, server: subprocess.Popen[bytes], end: End, talk: Analyzer, hello: bytes, sent: int
 ) -> None:
-    """The server reads again, and the rest comes."""
+    """Resumes the server, and sends the rest."""
     server.send_signal(signal.SIGCONT)
     while sent < len(hello):
         while end.its_window < min(PART, len(hello) - sent):
@@ -202,7 +202,7 @@ def data_beyond_the_window_one_side(room: Room) -> None:
 
 
 def begin_before(room: Room) -> tuple[End, Analyzer, bytes]:
-    """A connection whose opening isn't captured."""
+    """Opens a connection whose opening isn't captured."""
     room.wire.records = False
     begun = begin(room)
     room.wire.records = True

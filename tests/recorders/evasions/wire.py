@@ -1,7 +1,6 @@
-"""A wire between this program and the kernel of this machine: an Ethernet device (TAP), with the
-kernel at one end and this program at the other.
+"""A wire between this program and this machine's kernel: an Ethernet device (TAP).
 
-All that crosses it is recorded. Frames are made and read here, with the checksums of IP, TCP and
+Every frame on it is recorded. Frames are built and parsed here, with the checksums of IP, TCP and
 UDP.
 """
 
@@ -28,12 +27,12 @@ DEVICE = "wire0"
 TUNSETIFF, TUNSETOFFLOAD = 0x400454CA, 0x400454D0
 TAP, NAPI, NO_FRONT, HAS_FRONT, OFFLOADS, FRONT = 2, 0x10, 0x1000, 0x4000, 1 | 2 | 4, 10
 ALL_PROTOCOLS = 3
-# Kinds of options of TCP (RFC 9293, section 3.2; RFC 7323; RFC 2018; RFC 7413).
+# TCP option kinds (RFC 9293, section 3.2; RFC 7323; RFC 2018; RFC 7413).
 END, NOTHING, SIZE, SCALE, MAY_SELECT, SELECTED, STAMP, COOKIE = 0, 1, 2, 3, 4, 5, 8, 34
 
 
 def sum_of(*parts: bytes) -> int:
-    """The sum of the Internet's checksums (RFC 1071), not yet complemented."""
+    """Returns the Internet checksum (RFC 1071) before it is complemented."""
     data = b"".join(parts)
     data += bytes(len(data) % 2)
     total = sum(struct.unpack(f">{len(data) // 2}H", data))
@@ -47,13 +46,13 @@ def checksum(*parts: bytes) -> int:
 
 
 def front_of_sum(source: Address, destination: Address, protocol: int, length: int) -> bytes:
-    """The pseudo header (RFC 9293, section 3.1; RFC 8200, section 8.1)."""
+    """Returns the pseudo header (RFC 9293, section 3.1; RFC 8200, section 8.1)."""
     return source.packed + destination.packed + struct.pack(">IBBBB", length, 0, 0, 0, protocol)
 
 
 @dataclass
 class Packet:
-    """A segment or a datagram as it came from the host."""
+    """A segment or datagram from the host."""
 
     time: int
     source: Address
@@ -70,7 +69,7 @@ class Packet:
 
     @property
     def end(self) -> int:
-        """The number after it."""
+        """Returns the sequence number after it."""
         return (
             self.number + len(self.payload) + bool(self.flags & SYN) + bool(self.flags & FIN)
         ) % 2**32
@@ -106,7 +105,7 @@ def flag_names(flags: int) -> str:
 
 
 def parse(stamp: int, frame: bytes) -> Packet | None:
-    """A packet of TCP or UDP, or nothing for frames of other protocols."""
+    """Parses a frame. Returns its TCP or UDP packet, or None for other protocols."""
     kind, front = frame[12:14], 14
     if kind == b"\x08\x00":
         protocol, source, destination = frame[23], frame[26:30], frame[30:34]
@@ -151,10 +150,10 @@ def frame(
     place: int = 16,
     macs: bytes = HOST_MAC + OUR_MAC,
 ) -> bytes:
-    """Returns a frame around a segment, to the host if no other Ethernet addresses are given. Its
-    checksum at `place` is filled in. `spoilt` names checksums that are made wrong: "sum" of TCP or
-    UDP, "ip" of the IPv4 header. "none" leaves the one of TCP or UDP as 0, and "partial" as a
-    sender leaves it to its network card."""
+    """Returns a frame around a segment, addressed to the host unless Ethernet addresses are given.
+    Fills in the checksum at `place`. `spoilt` lists checksums to falsify: "sum" of TCP or UDP, "ip"
+    of the IPv4 header. "none" leaves that of TCP or UDP 0, and "partial" as for checksum
+    offload."""
     if "none" not in spoilt:
         value = checksum(front_of_sum(source, destination, protocol, len(upper)), upper)
         value ^= 0x5555 if "sum" in spoilt else 0
@@ -181,13 +180,14 @@ def frame(
 
 
 class Wire:
-    """Both directions in the order in which they crossed it. What the kernel sent is read and
-    recorded before anything is sent.
+    """Records both directions in order. Before it sends a frame, it records those that the kernel
+    sent.
 
-    What isn't from or to one of our `ports` is left over from before, and is left out.
+    Frames with none of our `ports` are left over from earlier scenes, and are skipped.
 
-    With `offloads` the kernel leaves checksums and cutting to the device, which is us, and what is
-    recorded is what is seen on the kernel's own machine: its packets before that."""
+    With `offloads` the kernel leaves checksums and segmentation to the device, which is this
+    program. The capture then has the packets as a capture on the kernel's machine has them: before
+    offload."""
 
     def __init__(self, ports: set[int], offloads: bool = False, device: str = DEVICE) -> None:
         self.file = os.open("/dev/net/tun", os.O_RDWR | os.O_NONBLOCK)
@@ -216,7 +216,7 @@ class Wire:
         return packet is not None and not self.ports.isdisjoint(packet.ports)
 
     def look(self) -> None:
-        """What is seen on the kernel's machine."""
+        """Records the frames as they are seen on the kernel's machine."""
         while self.watch:
             try:
                 one = self.watch.recv(70000)
@@ -240,7 +240,7 @@ class Wire:
                 self.note(one)
 
     def send(self, one: bytes, is_recorded: bool = True, is_delivered: bool = True) -> int:
-        """Its number among the packets of the capture, from 1 on."""
+        """Sends a frame. Returns its number in the capture, counted from 1."""
         self.drain()
         place = len(self.recorded) + 1
         if is_recorded and not self.watch:
@@ -250,7 +250,7 @@ class Wire:
         return place
 
     def receive(self, wait: float) -> Packet | None:
-        """The host's next packet, or nothing if none comes within this many seconds."""
+        """Returns the host's next packet, or None after this many seconds without one."""
         limit = time.monotonic() + wait
         while True:
             self.drain()

@@ -1,1 +1,1 @@
-"""What is put beside a handshake of live peers to lead a monitor astray."""
+"""Data injected into live handshakes to mislead a monitor."""

@@ -1,7 +1,7 @@
-"""What is put around a datagram of a handshake, by the name of each. A function takes the datagram,
-its first record, and the message (or fragment) of that, and gives the datagrams that go in its
-place, from the same side. A hello that is put in has another name (forged.test.), a ServerHello a
-random of zeros. Sections are those of RFC 6347 where no other is named."""
+"""Ways to alter a handshake datagram, by name. Each function takes the datagram, its first record,
+and that record's message (or fragment), and returns the datagrams to send in its place. A forged
+ClientHello has another name (forged.test.), a forged ServerHello a random of zeros. Sections are of
+RFC 6347 unless another RFC is named."""
 
 from __future__ import annotations
 
@@ -20,13 +20,13 @@ from tests.recorders.evasions_tls.dtls import (
     renamed,
 )
 
-AHEAD = 20  # Within the window of 64 records (4.1.2.6), so that no true record falls out of it.
+AHEAD = 20  # Within the window of 64 records (4.1.2.6), so that no genuine record falls out of it.
 JUNK = bytes.fromhex("de ad be ef 5a 3c c3 a5 01 02 03 04 05 06 07 08 09 0a 0b 0c")
 KINDS = (CHANGE, ALERT, HANDSHAKE, DATA)
 
 
 def other(message: Message) -> Message:
-    """Returns the message with another name, or with another random."""
+    """Returns the message with another name or another random."""
     body = message.body
     if message.kind == HELLO:
         return replace(message, body=renamed(body))
@@ -34,61 +34,61 @@ def other(message: Message) -> Message:
 
 
 def later(record: Record, message: Message) -> Record:
-    """A record of that message, with a number that its side hasn't used."""
+    """Returns a record of that message, with an unused sequence number."""
     return replace(record, number=record.number + AHEAD).of(message)
 
 
 def junk_behind(datagram: bytes, record: Record, message: Message) -> list[bytes]:
-    """20 bytes that are no record behind the last record of the datagram (4.1.2.7)"""
+    """Appends 20 bytes that are no record to the datagram (4.1.2.7)."""
     return [datagram + JUNK]
 
 
 def junk_alone(datagram: bytes, record: Record, message: Message) -> list[bytes]:
-    """a datagram of junk in front, and one behind (4.1.2.7)"""
+    """Adds a datagram of junk before it, and one after it (4.1.2.7)."""
     return [JUNK, datagram, JUNK]
 
 
 def cut_behind(datagram: bytes, record: Record, message: Message) -> list[bytes]:
-    """behind the last record another one, of which the last 20 bytes are missing (4.1, 4.1.2.7)"""
+    """Appends a record whose last 20 bytes are missing to the datagram (4.1, 4.1.2.7)."""
     return [datagram + later(record, other(message)).bytes()[:-20]]
 
 
 def cut_alone(datagram: bytes, record: Record, message: Message) -> list[bytes]:
-    """a datagram of a record without its last 20 bytes in front, and again behind (4.1.1: a record
-    fits within a datagram)"""
+    """Adds a datagram with a record without its last 20 bytes before it and after it (4.1.1: a
+    record fits within a datagram)."""
     cut = later(record, other(message)).bytes()[:-20]
     return [cut, datagram, cut]
 
 
 def cut_in_header(datagram: bytes, record: Record, message: Message) -> list[bytes]:
-    """7 bytes of a record's header in front, 12 behind, each a datagram (4.1.1)"""
+    """Adds a datagram of 7 bytes of a record header before it, and one of 12 after it (4.1.1)."""
     return [record.bytes()[:7], datagram, record.bytes()[:12]]
 
 
 def in_two_datagrams(datagram: bytes, record: Record, message: Message) -> list[bytes]:
-    """the datagram cut in two within its first record (4.1.1: a record fits within a datagram)"""
+    """Splits the datagram within its first record (4.1.1: a record fits within a datagram)."""
     return [datagram[:60], datagram[60:]]
 
 
 def empty_alone(datagram: bytes, record: Record, message: Message) -> list[bytes]:
-    """a handshake record of no bytes in front; one of each type behind, each a datagram (5246,
-    6.2.1: only of data)"""
+    """Adds a datagram with an empty handshake record before it, and ones with empty records of each
+    type after it (5246, 6.2.1: only of data)."""
     made = [Record(kind, 0, record.number + AHEAD + kind - CHANGE, b"").bytes() for kind in KINDS]
     return [made[2], datagram, *made]
 
 
 def empty_in_front(datagram: bytes, record: Record, message: Message) -> list[bytes]:
-    """a handshake record of no bytes in the same datagram, in front (5246, 6.2.1)"""
+    """Prepends an empty handshake record to the datagram (5246, 6.2.1)."""
     return [Record(HANDSHAKE, 0, record.number + AHEAD, b"").bytes() + datagram]
 
 
 def empty_datagram(datagram: bytes, record: Record, message: Message) -> list[bytes]:
-    """a datagram of no bytes in front, and one behind (768)"""
+    """Adds an empty datagram before it, and one after it (768)."""
     return [b"", datagram, b""]
 
 
 def future_message(datagram: bytes, record: Record, message: Message) -> list[bytes]:
-    """in front a ClientKeyExchange or ServerHelloDone whose message_seq is 7 ahead (4.2.2)"""
+    """Adds a ClientKeyExchange or ServerHelloDone before it, of a message_seq 7 higher (4.2.2)."""
     kind = CLIENT_KEYS if message.kind == HELLO else DONE
     body = b"" if kind == DONE else bytes([4, 1, 2, 3, 4])
     return [
@@ -101,28 +101,29 @@ def future_message(datagram: bytes, record: Record, message: Message) -> list[by
 
 
 def future_hello(datagram: bytes, record: Record, message: Message) -> list[bytes]:
-    """in front a hello whose message_seq is 7 ahead (4.2.2)"""
+    """Adds a hello before it, with a message_seq 7 higher (4.2.2)."""
     return [later(record, replace(other(message), number=message.number + 7)).bytes(), datagram]
 
 
 def repeated_record(datagram: bytes, record: Record, message: Message) -> list[bytes]:
-    """behind it the record again, with its number and other bytes (4.1.2.6)"""
+    """Repeats the record after it, with its sequence number and other bytes (4.1.2.6)."""
     return [datagram, record.of(other(message)).bytes()]
 
 
 def repeated_message(datagram: bytes, record: Record, message: Message) -> list[bytes]:
-    """behind it the message again, with its message_seq and other bytes, in a new record (4.2.2)"""
+    """Repeats the message after it in a new record, with its message_seq and other bytes
+    (4.2.2)."""
     return [datagram, later(record, other(message)).bytes()]
 
 
 def next_message(datagram: bytes, record: Record, message: Message) -> list[bytes]:
-    """behind it a hello with the message_seq of the next message (4.2.2)"""
+    """Adds a hello after it, with the message_seq of the next message (4.2.2)."""
     return [datagram, later(record, replace(other(message), number=message.number + 1)).bytes()]
 
 
 def unbegun_epoch(datagram: bytes, record: Record, message: Message) -> list[bytes]:
-    """records of handshake and data of the epochs 1, 2 and 5 with random bytes, in front and behind
-    (4.1)"""
+    """Adds handshake and data records of the epochs 1, 2 and 5 with random bytes, before it and
+    after it (4.1)."""
     made = [
         Record(kind, epoch, 0, JUNK * 3).bytes()
         for kind, epoch in ((HANDSHAKE, 1), (DATA, 1), (HANDSHAKE, 2), (DATA, 5))
@@ -131,23 +132,23 @@ def unbegun_epoch(datagram: bytes, record: Record, message: Message) -> list[byt
 
 
 def unbegun_epoch_plain(datagram: bytes, record: Record, message: Message) -> list[bytes]:
-    """a hello in the clear in a record of the epochs 1 and 2, in front and behind (4.1)"""
+    """Adds an unencrypted hello in records of the epochs 1 and 2, before it and after it (4.1)."""
     made = [replace(record, epoch=epoch, number=0).of(other(message)).bytes() for epoch in (1, 2)]
     return [*made, datagram, *made]
 
 
 def change_in_front(datagram: bytes, record: Record, message: Message) -> list[bytes]:
-    """a ChangeCipherSpec in front (4.1; 5246, 7.1)"""
+    """Adds a ChangeCipherSpec before it (4.1; 5246, 7.1)."""
     return [Record(CHANGE, 0, record.number + AHEAD, b"\1", record.version).bytes(), datagram]
 
 
 def change_behind(datagram: bytes, record: Record, message: Message) -> list[bytes]:
-    """a ChangeCipherSpec right behind (4.1; 5246, 7.1)"""
+    """Adds a ChangeCipherSpec right after it (4.1; 5246, 7.1)."""
     return [datagram, Record(CHANGE, 0, record.number + AHEAD, b"\1", record.version).bytes()]
 
 
 def in_halves(record: Record, message: Message) -> tuple[Record, Record]:
-    """Two records of the two halves of a message."""
+    """Returns two records, with the two halves of a message."""
     middle = len(message.body) // 2
     second = replace(record, number=record.number + AHEAD + 2).of(
         message.part(middle, len(message.body))
@@ -156,12 +157,12 @@ def in_halves(record: Record, message: Message) -> tuple[Record, Record]:
 
 
 def rest(datagram: bytes, record: Record) -> bytes:
-    """The records behind the first."""
+    """Returns the records after the first."""
     return datagram[len(record.bytes()) :]
 
 
 def changed(record: Record, **parts: object) -> bytes:
-    """Returns a fragment with other contents, and the number of the record behind it."""
+    """Returns the record with its fragment changed, and the next record's number."""
     return replace(record, number=record.number + 1).of(replace(record.message(), **parts)).bytes()
 
 
@@ -170,13 +171,13 @@ def second_half(two: Record) -> dict[str, object]:
 
 
 def halves(datagram: bytes, record: Record, message: Message) -> list[bytes]:
-    """the message in two fragments, with nothing else (4.2.3)"""
+    """Splits the message into two fragments (4.2.3)."""
     one, two = in_halves(record, message)
     return [one.bytes(), two.bytes() + rest(datagram, record)]
 
 
 def halves_other_type(datagram: bytes, record: Record, message: Message) -> list[bytes]:
-    """the message in two fragments; between them the second one with another type (4.2.3)"""
+    """Splits the message, and adds the second fragment with another type in between (4.2.3)."""
     one, two = in_halves(record, message)
     return [
         one.bytes(),
@@ -186,14 +187,14 @@ def halves_other_type(datagram: bytes, record: Record, message: Message) -> list
 
 
 def halves_other_type_first(datagram: bytes, record: Record, message: Message) -> list[bytes]:
-    """the message in two fragments; in front of them the first one with another type (4.2.3)"""
+    """Splits the message, and adds the first fragment with another type before it (4.2.3)."""
     one, two = in_halves(record, message)
     return [changed(one, kind=CLIENT_KEYS), one.bytes(), two.bytes() + rest(datagram, record)]
 
 
 def halves_other_length(datagram: bytes, record: Record, message: Message) -> list[bytes]:
-    """the message in two fragments; between them the second one with a message's length that is 10
-    more (4.2.3)"""
+    """Splits the message, and adds the second fragment in between, with a message length 10 higher
+    (4.2.3)."""
     one, two = in_halves(record, message)
     return [
         one.bytes(),
@@ -203,8 +204,8 @@ def halves_other_length(datagram: bytes, record: Record, message: Message) -> li
 
 
 def halves_other_length_first(datagram: bytes, record: Record, message: Message) -> list[bytes]:
-    """the message in two fragments; in front of them the first one with a message's length that is
-    10 more (4.2.3)"""
+    """Splits the message, and adds the first fragment before it, with a message length 10 higher
+    (4.2.3)."""
     one, two = in_halves(record, message)
     return [
         changed(one, length=message.length + 10),
@@ -214,7 +215,7 @@ def halves_other_length_first(datagram: bytes, record: Record, message: Message)
 
 
 def halves_other_bytes(datagram: bytes, record: Record, message: Message) -> list[bytes]:
-    """the message in two fragments; between them the second one with zeros (4.2.3)"""
+    """Splits the message, and adds the second fragment with zeros in between (4.2.3)."""
     one, two = in_halves(record, message)
     return [
         one.bytes(),
@@ -224,7 +225,7 @@ def halves_other_bytes(datagram: bytes, record: Record, message: Message) -> lis
 
 
 def fragment_beyond(datagram: bytes, record: Record, message: Message) -> list[bytes]:
-    """in front a fragment of 40 bytes that begins 4 bytes before the message's end (4.2.2)"""
+    """Adds a fragment of 40 bytes before it, from 4 bytes before the message's end (4.2.2)."""
     return [
         later(record, replace(message, offset=message.length - 4, body=message.body[:40])).bytes(),
         datagram,
@@ -232,7 +233,7 @@ def fragment_beyond(datagram: bytes, record: Record, message: Message) -> list[b
 
 
 def other_version(datagram: bytes, record: Record, message: Message) -> list[bytes]:
-    """in front a hello in a record of TLS 1.2's version, 0x0303 (4.1)"""
+    """Adds a hello before it, in a record of version 0x0303, that of TLS 1.2 (4.1)."""
     return [
         replace(record, version=0x0303, number=record.number + AHEAD).of(other(message)).bytes(),
         datagram,

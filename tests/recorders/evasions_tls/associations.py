@@ -1,5 +1,5 @@
-"""Captures of associations of DTLS that a monitor sees in part, or that come one behind the other
-on the same ports."""
+"""Captures of DTLS associations that a monitor sees only in part, or that follow each other on the
+same ports."""
 
 from __future__ import annotations
 
@@ -9,7 +9,7 @@ from pathlib import Path
 
 from tests.recorders import peers
 from tests.support import packets
-from tests.recorders.evasions_tls import datagrams, dtls, said
+from tests.recorders.evasions_tls import datagrams, dtls, outputs
 from tests.recorders.evasions_tls.datagrams import GNUTLS, OPENSSL, SERVERS
 from tests.recorders.evasions_tls.dtls import CLIENT, SERVER, SERVER_PORT
 from tests.support.shapes import Line
@@ -22,15 +22,15 @@ VERSIONS = (0xFE00, 0xFE7F, 0xFEFF, 0xFEFE)
 
 
 class Identity:
-    """Puts nothing in."""
+    """Injects nothing."""
 
     def __call__(self, sender: str, datagram: bytes) -> list[bytes]:
         return [datagram]
 
 
 class Version(Identity):
-    """Of the client's first two records, or of the server's records up to its ServerHello, the
-    version is another."""
+    """Changes the version of the client's first two records, or of the server's records up to its
+    ServerHello."""
 
     def __init__(self, side: str, number: int) -> None:
         self.side, self.number, self.is_over = side, number, False
@@ -44,10 +44,12 @@ class Version(Identity):
 
 def did(server: str, by_server: str, client: str, by_client: str) -> dict[str, str]:
     return {
-        "client": "completed" if datagrams.IS_DONE[client] in by_client else said.fault(by_client),
+        "client": "completed"
+        if datagrams.IS_DONE[client] in by_client
+        else outputs.fault(by_client),
         "server": "completed"
         if "CIPHER is" in by_server or "hello from the client" in by_client + by_server
-        else said.fault(by_server),
+        else outputs.fault(by_server),
     }
 
 
@@ -58,7 +60,7 @@ def full(
     more: Line | None = None,
     left: Collection[str] = (),
 ) -> Line:
-    """The line of a handshake that both carried through, by tshark."""
+    """Returns tshark's line of a handshake that both sides completed."""
     found = datagrams.line_of(segments, port)
     fields = {field: value for field, value in found.items() if field not in left} | (more or {})
     certain = {"version": "DTLSv12", "established": True, "outcome": "full"}
@@ -66,11 +68,11 @@ def full(
         raise ValueError(f"tshark has other fields: {fields}")
     others = [field for field in fields if field not in certain and field not in (more or {})]
     absent = ["last_alert"] + ([] if more else ["gap"])
-    return said.line(fields, absent, {"seen": list(certain), of: [*others, *absent]})
+    return outputs.line(fields, absent, {"seen": list(certain), of: [*others, *absent]})
 
 
 def lost(work: Path, folder: Path, peer: str) -> tuple[Path, list[Line], Line]:
-    """Of a capture that began late the first hello and its HelloVerifyRequest are missing."""
+    """Drops the first hello and its HelloVerifyRequest, as if the capture began late."""
     file = folder / f"dtls_first_messages_lost_{peer}.pcap"
     by_server, by_client = datagrams.run(
         work, file, OPENSSL, peer, dtls.Relay(Identity()), SERVER_PORT
@@ -87,7 +89,7 @@ def lost(work: Path, folder: Path, peer: str) -> tuple[Path, list[Line], Line]:
 
 
 def version(work: Path, folder: Path, side: str, number: int) -> tuple[Path, list[Line], Line]:
-    """The version in the header of the first records. `peer` reads them."""
+    """Changes the version in the header of the first records. `peer` receives them."""
     seen = {}
     for peer in (GNUTLS, OPENSSL):
         file = folder / f"dtls_version_{number:04x}_{side}.pcap"
@@ -108,8 +110,8 @@ def client_of(name: str, more: str = "") -> str:
 
 
 def second(work: Path, folder: Path, way: str) -> tuple[Path, list[Line], Line]:
-    """Two associations on the same ports. The first one ends by close_notify, without a word, or by
-    an alert in its handshake."""
+    """Two associations on the same ports. The first ends by close_notify, silently, or by an alert
+    during its handshake."""
     file = folder / f"dtls_second_association_{way}.pcap"
     gnutls = SERVERS[GNUTLS].replace("--sni-hostname example.test --sni-hostname-fatal", "")
     command = gnutls if way.endswith("gnutls") else PLAIN_SERVER
@@ -130,7 +132,7 @@ def second(work: Path, folder: Path, way: str) -> tuple[Path, list[Line], Line]:
                 client.kill()
             else:
                 client.end(1)
-            parts.append((time.time(), client.said()))
+            parts.append((time.time(), client.output()))
             if turn == 0 and way == "restarted":
                 server.kill()
                 server = peers.Peer(work, "stdbuf -oL " + command, "server")
@@ -139,8 +141,8 @@ def second(work: Path, folder: Path, way: str) -> tuple[Path, list[Line], Line]:
         server.kill()
     is_done = [datagrams.IS_DONE[OPENSSL] in text for _, text in parts]
     seen = {
-        "first": "completed" if is_done[0] else said.fault(parts[0][1]),
-        "second": "completed" if is_done[1] else said.fault(parts[1][1]),
+        "first": "completed" if is_done[0] else outputs.fault(parts[0][1]),
+        "second": "completed" if is_done[1] else outputs.fault(parts[1][1]),
     }
     border = parts[0][0] * 1_000_000
     segments = packets.read(file.read_bytes())
@@ -157,7 +159,7 @@ def second(work: Path, folder: Path, way: str) -> tuple[Path, list[Line], Line]:
             found = datagrams.line_of(half, SERVER_PORT)
             kept = "id.orig_h id.orig_p id.resp_h id.resp_p proto server_name established last_alert outcome".split()
             absent = [field for field in ["last_alert"] if field not in found]
-            line = said.line(
+            line = outputs.line(
                 {field: found[field] for field in kept if field in found},
                 absent,
                 {"tshark, of its datagrams alone": kept},

@@ -1,5 +1,5 @@
-"""Captures of DTLS 1.2 with other datagrams beside those of two live peers, which carry their
-handshake through all the same, or don't."""
+"""Captures of DTLS 1.2 with datagrams injected between two live peers, which complete their
+handshake or don't."""
 
 from __future__ import annotations
 
@@ -11,7 +11,7 @@ from pathlib import Path
 from tests.recorders import peers
 from tests.oracle import wanted
 from tests.support import packets
-from tests.recorders.evasions_tls import around, dtls, said
+from tests.recorders.evasions_tls import around, dtls, outputs
 from tests.recorders.evasions_tls.dtls import (
     CLIENT,
     HELLO,
@@ -36,8 +36,8 @@ CLIENTS = {
 }
 IS_DONE = {OPENSSL: "SSL_connect:SSLv3/TLS read finished", GNUTLS: "Handshake was completed"}
 HAS_FAILED = ["errno=", ":error:", "Fatal error", "failed"]
-# Where both peers carry the handshake through in spite of it, the capture has GnuTLS's client, else
-# OpenSSL's; the server is OpenSSL's.
+# The client is GnuTLS's if the handshake completes all the same, else OpenSSL's. The server is
+# OpenSSL's.
 ENDS_GNUTLS = {
     "cut_alone",
     "cut_in_header",
@@ -64,14 +64,14 @@ STORED = [
     *((name, SERVER, GNUTLS) for name in ("cut_alone", "other_version")),
     ("fragment_beyond", CLIENT, GNUTLS),
 ]
-# The fields that count what was captured: what a peer drops counts there too, or doesn't.
+# Fields that count captured datagrams: those that a peer drops may count or not.
 COUNTS = {
     f"{side}_{what}" for side in ("orig", "resp") for what in ("pkts", "bytes", "records")
 } | {"duration"}
 
 
 class Rule:
-    """Puts datagrams around the first one that has the message."""
+    """Injects datagrams around the first one with the message."""
 
     def __init__(self, name: str, side: str) -> None:
         self.place, self.side, self.is_placed = around.ALL[name], side, False
@@ -90,14 +90,14 @@ class Rule:
 
 
 class Placed:
-    """What went on in place of a datagram."""
+    """The datagrams that were sent in place of one."""
 
     def __init__(self, datagram: bytes, parts: list[bytes]) -> None:
         self.datagram, self.left, self.is_taken = datagram, list(parts), False
 
     def takes(self, is_answered: bool) -> bool:
-        """Whether the next part is where the datagram was taken: the one that has it, or where it
-        was cut into fragments the last one, or the one that was answered."""
+        """Returns whether the next part is the one that the peer accepted: the whole datagram, the
+        last of its fragments, or the one that was answered."""
         part = self.left.pop(0)
         if self.is_taken or not (
             self.datagram in part
@@ -114,8 +114,7 @@ class Placed:
 def untouched(
     segments: list[packets.Segment], handed: list[tuple[str, bytes, list[bytes]]], side: str
 ) -> list[packets.Segment]:
-    """Returns the segments with the original datagrams in place of those that the relay sent for
-    them."""
+    """Returns the segments, with the original datagrams in place of the relay's."""
     found, waiting = [], {CLIENT: [], SERVER: []}
     port = (SERVER_PORT if side == CLIENT else RELAY_PORT).to_bytes(2, "big")
     for sender, datagram, parts in handed:
@@ -132,7 +131,7 @@ def untouched(
 
 
 def without_repeats(segments: list[packets.Segment]) -> list[packets.Segment]:
-    """The segments without those that have nothing but fragments of messages that came before."""
+    """Returns the segments except those with only fragments of earlier messages."""
     found, known = [], {}
     for one in segments:
         parts = dtls.messages(one.payload)
@@ -148,7 +147,7 @@ def without_repeats(segments: list[packets.Segment]) -> list[packets.Segment]:
 
 
 def line_of(segments: list[packets.Segment], port: int) -> Line:
-    """tshark's line of a capture."""
+    """Returns tshark's line of a capture."""
     with tempfile.NamedTemporaryFile(suffix=".pcap") as file:
         Path(file.name).write_bytes(packets.pcap([(one.time, one.frame()) for one in segments]))
         [found] = wanted.lines(file.name, port, udp=True)
@@ -162,7 +161,7 @@ def wanted_of(
     seen: Line,
 ) -> list[Line]:
     """Returns the expected lines: if both sides completed the handshake, the line of the datagrams
-    that they took; else the fields that are certain all the same."""
+    that they accepted; else only the fields that are certain."""
     port = SERVER_PORT if side == CLIENT else RELAY_PORT
     taken = without_repeats(untouched(segments, handed, side))
     found = line_of(taken, port)
@@ -183,14 +182,14 @@ def wanted_of(
         others = [field for field in fields if field not in (*certain, *ends)]
         sources = {"the first packet": list(ends), "seen": list(certain)}
         sources["tshark, of the datagrams that the peers took"] = [*others, "last_alert", "gap"]
-        return [said.line(fields, ["last_alert", "gap"], sources)]
+        return [outputs.line(fields, ["last_alert", "gap"], sources)]
     fields = {**ends, "server_name": NAME, "established": False}
     sources = {"the first packet": list(ends), "seen": ["established", "last_alert"]}
     sources["RFC 6347, 4.2.1: the hello that was answered first"] = ["server_name"]
     if not seen["alerts"]:
-        return [said.line(fields, ["last_alert"], sources)]
+        return [outputs.line(fields, ["last_alert"], sources)]
     fields["last_alert"] = wanted.ALERTS[seen["alerts"][-1][2]]
-    return [said.line(fields, [], sources)]
+    return [outputs.line(fields, [], sources)]
 
 
 def run(
@@ -202,8 +201,8 @@ def run(
     port: int,
     words: bytes = b"hello from the client\n",
 ) -> tuple[str, str]:
-    """One connection. Gives what the server and the client printed, and whether the client's
-    handshake was completed."""
+    """Runs one connection. Returns what the server and the client printed, and whether the client
+    completed its handshake."""
     with peers.Dump(file, f"udp port {port}"):
         other = peers.Peer(work, "stdbuf -oL " + SERVERS[server], "server")
         time.sleep(0.5)
@@ -216,28 +215,28 @@ def run(
         own.end(1)
         other.kill()
         relay.end()
-    return other.said(), own.said()
+    return other.output(), own.output()
 
 
 def record(
     work: Path, folder: Path, name: str, side: str, peer: str
 ) -> tuple[Path, list[Line], Line]:
-    """Records one, and gives its file, the wanted lines, and what the peers did."""
+    """Records one. Returns its file, the expected lines, and what the peers did."""
     file = folder / f"dtls_{side}_{name}_{peer}.pcap"
     server, client = (peer, OPENSSL) if side == CLIENT else (OPENSSL, peer)
     relay = dtls.Relay(Rule(name, side))
     port = SERVER_PORT if side == CLIENT else RELAY_PORT
     by_server, by_client = run(work, file, server, client, relay, port)
     seen = {
-        "client": "completed" if IS_DONE[client] in by_client else said.fault(by_client),
+        "client": "completed" if IS_DONE[client] in by_client else outputs.fault(by_client),
         "server": "completed"
         if "CIPHER is" in by_server or "hello from the client" in by_client + by_server
-        else said.fault(by_server),
-        "name": said.host(by_server),
+        else outputs.fault(by_server),
+        "name": outputs.host(by_server),
         "data": "hello from the client" in (by_server if server == OPENSSL else by_client),
     }
     segments = packets.read(file.read_bytes())
-    seen["alerts"] = said.alerts(segments)
+    seen["alerts"] = outputs.alerts(segments)
     if not relay.rule.is_placed:
         raise ValueError(f"{file.name}: not placed")
     return file, wanted_of(segments, relay.handed, side, seen), seen

@@ -1,5 +1,5 @@
-"""The parts of a datagram of DTLS (RFC 6347, sections 4.1 and 4.2), and a relay that puts other
-datagrams beside those of two peers."""
+"""The parts of a DTLS datagram (RFC 6347, sections 4.1 and 4.2), and a relay that injects datagrams
+between two peers."""
 
 from __future__ import annotations
 
@@ -33,8 +33,8 @@ class Record:
         return b"".join(value.to_bytes(count, "big") for value, count in parts) + self.fragment
 
     def message(self) -> Message | None:
-        """The message, or the fragment of one, that a record of epoch 0 holds alone; None where
-        there is none."""
+        """Returns the message or fragment in a record of epoch 0, if it is the only one; else
+        None."""
         at = self.fragment
         if self.kind != HANDSHAKE or self.epoch or len(at) < 12:
             return None
@@ -90,7 +90,7 @@ def messages(datagram: bytes) -> list[tuple[Record, Message]]:
 
 
 def renamed(hello: bytes, old: bytes = b"example.test", new: bytes = b"forged.test.") -> bytes:
-    """A hello with another name of the same length in it."""
+    """Returns the hello with another name of the same length."""
     if old not in hello or len(old) != len(new):
         raise ValueError("no such name")
     return hello.replace(old, new)
@@ -103,7 +103,7 @@ class Relay(threading.Thread):
     def __init__(self, rule: Callable[[str, bytes], list[bytes]]) -> None:
         super().__init__(daemon=True)
         self.rule, self.is_over, self.client = rule, False, None
-        self.handed = []  # Of each datagram its sender, its bytes, and what went on in its place.
+        self.handed = []  # Each datagram: its sender, its bytes, and what was sent in its place.
         self.near = peers.listener(RELAY_PORT, socket.SOCK_DGRAM)
         self.far = socket.socket(socket.AF_INET, socket.SOCK_DGRAM)
         self.far.bind((peers.HOST, 0))

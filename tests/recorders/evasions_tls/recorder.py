@@ -1,4 +1,4 @@
-"""Captures of live handshakes with hellos, records and datagrams that don't belong there.
+"""Captures of live handshakes with injected hellos, records and datagrams.
 
 wanted.json gets what the peers did, and the expected lines. It needs `openssl`, `gnutls-cli`,
 `gnutls-serv`, `tcpdump`, `tshark`, `unshare`, `stdbuf` and `ip`.
@@ -19,8 +19,8 @@ FOLDER = Path(__file__).resolve().parents[3] / "captures/evasions_tls"
 
 
 def captures() -> dict[str, Callable[[Path, Path], tuple[Path, list[Any], Any]]]:
-    """By name, a function that records a scene and returns its expected lines and what the peers
-    did."""
+    """Returns the scenes by name. Each is a function that records the scene, and returns its
+    expected lines and what the peers did."""
     found = {}
     for module in (datagrams, streams, associations):
         for name, make in module.captures().items():

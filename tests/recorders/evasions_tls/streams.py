@@ -1,5 +1,5 @@
-"""Captures of TLS with other bytes in the stream of one of two live peers: hellos that nobody asked
-for, and versions in record headers."""
+"""Captures of TLS with bytes injected into one peer's stream: unexpected hellos, and other versions
+in record headers."""
 
 from __future__ import annotations
 
@@ -12,7 +12,7 @@ from pathlib import Path
 from tests.recorders import peers
 from tests.oracle import wanted, wanted_hellos
 from tests.support import packets
-from tests.recorders.evasions_tls import said, tls
+from tests.recorders.evasions_tls import outputs, tls
 from tests.recorders.evasions_tls.tls import (
     CHANGE,
     CLIENT,
@@ -52,7 +52,7 @@ def client_of(peer: str, version: str) -> str:
 
 
 class Rule:
-    """Puts bytes beside records. It keeps the client's hello, of which the others are made."""
+    """Injects bytes beside records. Keeps the client's hello, from which it forges others."""
 
     def __init__(self, name: str, side: str) -> None:
         self.name, self.side, self.hello, self.put, self.is_placed = name, side, None, [], False
@@ -73,44 +73,44 @@ class Rule:
         return made
 
     def forged(self, version: bytes = b"\3\3") -> bytes:
-        """The hello with another name, in a record whose header has that version: the one that both
-        versions have behind the hellos."""
+        """Returns the hello with another name, in a record of this version: by default that of all
+        records after the hellos, in TLS 1.2 and 1.3."""
         if NAME not in self.hello:
             raise ValueError("no name")
         return self.hello[:1] + version + self.hello[3:].replace(NAME, FORGED)
 
     def hello_at_once(self, record: bytes) -> list[bytes]:
-        """A second hello in one segment with the first."""
+        """Adds a second hello in the same segment as the first."""
         return [record + self.note(self.forged())] if tls.is_message(record, HELLO) else [record]
 
     def hello_behind_hello(self, record: bytes) -> list[bytes]:
-        """Adds a second hello in a separate segment, in front of the answer."""
+        """Adds a second hello in a separate segment, before the answer."""
         return [record, self.note(self.forged())] if tls.is_message(record, HELLO) else [record]
 
     def hello_behind_answer(self, record: bytes) -> list[bytes]:
-        """In front of the client's next record, which it sends when it has the server's hello."""
+        """Adds the hello before the client's next record, which follows the ServerHello."""
         return [record] if tls.is_message(record, HELLO) else [self.note(self.forged()), record]
 
     def hello_behind_answer_0301(self, record: bytes) -> list[bytes]:
-        """Returns the forged hello with the record version of a first hello."""
+        """Adds the hello at the same place, with the record version of a first hello."""
         return (
             [record] if tls.is_message(record, HELLO) else [self.note(self.forged(b"\3\1")), record]
         )
 
     def hello_behind_change(self, record: bytes) -> list[bytes]:
-        """In the clear behind the client's ChangeCipherSpec."""
+        """Adds the hello unencrypted after the client's ChangeCipherSpec."""
         return [record, self.note(self.forged())] if record[0] == CHANGE else [record]
 
     def hello_by_server(self, record: bytes) -> list[bytes]:
-        """The client's hello, said by the server in front of its first record."""
+        """Adds the client's hello before the server's first record."""
         return [self.note(self.forged()), record]
 
     def server_hello_by_client_first(self, record: bytes) -> list[bytes]:
-        """In front of the client's hello."""
+        """Adds it before the client's hello."""
         return [self.note(tls.STRAY_SERVER_HELLO), record]
 
     def server_hello_by_client(self, record: bytes) -> list[bytes]:
-        """Right behind the client's hello."""
+        """Adds it right after the client's hello."""
         return (
             [record, self.note(tls.STRAY_SERVER_HELLO)]
             if tls.is_message(record, HELLO)
@@ -118,7 +118,7 @@ class Rule:
         )
 
     def with_version(self, record: bytes, number: int) -> list[bytes]:
-        """The hello of that side, with another version in its record's header."""
+        """Returns that side's hello with another version in its record header."""
         kind = HELLO if self.side == CLIENT else SERVER_HELLO
         if not tls.is_message(record, kind):
             return [record]
@@ -126,7 +126,7 @@ class Rule:
         return [record[:1] + number.to_bytes(2, "big") + record[3:]]
 
 
-# What is put in, by whom, the version, and the peer that takes it; the other one is OpenSSL's.
+# What is injected, by whom, the version, and the peer that receives it; the other is OpenSSL's.
 STORED = [
     ("hello_at_once", CLIENT, V12, OPENSSL),
     ("hello_at_once", CLIENT, V13, OPENSSL),
@@ -172,11 +172,11 @@ def run(
         time.sleep(0.1)
         other.kill()
         relay.end()
-    return other.said(), own.said()
+    return other.output(), own.output()
 
 
 def alerts(file: Path, port: int) -> list[str]:
-    """The names of the alerts in the clear, by tshark."""
+    """Returns tshark's names of the unencrypted alerts."""
     command = [
         "tshark",
         "-r",
@@ -204,8 +204,8 @@ def line_of(segments: list[packets.Segment], port: int) -> Line:
 
 
 def to_the_answer(segments: list[packets.Segment], put: Iterable[bytes]) -> list[packets.Segment]:
-    """The segments up to the server's first data, without the bytes that were put in: the hello
-    that was answered, and its answer."""
+    """Returns the segments up to the server's first data without the injected bytes: the hello that
+    was answered, and its answer."""
     found = []
     for one in segments:
         kept = one
@@ -219,7 +219,7 @@ def to_the_answer(segments: list[packets.Segment], put: Iterable[bytes]) -> list
 
 
 def is_in_front(segments: list[packets.Segment], made: bytes) -> bool:
-    """Whether what was put in came before the server's first data."""
+    """Returns whether the injected bytes came before the server's first data."""
     data = [one for one in segments if one.payload]
     answer = next(
         at
@@ -230,7 +230,7 @@ def is_in_front(segments: list[packets.Segment], made: bytes) -> bool:
 
 
 def with_usual_versions(segments: list[packets.Segment], number: int) -> list[packets.Segment]:
-    """The record of the hello has the version again that the peer wrote."""
+    """Restores the version that the peer wrote in the hello's record."""
 
     def usual(one: packets.Segment) -> packets.Segment:
         head = one.payload[:3]
@@ -266,7 +266,7 @@ def wanted_of(file: Path, rule: Rule, version: str, seen: Line) -> list[Line]:
             "seen": list(certain),
             "tshark, with the usual version": [*others, "last_alert", "gap"],
         }
-        return [said.line(fields, ["last_alert", "gap"], sources)]
+        return [outputs.line(fields, ["last_alert", "gap"], sources)]
     ends = {
         "id.orig_h": peers.HOST,
         "id.orig_p": int.from_bytes(segments[0].source[1], "big"),
@@ -307,7 +307,7 @@ def wanted_of(file: Path, rule: Rule, version: str, seen: Line) -> list[Line]:
         if not clear and rule.name.startswith(("hello_behind_answer", "hello_behind_change")):
             fields["outcome"] = "tls13"
             sources["docs/HANDSHAKES.md: every message keeps the states of TLS 1.3"] = ["outcome"]
-    return [said.line(fields, absent, sources)]
+    return [outputs.line(fields, absent, sources)]
 
 
 def record(
@@ -320,11 +320,11 @@ def record(
     if not rule.is_placed:
         raise ValueError(f"{file.name}: not placed")
     seen = {
-        "client": "completed" if IS_DONE[client] in by_client else said.fault(by_client),
+        "client": "completed" if IS_DONE[client] in by_client else outputs.fault(by_client),
         "server": "completed"
         if "CIPHER is" in by_server or "hello from the client" in by_client + by_server
-        else said.fault(by_server),
-        "name": said.host(by_server),
+        else outputs.fault(by_server),
+        "name": outputs.host(by_server),
         "data": "hello from the client" in (by_server if server == OPENSSL else by_client),
     }
     seen["alerts in the clear"] = alerts(file, SERVER_PORT if side == CLIENT else RELAY_PORT)

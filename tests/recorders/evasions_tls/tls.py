@@ -1,5 +1,5 @@
-"""The records of a stream of TLS (RFC 8446, section 5.1), and a relay that puts other bytes beside
-those of two peers."""
+"""The records of a TLS stream (RFC 8446, section 5.1), and a relay that injects bytes between two
+peers."""
 
 from __future__ import annotations
 
@@ -15,15 +15,15 @@ CHANGE, ALERT, HANDSHAKE, DATA = 20, 21, 22, 23
 HELLO, SERVER_HELLO = 1, 2
 CLIENT, SERVER = "client", "server"
 RELAY_PORT, SERVER_PORT = 14434, 14433
-# A ServerHello of TLS 1.2 that nobody made (RFC 5246, section 7.4.1.3): no session, the suite
-# 0xc02b, no extensions.
+# A forged ServerHello of TLS 1.2 (RFC 5246, section 7.4.1.3): no session, suite 0xc02b, no
+# extensions.
 STRAY_SERVER_HELLO = (
     bytes.fromhex("16 03 03 00 2a 02 00 00 26 03 03") + b"\x5a" * 32 + bytes.fromhex("00 c0 2b 00")
 )
 
 
 def records(stream: bytes) -> tuple[list[bytes], bytes]:
-    """The whole records, with their headers, and what is left."""
+    """Returns the complete records with their headers, and the remaining bytes."""
     found, at = [], 0
     while at + 5 <= len(stream) and at + 5 + int.from_bytes(stream[at + 3 : at + 5], "big") <= len(
         stream
@@ -39,9 +39,9 @@ def is_message(record: bytes, kind: int) -> bool:
 
 
 class Relay(threading.Thread):
-    """Hands one connection on, record by record. A rule is called with the sender, and a record,
-    and gives the bytes that go in its place: a list, each of which is sent alone, with the rule's
-    pause behind it."""
+    """Relays one connection record by record. A rule is called with the sender and a record, and
+    returns the byte strings to send in its place: each in a separate segment, followed by the
+    rule's pause."""
 
     def __init__(self, rule: Any) -> None:
         super().__init__(daemon=True)
@@ -76,7 +76,7 @@ class Relay(threading.Thread):
         server.close()
 
     def hand_on(self, other: socket.socket, sender: str, found: list[bytes]) -> None:
-        """Records that nothing is put beside go together."""
+        """Sends records by the rule. Those that it leaves alone are sent together."""
         waiting = b""
         for record in found:
             placed = self.rule(sender, record)

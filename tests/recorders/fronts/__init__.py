@@ -1,1 +1,1 @@
-"""TLS after other bytes, of live peers."""
+"""Live peers that speak TLS after other bytes."""

@@ -11,7 +11,7 @@ from pathlib import Path
 from tests.recorders import peers
 from tests.oracle import wanted
 from tests.support import packets
-from tests.recorders.fronts import told
+from tests.recorders.fronts import expected
 from tests.support.shapes import Line
 
 NAME, SHORT = "browser_dtls13", "browser_dtls13_short"
@@ -37,8 +37,8 @@ PAGE = """<script>
 """
 BROWSER = "chromium --headless --no-sandbox --disable-gpu --enable-logging=stderr --user-data-dir=room page.html"
 BROWSER += " --disable-features=WebRtcHideLocalIpsWithMdns"
-# The browser offers no address of the device `lo`: another one is made, and what goes to its own
-# address still passes `lo`.
+# The browser doesn't offer addresses of `lo`, so another device is made. Packets to that device's
+# own address still pass `lo`.
 DEVICE = [
     "link add d0 type veth peer name d1",
     "addr add 192.0.2.1/24 dev d0",
@@ -54,8 +54,8 @@ KEPT = {"dtls13_chromium": 0, "dtls13_wolfssl_connection_ids": 2}
 
 
 def count(datagram: bytes, connection_id: int) -> int:
-    """The records of a datagram (RFC 9147, section 4): with the header of 13 bytes, or the unified
-    one; connection ids have that length."""
+    """Counts the records of a datagram (RFC 9147, section 4), with the header of 13 bytes or the
+    unified one. `connection_id` is the length of connection IDs."""
     found = 0
     while datagram:
         first = datagram[0]
@@ -86,7 +86,7 @@ def record(folder: Path) -> list[Line]:
         time.sleep(0.5)
         browser.process.terminate()
         browser.process.wait(5)
-        said = [line.split('"')[1] for line in browser.said().splitlines() if "SEEN" in line]
+        said = [line.split('"')[1] for line in browser.output().splitlines() if "SEEN" in line]
     print(NAME, file.stat().st_size, "bytes", said, flush=True)
     if (
         not said
@@ -97,8 +97,8 @@ def record(folder: Path) -> list[Line]:
 
 
 def shortened(datagram: bytes) -> bytes:
-    """Its unified records with a sequence number of 1 byte, and the last one without a length. What
-    is encrypted isn't decrypted again then."""
+    """Returns the datagram with 1-byte sequence numbers in its unified records, and the last one
+    without a length. Nobody can decrypt these records any more."""
     found = b""
     while datagram and datagram[0] >> 2 == 0b001011:
         end = 5 + int.from_bytes(datagram[3:5], "big")
@@ -113,7 +113,7 @@ def shortened(datagram: bytes) -> bytes:
 
 
 def record_short(folder: Path) -> list[Line]:
-    """The other forms of the unified header (RFC 9147, section 4), made of the capture."""
+    """Derives the other forms of the unified header (RFC 9147, section 4) from the capture."""
     file = folder / f"{SHORT}.pcap"
     made = []
     for one in packets.read((folder / f"{NAME}.pcap").read_bytes()):
@@ -147,12 +147,12 @@ def lines(file: Path, connection_id: int = 0) -> list[Line]:
     }
     by_hand = {"orig_records": records[True], "resp_records": records[False]}
     if found.get("retried"):
-        # tshark names the HelloRetryRequest of DTLS as a ServerHello.
+        # tshark reports the HelloRetryRequest of DTLS as a ServerHello.
         by_hand["ssl_history"] = "CjCs"
     if any(found[field] != value for field, value in certain.items()):
         raise ValueError(f"tshark has other fields: {found}")
-    # JA4 of DTLS 1.3 depends on which version counts as the highest; tshark has the unified records
-    # as no records.
+    # JA4 of DTLS 1.3 depends on which version counts as the highest; tshark doesn't count unified
+    # records.
     fields = {field: value for field, value in found.items() if field not in ("ja4",)} | by_hand
     others = [field for field in fields if field not in certain and field not in by_hand]
     sources = {
@@ -160,4 +160,4 @@ def lines(file: Path, connection_id: int = 0) -> list[Line]:
         "RFC 9147, 4, by hand": list(by_hand),
         "tshark": [*others, "last_alert"],
     }
-    return [told.line(fields, sources, ["last_alert"])]
+    return [expected.line(fields, sources, ["last_alert"])]

@@ -1,5 +1,5 @@
-"""Captures of drafts of TLS 1.3, made of one of TLS 1.3 (nobody could decrypt them): its
-ServerHello in the form that the draft has."""
+"""Captures of drafts of TLS 1.3, derived from one of TLS 1.3 by rewriting its ServerHello. Nobody
+could decrypt them."""
 
 from __future__ import annotations
 
@@ -8,7 +8,7 @@ from pathlib import Path
 
 from tests.oracle import wanted
 from tests.support import packets
-from tests.recorders.fronts import told
+from tests.recorders.fronts import expected
 from tests.support.shapes import Line
 
 STORED = Path(__file__).resolve().parents[3] / "crates" / "tlslog" / "data" / "openssl_tls13.pcap"
@@ -27,7 +27,7 @@ def counted(data: bytes, width: int) -> bytes:
 
 
 def offered(payload: bytes, number: int) -> bytes:
-    """The ClientHello's versions (RFC 8446, section 4.2.1): the draft for TLS 1.3."""
+    """Returns the ClientHello with the draft's version for that of TLS 1.3 (RFC 8446, 4.2.1)."""
     at = payload.index(SUPPORTED_VERSIONS)
     end = at + 4 + int.from_bytes(payload[at + 2 : at + 4], "big")
     return (
@@ -43,7 +43,7 @@ def extensions(block: bytes) -> Iterator[bytes]:
 
 
 def answered(payload: bytes, number: int) -> bytes:
-    """The ServerHello that the payload begins with, as the draft has it."""
+    """Returns the payload with its ServerHello in the draft's form."""
     end = 5 + int.from_bytes(payload[3:5], "big")
     hello, rest = payload[HEADERS:end], payload[end:]
     if number > LAST_OLD_FORM:
@@ -62,7 +62,7 @@ def answered(payload: bytes, number: int) -> bytes:
 
 
 def moved(one: packets.Segment, sequence: int, acknowledgment: int) -> packets.Segment:
-    """The segment with numbers that are so much lower."""
+    """Returns the segment with its sequence and acknowledgement numbers lowered."""
     numbers = (
         (number - less) % 2**32
         for number, less in ((one.sequence, sequence), (one.acknowledgment, acknowledgment))
@@ -104,4 +104,4 @@ def record(folder: Path, name: str) -> list[Line]:
         (field, found.get(field)) for field, value in by_hand.items() if found.get(field) != value
     ]
     print(name, file.stat().st_size, "bytes, tshark has", differing or "the same", flush=True)
-    return [told.line(fields, sources, ["last_alert", "gap"])]
+    return [expected.line(fields, sources, ["last_alert", "gap"])]

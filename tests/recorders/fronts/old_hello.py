@@ -1,6 +1,6 @@
-"""Captures of a ClientHello in the form of SSL 2.0 (RFC 5246, appendix E.2). No client of today
-sends it: this one is made by hand, and completes a handshake of TLS 1.2, with RSA and AES in CBC,
-so that a live server prints what it took."""
+"""Captures of a ClientHello in the form of SSL 2.0 (RFC 5246, appendix E.2). No client sends it
+today, so this one is made by hand. It completes a handshake of TLS 1.2 with RSA and AES-CBC, so
+that a live server prints what it accepted."""
 
 from __future__ import annotations
 
@@ -14,13 +14,13 @@ import time
 from pathlib import Path
 
 from tests.recorders import peers
-from tests.recorders.fronts import told
+from tests.recorders.fronts import expected
 from tests.support.shapes import Line
 
 PORT = 14433
 SUITES = bytes.fromhex(
     "00002f 000035 00003c 0000ff 010080 0700c0"
-)  # Of TLS, its SCSV, and two of SSL 2.0.
+)  # Suites of TLS, the SCSV, and two suites of SSL 2.0.
 OF_SSL_2 = bytes.fromhex("010080 0700c0")
 SERVERS = {
     "ssl2_hello": "openssl s_server -accept 127.0.0.1:14433 -cert rsa.pem -key rsa.key -tls1_2 -msg -cipher DEFAULT:@SECLEVEL=0",
@@ -33,14 +33,14 @@ NAMES = list(SERVERS)
 
 
 def hello(version: int, suites: bytes, session: bytes, challenge: bytes) -> bytes:
-    """With its length of 2 bytes, whose highest bit is set."""
+    """Returns the hello behind its 2-byte length, whose highest bit is set."""
     lengths = b"".join(len(part).to_bytes(2, "big") for part in (suites, session, challenge))
     body = b"\1" + version.to_bytes(2, "big") + lengths + suites + session + challenge
     return (0x8000 | len(body)).to_bytes(2, "big") + body
 
 
 def prf(secret: bytes, label: bytes, seed: bytes, count: int) -> bytes:
-    """RFC 5246, section 5."""
+    """Computes the PRF of TLS 1.2 (RFC 5246, section 5)."""
     at, found = label + seed, b""
     while len(found) < count:
         at = hmac.digest(secret, at, "sha256")
@@ -49,7 +49,7 @@ def prf(secret: bytes, label: bytes, seed: bytes, count: int) -> bytes:
 
 
 def aes(key: bytes, iv: bytes, text: bytes) -> bytes:
-    """AES-128 in CBC, by the program of OpenSSL."""
+    """Encrypts with AES-128-CBC, by the command `openssl`."""
     words = ["openssl", "enc", "-aes-128-cbc", "-nopad", "-K", key.hex(), "-iv", iv.hex()]
     return subprocess.run(words, input=text, stdout=subprocess.PIPE, check=True).stdout
 
@@ -92,7 +92,7 @@ class Client:
         return head[0], self.exact(int.from_bytes(head[3:], "big"))
 
     def messages_to_done(self) -> bytes:
-        """The server's messages up to its ServerHelloDone."""
+        """Receives the server's messages up to its ServerHelloDone."""
         found = b""
         while not found.endswith(message(14, b"")):
             kind, fragment = self.take()
@@ -102,7 +102,7 @@ class Client:
         return found
 
     def sealed(self, kind: int, text: bytes) -> bytes:
-        """A record as TLS_RSA_WITH_AES_128_CBC_SHA protects it (RFC 5246, section 6.2.3.2)."""
+        """Returns a record protected by TLS_RSA_WITH_AES_128_CBC_SHA (RFC 5246, 6.2.3.2)."""
         head = self.sequence.to_bytes(8, "big") + bytes([kind, 3, 3]) + len(text).to_bytes(2, "big")
         self.sequence += 1
         text += hmac.digest(self.mac_key, head + text, "sha1")
@@ -123,7 +123,7 @@ class Client:
         master = prf(secret, b"master secret", random + server_random, 48)
         block = prf(master, b"key expansion", server_random + random, 72)
         self.mac_key, self.key = block[:20], block[40:56]
-        said = first[2:] + answer + keys  # The hello without its length (the same place).
+        said = first[2:] + answer + keys  # The hello without its length.
         finished = message(20, prf(master, b"client finished", hashlib.sha256(said).digest(), 12))
         self.connection.sendall(
             record_of(22, keys) + record_of(20, b"\1") + self.sealed(22, finished)
@@ -159,8 +159,8 @@ def record(work: Path, folder: Path, name: str) -> list[Line]:
     server.kill()
     kept = [
         line
-        for line in server.said().splitlines()
+        for line in server.output().splitlines()
         if re.search("rror|hello of|CIPHER|content_type=0", line)
     ]
     print(name, file.stat().st_size, "bytes", fault, kept, flush=True)
-    return told.of_old_hello(file, first, fault)
+    return expected.of_old_hello(file, first, fault)

@@ -1,5 +1,5 @@
-"""A server that speaks plain text first and then TLS (Python's ssl), on the same connection; it
-counts the bytes before TLS."""
+"""A server that speaks plain text and then TLS (Python's ssl) on one connection, and counts the
+bytes before TLS."""
 
 from __future__ import annotations
 
@@ -13,7 +13,7 @@ from tests.recorders import peers
 
 
 class Plain:
-    """The plain text of a connection. It is read byte by byte, so that none of TLS is taken."""
+    """The plain text of a connection. It is read byte by byte, so that no TLS byte is consumed."""
 
     def __init__(self, connection: socket.socket) -> None:
         self.connection, self.taken, self.said = connection, b"", b""
@@ -29,7 +29,7 @@ class Plain:
         return found
 
     def until(self, end: bytes, begin: bytes = b"") -> bytes:
-        """The bytes up to an end, after a beginning."""
+        """Reads up to the first `end` after `begin`."""
         found = b""
         while begin not in found or not found[found.index(begin) :].endswith(end):
             found += self.take(1)
@@ -44,8 +44,8 @@ class Plain:
 
 
 class Server(threading.Thread):
-    """Serves one connection. `seen` is what it saw. Where `highest` is None there is no TLS after
-    the plain text."""
+    """Serves one connection, and reports it in `seen`. If `highest` is None, no TLS follows the
+    plain text."""
 
     def __init__(
         self, port: int, talk: Callable[[Plain], None], work: Path, highest: ssl.TLSVersion | None

@@ -14,7 +14,7 @@ from collections.abc import Callable
 from pathlib import Path
 
 from tests.recorders import peers, wanted_entries
-from tests.recorders.fronts import browser, drafts, old_hello, plain, shifted, talks, told
+from tests.recorders.fronts import browser, drafts, expected, old_hello, plain, shifted, talks
 from tests.support.shapes import Line
 
 FOLDER = Path(__file__).resolve().parents[3] / "captures/fronts"
@@ -43,8 +43,7 @@ def curl(port: int, words: str, version: str = "") -> str:
 
 
 class ByHand:
-    """A client that sends some bytes, reads as many as are said, and speaks TLS then (Python's
-    ssl)."""
+    """A client that sends some bytes, reads a given number, and then speaks TLS (Python's ssl)."""
 
     def __init__(self, port: int, front: bytes, answer: int) -> None:
         self.port, self.front, self.answer = port, front, answer
@@ -66,7 +65,8 @@ class ByHand:
 def captures() -> (
     dict[str, tuple[int, Callable[[plain.Plain], None], ssl.TLSVersion | None, str | ByHand]]
 ):
-    """Name: port, the server's plain text, its highest version, and the client."""
+    """Returns the recordings by name: the port, the server's plain text, its highest version, and
+    the client."""
     resolve = f"--resolve {NAME}:8443:127.0.0.1"
     psql = f"psql 'host={NAME} hostaddr=127.0.0.1 port=5432 user=me dbname=it sslmode=require gssencmode=disable connect_timeout=4' -c ''"
     gnutls = f"gnutls-cli --insecure --starttls-proto=smtp --sni-hostname {NAME} -p 25 127.0.0.1"
@@ -116,7 +116,7 @@ def captures() -> (
 
 
 def run_client(work: Path, client: str | ByHand) -> str:
-    """What the client printed."""
+    """Runs the client, and returns what it printed."""
     if isinstance(client, ByHand):
         client.run()
         return ""
@@ -127,7 +127,7 @@ def run_client(work: Path, client: str | ByHand) -> str:
         peer.tell(b"GET / HTTP/1.0\r\n\r\n")
         time.sleep(0.3)
     peer.end(4)
-    return peer.said()
+    return peer.output()
 
 
 def record_behind(
@@ -147,7 +147,7 @@ def record_behind(
         server.join(3)
     shown = {key: value for key, value in server.seen.items() if key not in ("client", "server")}
     print(name, file.stat().st_size, "bytes", shown, flush=True)
-    return told.of_front(file, port, server.seen) if highest else told.of_none(file)
+    return expected.of_front(file, port, server.seen) if highest else expected.of_none(file)
 
 
 def names() -> list[str]:

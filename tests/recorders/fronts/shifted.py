@@ -1,5 +1,5 @@
-"""Captures made of others: connections whose beginning wasn't captured, DTLS after CAPWAP's
-header; and DTLS of the version 0x0100."""
+"""Captures derived from others: connections without their beginning, and DTLS after CAPWAP headers.
+Also DTLS of version 0x0100."""
 
 from __future__ import annotations
 
@@ -10,13 +10,13 @@ from pathlib import Path
 from tests.recorders import peers
 from tests.oracle import wanted
 from tests.support import packets
-from tests.recorders.fronts import told
+from tests.recorders.fronts import expected
 from tests.support.shapes import Line
 
 TOP = Path(__file__).resolve().parents[3]
 STORED = TOP / "crates" / "tlslog" / "data"
-# The source capture, and how many packets at its beginning are left out: all up to the client's
-# last handshake records.
+# The source capture, and how many packets at its start are left out: all up to the client's last
+# handshake records.
 CUT = {
     "late_alerts_tls10": ("openssl_tls10", 10),
     "late_alerts_tls11": ("openssl_tls11", 10),
@@ -41,7 +41,7 @@ def put(file: Path, segments: list[packets.Segment]) -> None:
 
 
 def stored_hello() -> bytes:
-    """The record of a stored ClientHello."""
+    """Returns the record of a stored ClientHello."""
     return next(
         one.payload
         for one in packets.read((STORED / "openssl_tls13.pcap").read_bytes())
@@ -66,7 +66,7 @@ def of_late(file: Path, port: int) -> list[Line]:
         "tshark": [*kept, *absent],
         "docs/HANDSHAKES.md: nothing is before a ClientHello": ["established", "outcome"],
     }
-    return [told.line(fields, sources, absent)]
+    return [expected.line(fields, sources, absent)]
 
 
 def cut(folder: Path, name: str) -> list[Line]:
@@ -84,8 +84,8 @@ def cut(folder: Path, name: str) -> list[Line]:
 
 
 def capwap(folder: Path, name: str) -> list[Line]:
-    """Puts the header before each datagram of a stored capture, and gives the server the port
-    of CAPWAP."""
+    """Adds the header to each datagram of a stored capture, and sets the server's port to
+    CAPWAP's."""
     file = folder / f"{name}.pcap"
 
     def wrapped(one: packets.Segment) -> packets.Segment:
@@ -96,7 +96,7 @@ def capwap(folder: Path, name: str) -> list[Line]:
         payload = HEADER + one.payload
         udp = b"".join(
             part.to_bytes(2, "big") for part in (*ports, 8 + len(payload), 0)
-        )  # A checksum of 0 isn't one (RFC 768).
+        )  # A checksum of 0 means none (RFC 768).
         return packets.replace(one, tcp=udp, payload=payload)
 
     before = packets.read((TOP / "captures" / "dtls" / f"{CAPWAP[name]}.pcap").read_bytes())
@@ -113,7 +113,7 @@ def capwap(folder: Path, name: str) -> list[Line]:
             f"tshark has other fields: {[(key, found.get(key), fields[key]) for key in fields if found.get(key) != fields[key]]}"
         )
     return [
-        told.line(
+        expected.line(
             fields,
             {"tshark, and captures/dtls/lines": [*fields, "last_alert", "gap"]},
             ["last_alert", "gap"],
@@ -122,8 +122,8 @@ def capwap(folder: Path, name: str) -> list[Line]:
 
 
 def old(work: Path, folder: Path) -> list[Line]:
-    """GnuTLS's peers in the version 0x0100, which they call DTLS 0.9, and tshark DTLS 1.0 of
-    OpenSSL before 0.9.8f."""
+    """Records GnuTLS's peers with version 0x0100, which GnuTLS calls DTLS 0.9, and tshark DTLS 1.0
+    of OpenSSL before 0.9.8f."""
     file = folder / f"{OLD}.pcap"
     server = f"gnutls-serv -p {PORT} --udp --nocookie --echo --priority {OLD_PRIORITY} {OLD_KEYS}"
     client = f"gnutls-cli -p {PORT} --udp --insecure --sni-hostname example.test --priority {OLD_PRIORITY} {peers.HOST}"
@@ -136,7 +136,7 @@ def old(work: Path, folder: Path) -> list[Line]:
         own.waits_for(["hello from the client"], 1)
         own.end(1)
         other.kill()
-    seen = [line.strip("- ") for line in own.said().splitlines() if "Description" in line]
+    seen = [line.strip("- ") for line in own.output().splitlines() if "Description" in line]
     print(OLD, file.stat().st_size, "bytes", seen, flush=True)
     if not is_done or "DTLS0.9" not in seen[0]:
         raise ValueError(f"another version: {seen}")
@@ -155,7 +155,7 @@ def old(work: Path, folder: Path) -> list[Line]:
         "seen": list(certain),
         "tshark": [*(field for field in fields if field not in certain), "last_alert", "gap"],
     }
-    return [told.line(fields, sources, ["last_alert", "gap"])]
+    return [expected.line(fields, sources, ["last_alert", "gap"])]
 
 
 def record(work: Path, folder: Path, name: str) -> list[Line]:

@@ -1,5 +1,5 @@
-"""The plain text before TLS on a connection, by the protocol (STARTTLS and its like). A talk
-reads and writes it on the server's side, and returns when the client's next byte is TLS."""
+"""The plain text before TLS, by protocol (STARTTLS and the like). Each function plays the server,
+and returns when the client's next byte is TLS."""
 
 from __future__ import annotations
 
@@ -24,7 +24,7 @@ MYSQL_GREETING = (
 
 
 def lines(plain: Plain, *answers: bytes) -> None:
-    """Reads a line, and gives the answer that belongs to it, again and again."""
+    """Reads a line before it sends each of the answers."""
     for answer in answers:
         plain.line()
         plain.say(answer)

@@ -1,4 +1,4 @@
-"""What peers printed, and how it becomes what is wanted."""
+"""Parses what peers print, and builds expected lines."""
 
 from __future__ import annotations
 
@@ -12,8 +12,8 @@ ALERT = 21
 
 
 def fault(text: str) -> str:
-    """The last line with a fault."""
-    of_keys = "verify error|Verif|[*]{3} PKI"  # About certificates without a trusted issuer.
+    """Returns the last line that reports a fault."""
+    of_keys = "verify error|Verif|[*]{3} PKI"  # Messages about untrusted issuers.
     lines = [
         line
         for line in text.splitlines()
@@ -23,13 +23,13 @@ def fault(text: str) -> str:
 
 
 def host(text: str) -> str | None:
-    """The name that `openssl s_server` printed last."""
+    """Returns the name that `openssl s_server` printed last."""
     names = re.findall('Hostname in TLS extension: "([^"]*)"', text)
     return names[-1] if names else None
 
 
 def alerts(segments: list[packets.Segment]) -> list[tuple[int, ...]]:
-    """The alerts in the clear of datagrams: the port of the sender, the level and the
+    """Returns the unencrypted alerts in datagrams: the sender's port, the level and the
     description."""
     found = []
     for one in segments:

@@ -1,5 +1,5 @@
-"""What is wanted of a capture of fronts: the line by tshark's fields where tshark finds the TLS,
-beside what the peers saw."""
+"""Expected lines of captures in which TLS comes after other bytes: tshark's fields if it finds the
+TLS, and what the peers saw."""
 
 from __future__ import annotations
 
@@ -14,8 +14,8 @@ NAMES = {"TLSv1.2": "TLSv12", "TLSv1.3": "TLSv13"}
 
 
 def line(fields: Line, sources: dict[str, list[str]], absent: Iterable[str] = ()) -> Line:
-    """A wanted line. `from` has, for each source, the fields that it gives; fields in `absent`
-    aren't in the line."""
+    """Returns an expected line. `from` lists the fields by source; those in `absent` must be
+    missing."""
     given = {
         source: [name for name in names if name in fields or name in absent]
         for source, names in sources.items()
@@ -27,7 +27,7 @@ def line(fields: Line, sources: dict[str, list[str]], absent: Iterable[str] = ()
 
 
 def ends(file: Path, port: int) -> Line:
-    """The addresses and ports of the one connection, by its first packet."""
+    """Returns the connection's addresses and ports, by its first packet."""
     first = packets.read(file.read_bytes())[0]
     source, destination = (
         (".".join(map(str, address)), int.from_bytes(number, "big"))
@@ -44,7 +44,7 @@ def ends(file: Path, port: int) -> Line:
 
 
 def of_front(file: Path, port: int, seen: Line) -> list[Line]:
-    """One line. What tshark and the peer both know has to agree."""
+    """Returns one line. Fields that both tshark and the peer know must agree."""
     found = wanted.lines(file)
     known = ends(file, port)
     by_peer = {
@@ -54,7 +54,7 @@ def of_front(file: Path, port: int, seen: Line) -> list[Line]:
         "orig_preamble_bytes": seen["orig_front"],
         "resp_preamble_bytes": seen["resp_front"],
     }
-    # A side with nothing in front has no such field.
+    # A side without a preamble lacks the field.
     none = [field for field in ("orig_preamble_bytes", "resp_preamble_bytes") if not by_peer[field]]
     by_peer = {field: value for field, value in by_peer.items() if field not in none}
     if not found:
@@ -90,23 +90,23 @@ def of_front(file: Path, port: int, seen: Line) -> list[Line]:
 
 
 def of_none(file: Path) -> list[Line]:
-    """tshark finds no TLS, and the peers speak none."""
+    """Expects no line: tshark finds no TLS, and the peers speak none."""
     if wanted.lines(file):
         raise ValueError("tshark finds TLS")
     return []
 
 
 def suites_of(hello: bytes) -> list[str]:
-    """The suites of a hello in SSL 2.0's form, by its bytes: those of TLS have a first byte of 0
-    (RFC 5246, appendix E.2)."""
+    """Returns the suites of a hello in SSL 2.0's form. Those of TLS begin with a byte of 0 (RFC
+    5246, appendix E.2)."""
     behind = hello[11 : 11 + int.from_bytes(hello[5:7], "big")]
     parts = [behind[at : at + 3] for at in range(0, len(behind), 3)]
     return [suite_names.named("0x" + (part[1:] if part[0] == 0 else part).hex()) for part in parts]
 
 
 def of_old_hello(file: Path, hello: bytes, fault: str) -> list[Line]:
-    """One line: of the client by the bytes of its hello, of the server by tshark's fields, which
-    has none of the client's records."""
+    """Returns one line. The client's fields come from the bytes of its hello, which tshark doesn't
+    parse, the server's from tshark."""
     [found] = wanted.lines(file)
     session = int.from_bytes(hello[7:9], "big")
     at = 11 + int.from_bytes(hello[5:7], "big")
@@ -126,9 +126,9 @@ def of_old_hello(file: Path, hello: bytes, fault: str) -> list[Line]:
         "server_name",
         "client_comp_methods",
     ]
-    not_told = ["ja3", "ja3_string"] + ([] if fault else ["last_alert"])
+    unprinted = ["ja3", "ja3_string"] + ([] if fault else ["last_alert"])
     sources = {
         "RFC 5246, appendix E.2, by hand": [*by_hand, *not_there],
-        "tshark": [*of_tshark, *not_told],
+        "tshark": [*of_tshark, *unprinted],
     }
-    return [line(fields, sources, [*not_there, *not_told])]
+    return [line(fields, sources, [*not_there, *unprinted])]
