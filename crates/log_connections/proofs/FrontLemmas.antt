@@ -10,16 +10,16 @@ use Rattle.connections.specs.declared.stream.Stream.{Stream}
 use Rattle.tls_analyzer.specs.Analyzers.{IsHeardAsNone}
 use Rattle.tls_analyzer.specs.declared.analyzer.Analyzer.{Analyzer}
 use Rattle.log_connections.specs.Analysis.{HearsNone, HearsNoneIn, direction_of}
-use Rattle.log_connections.specs.Fronts.{leaving}
+use Rattle.log_connections.specs.Fronts.{with_preamble}
 use Rattle.log_connections.specs.declared.analysis.TlsAnalysis.{TlsAnalysis}
 use Rattle.log_connections.specs.declared.analysis.TransportAnalyzer.TheVariants as said
-use Rattle.log_connections.specs.declared.fronts.Fronts.{Fronts}
+use Rattle.log_connections.specs.declared.fronts.Preambles.{Preambles}
 
 module _ {K : Type 0} where
-  pub heard_none : (s : Side) (t u : Stream) (a b : TlsAnalysis K) (x : Analyzer) (f : Fronts)
-      (y : Analyzer) (g : Fronts)
+  pub heard_none : (s : Side) (t u : Stream) (a b : TlsAnalysis K) (x : Analyzer) (f : Preambles)
+      (y : Analyzer) (g : Preambles)
       → a.said ≡ said.Stream x f → b ≡ record a { said = said.Stream y g }
-      → IsHeardAsNone x (direction_of a.is_turned s) y → g ≡ leaving s f
+      → IsHeardAsNone x (direction_of a.is_turned s) y → g ≡ with_preamble s 0 f
       → u ≡ stopped t t.reading
       → HearsNone s t u a b
   unfolding HearsNone

@@ -1,3 +1,4 @@
+mod CapacityLemmas
 mod DatagramLemmas
 mod FrontLemmas
 mod LogLemmas

@@ -1,10 +1,8 @@
 -- What is analyzed of a connection's bytes.
-use Rattle.std.specs.Prelude.{◌≡◌, ◌==◌, ◌-◌, ◌*◌, ◌^◌, ◌&&◌, ◌||◌, if◌then◌else◌, min, ℕ, Bool, true, false, not, Option, Some, None, List, [], Ok, Err, is_some, length, drop}
+use Rattle.std.specs.Prelude.{◌≡◌, ◌==◌, ◌&&◌, ◌||◌, if◌then◌else◌, ℕ, Bool, true, false, not, Option, Some, None, List, [], is_some, length, drop}
 use Rattle.std.specs.Option.{option_map}
 use Rattle.std.specs.Global.{Box}
 use Rattle.layouts.specs.Bytes.{Bytes}
-use Rattle.layouts.specs.Meaning.{Answer}
-use Rattle.layouts.specs.Reading.{reading}
 use Rattle.connections.specs.Segment.{has_data}
 use Rattle.connections.specs.Stream.{handing_on, has_urgent_next, is_cut_short, next_bytes, passed, passing_behind, passing_urgent, stopped}
 use Rattle.connections.specs.Traffic.{plus}
@@ -19,7 +17,7 @@ use Rattle.tls_detection.specs.Front.{first_message}
 use Rattle.tls_flow.specs.Table.{outcome_at}
 use Rattle.tls_flow.specs.declared.symbol.Direction.{Direction}
 use Rattle.tls_flow.specs.declared.symbol.Direction.TheVariants.{ToServer, FromServer}
-use Rattle.tls_analyzer.specs.Analyzers.{IsHeardAsNone, IsHeardInSsl2, IsHeardOn, IsNew, is_over}
+use Rattle.tls_analyzer.specs.Analyzers.{IsHeardAsNone, IsHeardInSsl2, IsHeardOn, IsNew, is_over, is_tls_on, is_unknown}
 use Rattle.tls_analyzer.specs.DatagramRecords.{no_datagrams, with_datagram}
 use Rattle.tls_analyzer.specs.Datagrams.{IsKnown, heard, untold}
 use Rattle.tls_analyzer.specs.Datagrams as datagrams
@@ -34,9 +32,7 @@ use Rattle.log_connections.specs.declared.analysis.PieceKind.TheVariants as piec
 use Rattle.log_connections.specs.declared.analysis.TlsAnalysis.{TlsAnalysis}
 use Rattle.log_connections.specs.declared.analysis.TransportAnalyzer.{TransportAnalyzer}
 use Rattle.log_connections.specs.declared.analysis.TransportAnalyzer.TheVariants as said
-use Rattle.log_connections.specs.declared.fronts.Beginning.{Beginning}
-use Rattle.log_connections.specs.declared.fronts.Beginning.TheVariants as beginnings
-use Rattle.log_connections.specs.Fronts.{are_answered, are_silent, beginning, front_of, is_sought, leaving, no_fronts, passing, with_begun}
+use Rattle.log_connections.specs.Fronts.{At, InSsl2, Nowhere, PassesOver as Passes, Start, Waits, beginning, begun_behind, no_preambles, passing, preamble, with_preamble}
 
 -- The originator is the client, unless its first message is a server's: then the sides are turned.
 abbrev pub direction_of : Bool → Side → Direction
@@ -57,9 +53,9 @@ turned_by None s opened = false
 turned_by (Some kind) s opened =
     if kind == 1 then is_responder s else kind == 2 && not (is_responder s) && not opened
 
--- No side's TLS was found, and none was found not to speak it.
+-- Of neither side it is decided whether it speaks TLS.
 abbrev pub is_silent_in : TransportAnalyzer → Bool
-is_silent_in (said.Stream x f) = are_silent f
+is_silent_in (said.Stream x f) = is_unknown x ToServer && is_unknown x FromServer
 is_silent_in (said.Datagrams x) = false
 
 -- Whether the sides are turned, by the first message of the connection. Later ones don't matter.
@@ -72,23 +68,20 @@ stopped_if true t = stopped t t.reading
 stopped_if false t = t
 
 -- Where a side's TLS begins, by the next bytes of its stream. It answers if the other's began.
-abbrev pub begins_in : Side → Bool → TransportAnalyzer → Bytes → Beginning
-begins_in s last (said.Stream x f) b = beginning x.is_tls last (front_of s f) b
-begins_in s last (said.Datagrams x) b = beginnings.Waits
+abbrev pub begins_in : Side → Direction → Bool → TransportAnalyzer → Bytes → Start
+begins_in s d last (said.Stream x f) b =
+    beginning (is_unknown x d) x.is_tls last (preamble s f) b
+begins_in s d last (said.Datagrams x) b = Waits
 
 -- A side whose TLS was found and is complete, or that speaks none, is analyzed no further.
-abbrev pub is_over_in : Side → Direction → TransportAnalyzer → Bool
-is_over_in s d (said.Stream x f) = not (is_sought (front_of s f)) && is_over x d
-is_over_in s d (said.Datagrams x) = false
+abbrev pub is_over_in : Direction → TransportAnalyzer → Bool
+is_over_in d (said.Stream x f) = is_over x d
+is_over_in d (said.Datagrams x) = false
 
 -- A segment's bytes are passed on, if it has any.
 abbrev pub passing_on : Segment → Stream → Stream
 passing_on s t =
     record t { passing = if has_data s then passing_behind t.passing s else t.passing }
-
--- The most that the buffers of a conversation take, by the bytes that were analyzed.
-abbrev pub buffers_of : ℕ → ℕ
-buffers_of heard = min (min (heard * 2) (2 ^ 64 - 1)) 2621440
 
 abbrev pub is_client : Direction → Bool
 is_client ToServer = true
@@ -96,17 +89,25 @@ is_client FromServer = false
 
 -- How many bytes came before a side's TLS. Over UDP there are none.
 abbrev pub preamble_of : Side → TransportAnalyzer → ℕ
-preamble_of s (said.Stream x f) = (front_of s f).passed
+preamble_of s (said.Stream x f) = preamble s f
 preamble_of s (said.Datagrams x) = 0
 
+-- A side with other bytes before its TLS is answered if the other speaks TLS.
+abbrev pub is_answered : Side → Side → Bool → TransportAnalyzer → Bool
+is_answered s other turned (said.Stream x f) =
+    preamble s f == 0 || is_tls_on x (direction_of turned other)
+is_answered s other turned (said.Datagrams t) = true
+
 -- Whether it is TLS, which both sides have to speak if other bytes came before it; or DTLS.
-abbrev pub IsSpokenBy : Bool → TransportAnalyzer → Type 0
-IsSpokenBy b (said.Stream x f) = b ≡ (x.is_tls && are_answered f)
-IsSpokenBy b (said.Datagrams t) = (k : datagrams.Analyzer) → IsKnown k t → b ≡ k.is_dtls
+abbrev pub IsSpokenBy : Bool → Bool → TransportAnalyzer → Type 0
+IsSpokenBy b turned (said.Stream x f) =
+    b ≡ (x.is_tls && is_answered Originator Responder turned (said.Stream x f)
+    && is_answered Responder Originator turned (said.Stream x f))
+IsSpokenBy b turned (said.Datagrams t) = (k : datagrams.Analyzer) → IsKnown k t → b ≡ k.is_dtls
 
 -- Nothing was analyzed: over TCP the beginning of TLS is looked for on both sides.
 abbrev pub IsSilent : Protocol → TransportAnalyzer → Type 0
-IsSilent Tcp (said.Stream x f) = IsNew x × (f ≡ no_fronts)
+IsSilent Tcp (said.Stream x f) = IsNew x × (f ≡ no_preambles)
 IsSilent Tcp (said.Datagrams t) = ⊥
 IsSilent Udp (said.Stream x f) = ⊥
 IsSilent Udp (said.Datagrams t) = IsKnown untold t
@@ -176,7 +177,7 @@ module _ {K : Type 0} where
       → TlsAnalysis K → TlsAnalysis K → Type 0
   HearsAtIn (said.Stream x f) (said.Stream y g) s opened n t u a b =
       IsHeardOn x (direction_of b.is_turned s) (drop n (next_bytes t t.reading)) y
-      × (g ≡ with_begun s n f)
+      × (g ≡ begun_behind (is_unknown x (direction_of b.is_turned s)) s n f)
       × (u ≡ stopped_if (is_over y (direction_of b.is_turned s))
       (handing_on (length (next_bytes t t.reading)) t))
       × (b ≡ analyzing s opened (drop n (next_bytes t t.reading)) a b)
@@ -201,7 +202,7 @@ module _ {K : Type 0} where
   abbrev pub HearsNoneIn : TransportAnalyzer → TransportAnalyzer → Side → Stream → Stream
       → TlsAnalysis K → TlsAnalysis K → Type 0
   HearsNoneIn (said.Stream x f) (said.Stream y g) s t u a b =
-      IsHeardAsNone x (direction_of a.is_turned s) y × (g ≡ leaving s f)
+      IsHeardAsNone x (direction_of a.is_turned s) y × (g ≡ with_preamble s 0 f)
       × (u ≡ stopped t t.reading) × (b ≡ record a { said = b.said })
   HearsNoneIn (said.Stream x f) (said.Datagrams y) s t u a b = ⊥
   HearsNoneIn (said.Datagrams x) y s t u a b = (b ≡ a) × (u ≡ t)
@@ -209,42 +210,41 @@ module _ {K : Type 0} where
   unfoldable pub HearsNone : Side → Stream → Stream → TlsAnalysis K → TlsAnalysis K → Type 0
   HearsNone s t u a b = HearsNoneIn a.said b.said s t u a b
 
-  -- The next SSL 2.0 ClientHello of its stream was analyzed and read; without one, nothing.
-  abbrev pub HearsHello : Answer ssl2.ClientHello → TransportAnalyzer → TransportAnalyzer → Side
-      → Stream → Stream → TlsAnalysis K → TlsAnalysis K → Type 0
-  HearsHello (Ok h) (said.Stream x f) (said.Stream y g) s t u a b =
-      IsHeardInSsl2 x (direction_of b.is_turned s) h.0 y × (g ≡ with_begun s 0 f)
-      × (u ≡ handing_on (length (next_bytes t t.reading) - length h.1) t)
+  -- A side's SSL 2.0 ClientHello was analyzed.
+  abbrev pub HearsHelloIn : TransportAnalyzer → TransportAnalyzer → Side → ssl2.ClientHello
+      → TlsAnalysis K → TlsAnalysis K → Type 0
+  HearsHelloIn (said.Stream x f) (said.Stream y g) s hello a b =
+      IsHeardInSsl2 x (direction_of b.is_turned s) hello y × (g ≡ f)
       × (b ≡ record a {
         said = b.said;
         is_turned = turned (Some 1) s false a.said a.is_turned;
       })
-  HearsHello (Ok h) (said.Stream x f) (said.Datagrams y) s t u a b = ⊥
-  HearsHello (Ok h) (said.Datagrams x) y s t u a b = (b ≡ a) × (u ≡ t)
-  HearsHello (Err e) x y s t u a b = (b ≡ a) × (u ≡ t)
+  HearsHelloIn (said.Stream x f) (said.Datagrams y) s hello a b = ⊥
+  HearsHelloIn (said.Datagrams x) y s hello a b = b ≡ a
 
-  unfoldable pub HearsSsl2 : Side → Stream → Stream → TlsAnalysis K → TlsAnalysis K → Type 0
-  HearsSsl2 s t u a b =
-      HearsHello (reading ssl2.client_hello (next_bytes t t.reading)) a.said b.said s t u a b
+  unfoldable pub HearsHello : Side → ssl2.ClientHello → TlsAnalysis K → TlsAnalysis K → Type 0
+  HearsHello s hello a b = HearsHelloIn a.said b.said s hello a b
 
-  abbrev pub HearsBy : Beginning → Side → Bool → Stream → Stream → TlsAnalysis K → TlsAnalysis K
+  abbrev pub HearsBy : Start → Side → Bool → Stream → Stream → TlsAnalysis K → TlsAnalysis K
       → Type 0
-  HearsBy beginnings.Waits s opened t u a b = (u ≡ t) × (b ≡ a)
-  HearsBy (beginnings.PassesOver n) s opened t u a b = PassesOver s n t u a b
-  HearsBy (beginnings.At n) s opened t u a b = HearsAt s opened n t u a b
-  HearsBy beginnings.InSsl2 s opened t u a b = HearsSsl2 s t u a b
-  HearsBy beginnings.Nowhere s opened t u a b = HearsNone s t u a b
+  HearsBy Waits s opened t u a b = (u ≡ t) × (b ≡ a)
+  HearsBy (Passes n) s opened t u a b = PassesOver s n t u a b
+  HearsBy (At n) s opened t u a b = HearsAt s opened n t u a b
+  HearsBy (InSsl2 hello n) s opened t u a b = HearsHello s hello a b × (u ≡ handing_on n t)
+  HearsBy Nowhere s opened t u a b = HearsNone s t u a b
 
   -- The next bytes of a side's stream were analyzed from where its TLS begins, or skipped.
   unfoldable pub HearsFurther : Side → Bool → Bool → Stream → Stream → TlsAnalysis K
       → TlsAnalysis K → Type 0
   HearsFurther s opened last t u a b =
-      HearsBy (begins_in s last a.said (next_bytes t t.reading)) s opened t u a b
+      HearsBy
+      (begins_in s (direction_of a.is_turned s) last a.said (next_bytes t t.reading)) s opened t u
+      a b
 
   -- A side that is over and has no next bytes is read no further. That of any other is analyzed.
   abbrev pub is_done : Side → Stream → TlsAnalysis K → Bool
   is_done s t a = length (next_bytes t t.reading) == 0
-      && is_over_in s (direction_of a.is_turned s) a.said
+      && is_over_in (direction_of a.is_turned s) a.said
 
   abbrev pub HearsUnless : Bool → Side → Bool → Bool → Stream → Stream → TlsAnalysis K
       → TlsAnalysis K → Type 0

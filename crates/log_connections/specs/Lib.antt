@@ -3,3 +3,4 @@ pub mod Analysis
 pub mod Log
 pub mod Sink
 pub mod Accessors
+pub mod Capacity

@@ -1,16 +1,19 @@
 //! The TLS or DTLS analysis of a connection.
-ghost use Rattle.std.specs.Prelude.{◌≡◌, ◌||◌, OnErr, OnOk, Some, drop, false};
+ghost use Rattle.std.specs.Prelude.{◌≡◌, ◌≤◌, ◌||◌, ◌^◌, ℕ, OnErr, OnOk, Some, drop, false};
 ghost use Rattle.std.specs.Option.{option_copied_mut, option_map};
 ghost use Rattle.tls_detection.specs.Front.{first_message as first_in, held_datagram as held_datagram_of};
 ghost use Rattle.connections.specs.Stream.{is_cut_short};
+ghost use Rattle.ssl2_hello.specs.ClientHello.{view_client_hello as view_ssl2_hello};
 ghost use Rattle.tls_summary.specs.HandshakeSummary.{view_summary};
 ghost use Rattle.log_connections.specs.Accessors.{BeginsAnother, HasHandshake, HasHistory, HasOutcome, HasStop, IsEstablishedBy, IsResumedBy, LacksFront, records_of};
-ghost use Rattle.log_connections.specs.Analysis.{HearsAt, HearsDatagram, HearsFurther, HearsNone, HearsSsl2, HearsStream, IsBegun, IsPrepared, IsSpokenBy, Keeps, PassesOver, are_passed as are_passed_on, begins_in, buffers_of as buffers_by, counted, counting, direction_of as direction_by, is_done as is_done_in, is_over_in, is_responder as is_responder_side, is_silent_in, noted_tunnels, preamble_of, stopped_if, tunnels_in, turned, turned_by as turned_by_message};
+ghost use Rattle.log_connections.specs.Analysis.{HearsAt, HearsDatagram, HearsFurther, HearsHello, HearsNone, HearsStream, IsBegun as IsBegunAs, IsPrepared, IsSpokenBy, Keeps, PassesOver, are_passed as are_passed_on, begins_in, counted, counting, direction_of as direction_by, is_answered as is_answered_in, is_done as is_done_in, is_over_in, is_responder as is_responder_side, is_silent_in, noted_tunnels, preamble_of, stopped_if, tunnels_in, turned, turned_by as turned_by_message};
+ghost use Rattle.log_connections.specs.Capacity.{buffers_of as buffers_by, least_bytes_of, least_of_transport, most_bytes_of, most_of_transport, of_collector as of_collector_in, of_tunnels as of_tunnels_in};
+ghost use Rattle.log_connections.specs.Fronts.{view_beginning};
 
 use crate::audience::Audience;
-use crate::fronts::{Beginning, Fronts, begins_at};
+use crate::fronts::{Beginning, Preambles, begins_at};
 use connections::{Attachment, Protocol, Side, Stream};
-use ssl2_hello::parse_ssl2_client_hello;
+use ssl2_hello::Ssl2ClientHello;
 use std::alloc::{AllocError, Global};
 use std::mem::{self, size_of};
 use tls_analyzer::{Analyzer, DatagramAnalyzer, DatagramRecordCounter, Observer, RecordCounter};
@@ -29,6 +32,9 @@ pub const ANALYSIS_COST: usize = 2048;
 
 /// An upper bound for a keeper's memory besides what it keeps, in bytes.
 pub const COLLECTOR_COST: usize = 512;
+
+/// The memory of a connection's tunnels, in bytes.
+const TUNNELS_COST: usize = size_of::<Tunnels>();
 
 /// An upper bound for the buffers of a conversation, in bytes. On each side this is twice the sum
 /// of a message in fragments, a record, the part that was processed but not yet moved out, and what
@@ -62,15 +68,19 @@ pub trait PieceCollector: Drop + Observer {
     /// Returns the collector for a new connection.
     fn begin(alloc: Global, pieces: PieceKind) -> Self;
 
+    /// The most bytes of memory that it may take for what it keeps beyond a packet.
+    ghost most_bytes: { Self → ℕ } = { λ _. 2 ^ 64 };
+
     /// Returns the bytes of memory that it takes for what it keeps beyond a packet.
-    fn capacity(&self) -> usize;
+    fn capacity(&self) -> usize
+        ensures { result ≤ most_bytes self.now };
 }
 
 /// The analysis of both sides' bytes, by transport.
 #[derive(Drop)]
 enum TransportAnalyzer {
-    /// TLS over TCP, and the search for its beginning.
-    Stream(Analyzer, Fronts),
+    /// TLS over TCP, and the bytes before it.
+    Stream(Analyzer, Preambles),
     /// DTLS over UDP.
     Datagrams(DatagramAnalyzer),
 }
@@ -106,6 +116,41 @@ fn buffers_of(heard: usize) -> usize
     ensures { result ≡ buffers_by heard }
 {
     heard.saturating_mul(2).min(MAX_BUFFERS)
+}
+
+/// Returns an upper bound for the memory of an analyzer and its buffers, in bytes. `heard` bytes
+/// were analyzed over TCP.
+fn of_transport(said: &TransportAnalyzer, heard: usize) -> usize
+    ensures enough { least_of_transport said.now heard ≤ result }
+    ensures within { result ≤ most_of_transport said.now heard }
+{
+    match said {
+        TransportAnalyzer::Stream(analyzer, _) => {
+            analyzer.capacity().saturating_add(buffers_of(heard))
+        }
+        TransportAnalyzer::Datagrams(analyzer) => analyzer.capacity(),
+    }
+}
+
+/// Returns an upper bound for the memory of a collector, in bytes.
+fn of_collector<K: PieceCollector>(collector: &Option<Box<K>>) -> usize
+    ensures enough { of_collector_in (λ _. 0) collector.now ≤ result }
+    ensures within { result ≤ of_collector_in K.most_bytes collector.now }
+{
+    match collector {
+        Some(collector) => collector.capacity().saturating_add(COLLECTOR_COST),
+        None => 0,
+    }
+}
+
+/// Returns the memory of a connection's tunnels, in bytes.
+fn of_tunnels(tunnels: &Option<Box<Tunnels>>) -> usize
+    ensures { result ≡ of_tunnels_in tunnels.now }
+{
+    match tunnels {
+        Some(_) => TUNNELS_COST,
+        None => 0,
+    }
 }
 
 /// Returns what is behind the first `n` bytes.
@@ -164,10 +209,10 @@ fn stop_if(stream: &mut Stream, is_over: bool)
 
 impl<K: PieceCollector> Attachment for TlsAnalysis<K> {
     fn begin(alloc: Global, protocol: Protocol) -> TlsAnalysis<K>
-        ensures { IsBegun protocol result }
+        ensures { IsBegunAs protocol result }
     {
         let said = match protocol {
-            Protocol::Tcp => TransportAnalyzer::Stream(Analyzer::new(alloc), Fronts::NONE),
+            Protocol::Tcp => TransportAnalyzer::Stream(Analyzer::new(alloc), Preambles::NONE),
             Protocol::Udp => TransportAnalyzer::Datagrams(DatagramAnalyzer::new(alloc)),
         };
         TlsAnalysis {
@@ -186,24 +231,15 @@ impl<K: PieceCollector> Attachment for TlsAnalysis<K> {
         }
     }
 
-    fn capacity(&self) -> usize {
-        let said = match &self.said {
-            TransportAnalyzer::Stream(analyzer, _) => analyzer
-                .capacity()
-                .saturating_add(buffers_of(self.heard)),
-            TransportAnalyzer::Datagrams(analyzer) => analyzer.capacity(),
-        };
-        let collector = match &self.collector {
-            Some(collector) => collector.capacity().saturating_add(COLLECTOR_COST),
-            None => 0,
-        };
-        let tunnels = if self.tunnels.is_some() {
-            size_of::<Tunnels>()
-        } else {
-            0
-        };
-        said.saturating_add(collector)
-            .saturating_add(tunnels)
+    ghost most_bytes = { λ a. most_bytes_of K.most_bytes a };
+
+    fn capacity(&self) -> usize
+        ensures enough { least_bytes_of self.now ≤ result }
+        ensures within { result ≤ most_bytes_of K.most_bytes self.now }
+    {
+        of_transport(&self.said, self.heard)
+            .saturating_add(of_collector(&self.collector))
+            .saturating_add(of_tunnels(&self.tunnels))
             .saturating_add(ANALYSIS_COST)
     }
 }
@@ -212,12 +248,26 @@ impl<K: PieceCollector> TlsAnalysis<K> {
     /// Returns whether it is TLS or DTLS. If other bytes came before TLS, both sides have to speak
     /// it.
     pub fn is_tls_or_dtls(&self) -> bool
-        ensures { IsSpokenBy result self.now.said }
+        ensures { IsSpokenBy result self.now.is_turned self.now.said }
     {
         match &self.said {
-            TransportAnalyzer::Stream(analyzer, fronts) => analyzer.is_tls()
-                && fronts.are_answered(),
+            TransportAnalyzer::Stream(analyzer, _) => analyzer.is_tls()
+                && self.is_answered(Side::Originator, Side::Responder)
+                && self.is_answered(Side::Responder, Side::Originator),
             TransportAnalyzer::Datagrams(analyzer) => analyzer.is_dtls(),
+        }
+    }
+
+    /// Returns whether a side with other bytes before its TLS is answered in TLS. A lone hello may
+    /// be part of another protocol's content, such as a file.
+    fn is_answered(&self, side: Side, other: Side) -> bool
+        ensures { result ≡ is_answered_in side other self.now.is_turned self.now.said }
+    {
+        match &self.said {
+            TransportAnalyzer::Stream(analyzer, preambles) => {
+                preambles.of(side) == 0 || analyzer.is_tls_on(self.direction(other))
+            }
+            TransportAnalyzer::Datagrams(_) => true,
         }
     }
 
@@ -407,7 +457,7 @@ impl<K: PieceCollector> TlsAnalysis<K> {
         ensures { result ≡ preamble_of side self.now.said }
     {
         match &self.said {
-            TransportAnalyzer::Stream(_, fronts) => fronts.preamble(side),
+            TransportAnalyzer::Stream(_, preambles) => preambles.of(side),
             TransportAnalyzer::Datagrams(_) => 0,
         }
     }
@@ -417,7 +467,10 @@ impl<K: PieceCollector> TlsAnalysis<K> {
         ensures { result ≡ is_silent_in self.now.said }
     {
         match &self.said {
-            TransportAnalyzer::Stream(_, fronts) => fronts.are_silent(),
+            TransportAnalyzer::Stream(analyzer, _) => {
+                analyzer.is_unknown(Direction::ToServer)
+                    && analyzer.is_unknown(Direction::FromServer)
+            }
             TransportAnalyzer::Datagrams(_) => false,
         }
     }
@@ -474,10 +527,10 @@ impl<K: PieceCollector> TlsAnalysis<K> {
         let bytes = behind(all, n);
         self.see_client(side, bytes, is_opened);
         let direction = self.direction(side);
-        let TransportAnalyzer::Stream(analyzer, fronts) = &mut self.said else {
+        let TransportAnalyzer::Stream(analyzer, preambles) = &mut self.said else {
             return Ok(());
         };
-        fronts.begin(side, n);
+        preambles.begin(analyzer.is_unknown(direction), side, n);
         self.heard = self.heard.saturating_add(bytes.len());
         let mut audience = Audience {
             collector: mem::replace(&mut self.collector, None),
@@ -500,24 +553,16 @@ impl<K: PieceCollector> TlsAnalysis<K> {
 
     /// Analyzes the SSL 2.0 ClientHello with which a side begins. What is behind it is analyzed
     /// with the next bytes.
-    #[tactic(auto, unfolding(crate::specs::Analysis::HearsSsl2))]
-    fn analyze_ssl2(&mut self, stream: &mut Stream, side: Side) -> Result<(), AllocError>
-        ensures { OnOk result (HearsSsl2 side stream.old stream.new self.old self.new) }
+    #[tactic(auto, unfolding(crate::specs::Analysis::HearsHello))]
+    fn analyze_ssl2(&mut self, side: Side, hello: &Ssl2ClientHello<'_>) -> Result<(), AllocError>
+        ensures { OnOk result (HearsHello side (view_ssl2_hello hello.now) self.old self.new) }
     {
-        let bytes = stream.available();
-        let Ok((rest, hello)) = parse_ssl2_client_hello(bytes) else {
-            return Ok(());
-        };
-        let n = bytes.len().saturating_sub(rest.len());
         self.see_ssl2_client(side);
         let direction = self.direction(side);
-        let TransportAnalyzer::Stream(analyzer, fronts) = &mut self.said else {
+        let TransportAnalyzer::Stream(analyzer, _) = &mut self.said else {
             return Ok(());
         };
-        fronts.begin(side, 0);
-        analyzer.analyze_ssl2(self.alloc, direction, &hello)?;
-        stream.take(n);
-        Ok(())
+        analyzer.analyze_ssl2(self.alloc, direction, hello)
     }
 
     /// Analyzes a side as one that doesn't speak TLS, and stops reading its stream.
@@ -526,10 +571,10 @@ impl<K: PieceCollector> TlsAnalysis<K> {
         ensures { OnOk result (HearsNone side stream.old stream.new self.old self.new) }
     {
         let direction = self.direction(side);
-        let TransportAnalyzer::Stream(analyzer, fronts) = &mut self.said else {
+        let TransportAnalyzer::Stream(analyzer, preambles) = &mut self.said else {
             return Ok(());
         };
-        fronts.leave(side);
+        preambles.clear(side);
         analyzer.skip_side(self.alloc, direction)?;
         stream.stop();
         Ok(())
@@ -540,33 +585,36 @@ impl<K: PieceCollector> TlsAnalysis<K> {
     fn pass_over(&mut self, stream: &mut Stream, side: Side, n: usize)
         ensures { PassesOver side n stream.old stream.new self.old self.new }
     {
-        if let TransportAnalyzer::Stream(_, fronts) = &mut self.said {
-            fronts.pass(side, n);
+        if let TransportAnalyzer::Stream(_, preambles) = &mut self.said {
+            preambles.pass(side, n);
             stream.take(n);
         }
     }
 
     /// Returns where a side's TLS begins in its next bytes. They are its last, or the last before
     /// an urgent byte, if they `are_last`.
-    fn beginning(&self, bytes: &[u8], side: Side, are_last: bool) -> Beginning
-        ensures { result ≡ begins_in side are_last self.now.said bytes.now }
+    fn beginning<'b>(&self, bytes: &'b [u8], side: Side, are_last: bool) -> Beginning<'b>
+        ensures { view_beginning result
+            ≡ begins_in side (direction_by self.now.is_turned side) are_last self.now.said bytes.now }
     {
         match &self.said {
-            TransportAnalyzer::Stream(analyzer, fronts) => {
-                begins_at(analyzer.is_tls(), are_last, fronts.of(side), bytes)
-            }
+            TransportAnalyzer::Stream(analyzer, preambles) => begins_at(
+                analyzer.is_unknown(self.direction(side)),
+                analyzer.is_tls(),
+                are_last,
+                preambles.of(side),
+                bytes,
+            ),
             TransportAnalyzer::Datagrams(_) => Beginning::Waits,
         }
     }
 
     /// Returns whether a side is analyzed no further.
     fn is_over(&self, side: Side) -> bool
-        ensures { result ≡ is_over_in side (direction_by self.now.is_turned side) self.now.said }
+        ensures { result ≡ is_over_in (direction_by self.now.is_turned side) self.now.said }
     {
         match &self.said {
-            TransportAnalyzer::Stream(analyzer, fronts) => {
-                fronts.has_begun(side) && analyzer.is_over(self.direction(side))
-            }
+            TransportAnalyzer::Stream(analyzer, _) => analyzer.is_over(self.direction(side)),
             TransportAnalyzer::Datagrams(_) => false,
         }
     }
@@ -624,7 +672,11 @@ impl<K: PieceCollector> TlsAnalysis<K> {
                 Ok(())
             }
             Beginning::At(n) => self.analyze_at(stream, side, is_opened, n, known),
-            Beginning::InSsl2 => self.analyze_ssl2(stream, side),
+            Beginning::InSsl2(hello, n) => {
+                self.analyze_ssl2(side, &hello)?;
+                stream.take(n);
+                Ok(())
+            }
             Beginning::Nowhere => self.skip_side(stream, side),
         }
     }

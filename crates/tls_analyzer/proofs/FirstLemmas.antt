@@ -30,7 +30,7 @@ use Rattle.std.specs.Prelude.{OnOk, if◌then◌else◌, is_ok, nat_lt}
 use Rattle.std.specs.Global.{Vec}
 use Rattle.std.proofs.Math.Seq.{take-append-add}
 use Rattle.std.proofs.lemmas.Bool.{le-ltb, lt-ltb, ltb-false, ltb-true}
-use Rattle.std.proofs.lemmas.List.{take-append-drop, take-append-le}
+use Rattle.std.proofs.lemmas.List.{nil_from_length, take-append-drop, take-append-le}
 use Rattle.layouts.specs.Bytes.{Bytes}
 use Rattle.tls_flow.specs.Table.{outcome_at}
 use Rattle.tls_flow.specs.declared.symbol.Direction.{Direction as Side}
@@ -121,6 +121,46 @@ first_other t m n s b long other waits first =
     subst (λ c. IsFirstBy c (begins_tls (front w b)) t s w b (with_hearing n s Other)) (sym long)
     (subst (λ c. IsFirstBy false c t s w b (with_hearing n s Other)) (sym other)
     (m, n, waits, first, refl))
+
+-- None is stored, and enough come at once.
+with_own : (t : Analyzer) (s : Side) → t ≡ with_waiting t s (waiting t s)
+with_own t ToServer = refl
+with_own t FromServer = refl
+
+waits_for_none : (t : Analyzer) (s : Side) → (waiting t s).items ≡ [] → Waits t s [] t
+waits_for_none t s none = (waiting t s, none, with_own t s)
+
+at_once : (tls : Bool) (t u : Analyzer) (s : Side) (b x : Bytes)
+    → length (waiting t s).items ≡ 0 → 5 ≤ length b → x ≡ take 5 b → begins_tls x ≡ tls
+    → IsFirstBy false tls t s [] b u
+    → IsFirstHeard t s (waiting t s).items b u
+at_once tls t u s b x none enough is begins heard =
+    subst (λ w. IsFirstHeard t s w b u) (sym (nil_from_length (waiting t s).items none))
+    (subst (λ c. IsFirstBy c (begins_tls (take 5 b)) t s [] b u) (sym (le-ltb (length b) 5 enough))
+    (subst (λ c. IsFirstBy false c t s [] b u)
+    (sym (subst (λ y. begins_tls y ≡ tls) is begins)) heard))
+
+pub tls_at_once : {E : Type 0} (r : Result Unit E) (t u : Analyzer) (s : Side) (b x : Bytes)
+    → length (waiting t s).items ≡ 0 → 5 ≤ length b → x ≡ take 5 b → begins_tls x ≡ true
+    → OnOk r (IsNext (told_tls t s) s b u)
+    → OnOk r (IsFirstHeard t s (waiting t s).items b u)
+tls_at_once (Ok o) t u s b x none enough is tls next =
+    at_once true t u s b x none enough is tls
+    (t, waits_for_none t s (nil_from_length (waiting t s).items none), next)
+tls_at_once (Err e) t u s b x none enough is tls next = tt
+
+pub other_at_once : (t n : Analyzer) (s : Side) (b x : Bytes)
+    → length (waiting t s).items ≡ 0 → 5 ≤ length b → x ≡ take 5 b → begins_tls x ≡ false
+    → IsNext t s x n
+    → IsFirstHeard t s (waiting t s).items b (with_hearing n s Other)
+other_at_once t n s b x none enough is other next =
+    at_once false t (with_hearing n s Other) s b x none enough is other (
+      t,
+      n,
+      waits_for_none t s (nil_from_length (waiting t s).items none),
+      subst (λ y. IsNext t s y n) is next,
+      refl,
+    )
 
 -- If a piece is too short, the first bytes are the same whether they are stored or new.
 front_moves : (w p q : Bytes) → length p < 5 - length w → front (w ++ p) q ≡ front w (p ++ q)

@@ -27,6 +27,22 @@ abbrev pub hearing : Analyzer → Side → SideState
 hearing t ToServer = t.client
 hearing t FromServer = t.server
 
+-- It isn't decided yet whether the side is TLS; and it is.
+abbrev pub is_unknown_by : SideState → Bool
+is_unknown_by Unknown = true
+is_unknown_by _ = false
+
+abbrev pub is_unknown : Analyzer → Side → Bool
+is_unknown t s = is_unknown_by (hearing t s)
+
+abbrev pub is_tls_by : SideState → Bool
+is_tls_by Clear = true
+is_tls_by Encrypted = true
+is_tls_by _ = false
+
+abbrev pub is_tls_on : Analyzer → Side → Bool
+is_tls_on t s = is_tls_by (hearing t s)
+
 abbrev pub with_hearing : Analyzer → Side → SideState → Analyzer
 with_hearing t ToServer h = record t { client = h }
 with_hearing t FromServer h = record t { server = h }

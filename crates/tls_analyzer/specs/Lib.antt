@@ -7,3 +7,4 @@ pub mod Another
 pub mod Analyzers
 pub mod Records
 pub mod DatagramRecords
+pub mod Capacity

@@ -1,12 +1,13 @@
 //! The analyzer of a TLS connection.
-ghost use Rattle.std.specs.Prelude.{◌≡◌, ◌++◌, [], IfOk, OnOk};
+ghost use Rattle.std.specs.Prelude.{◌≡◌, ◌≤◌, ◌++◌, [], IfOk, OnOk, length};
 ghost use Rattle.ssl2_hello.specs.ClientHello.{view_client_hello as view_ssl2_hello};
 ghost use Rattle.tls_stream.specs.Conversations.{ear, views};
 ghost use Rattle.tls_stream.specs.Ears.{IsReady, front_of};
 ghost use Rattle.tls_summary.specs.HandshakeSummary.{view_summary};
 ghost use Rattle.tls_flow.specs.Table.{outcome_at};
+ghost use Rattle.tls_analyzer.specs.Capacity.{capacity_of};
 ghost use Rattle.tls_analyzer.specs.Ends.{is_established as established_by, is_resumed as resumed_by};
-ghost use Rattle.tls_analyzer.specs.Analyzers.{IsFirstHeard, IsHeardAsNone, IsHeardInSsl2, IsHeardOn, IsNew, IsNext, IsTaken, IsAnalyzerOf, Waits, hearing as hearing_of, is_over as is_over_in, waiting as waiting_of, with_hearing};
+ghost use Rattle.tls_analyzer.specs.Analyzers.{IsFirstHeard, IsHeardAsNone, IsHeardInSsl2, IsHeardOn, IsNew, IsNext, IsTaken, IsAnalyzerOf, Waits, hearing as hearing_of, is_over as is_over_in, is_tls_on as is_tls_on_side, is_unknown as is_unknown_in, waiting as waiting_of, with_hearing};
 
 use crate::capacity::of_handshake;
 use crate::conversation_state::ConversationState;
@@ -63,7 +64,9 @@ impl Analyzer {
     /// An upper bound for the memory of the summary, the history and the stored first bytes, in
     /// bytes. It includes neither the analyzer itself nor its conversation's buffers, which hold at
     /// most twice the bytes that came.
-    pub fn capacity(&self) -> usize {
+    pub fn capacity(&self) -> usize
+        ensures { result ≡ capacity_of self.now }
+    {
         of_handshake(&self.conversation_state.handshake)
             .saturating_add(self.conversation_state.history.capacity())
             .saturating_add(self.client_first.capacity())
@@ -129,6 +132,20 @@ impl Analyzer {
             Direction::ToServer => self.client,
             Direction::FromServer => self.server,
         }
+    }
+
+    /// Whether it isn't decided yet whether a side is TLS.
+    pub fn is_unknown(&self, side: Direction) -> bool
+        ensures { result ≡ is_unknown_in self.now side }
+    {
+        matches!(self.hearing(side), SideState::Unknown)
+    }
+
+    /// Whether a side's first bytes are TLS.
+    pub fn is_tls_on(&self, side: Direction) -> bool
+        ensures { result ≡ is_tls_on_side self.now side }
+    {
+        matches!(self.hearing(side), SideState::Clear | SideState::Encrypted)
     }
 
     fn set_side_state(&mut self, side: Direction, hearing: SideState)
@@ -231,6 +248,30 @@ impl Analyzer {
         Ok(())
     }
 
+    /// Reads the first bytes of a side, which come at once and decide whether it is TLS.
+    fn analyze_front<W: Observer>(
+        &mut self,
+        alloc: Global,
+        side: Direction,
+        bytes: &[u8],
+        observer: &mut W,
+    ) -> Result<(), AllocError>
+        requires none { length (waiting_of self.old side).items ≡ 0 }
+        requires enough { 5 ≤ length bytes.now }
+        ensures { OnOk result
+            (IsFirstHeard self.old side (waiting_of self.old side).items bytes.now self.new) }
+    {
+        let (front, _) = bytes.split_at(HEADER_LEN);
+        if begins_tls(front) {
+            self.is_tls = true;
+            self.set_side_state(side, SideState::Clear);
+            return self.follow(alloc, side, bytes, observer);
+        }
+        self.follow(alloc, side, front, observer)?;
+        self.set_side_state(side, SideState::Other);
+        Ok(())
+    }
+
     /// Reads the first bytes of a side, which decide whether it is TLS.
     fn analyze_first<W: Observer>(
         &mut self,
@@ -245,6 +286,9 @@ impl Analyzer {
         let missing = HEADER_LEN.saturating_sub(self.waiting(side).len());
         if bytes.len() < missing {
             return self.wait(side, bytes);
+        }
+        if missing == HEADER_LEN {
+            return self.analyze_front(alloc, side, bytes, observer);
         }
         let (front, rest) = bytes.split_at(missing);
         let mut first = self.take_waiting(alloc, side);

@@ -6,7 +6,7 @@ use Rattle.log_connections.proofs.analysis.TlsAnalysis.skip_side.Goals as goal
 pub returns : goal.returns
 returns g c =
     heard_none c.args.side c.args.stream.now c.stop.new.self c.args.self.now _ c.in-Stream.analyzer
-    c.in-Stream.fronts c.skip_side.new.self c.leave.new.self (search rules) refl
+    c.in-Stream.preambles c.skip_side.new.self c.clear.new.self (search rules) refl
     (subst (λ d. IsHeardAsNone c.in-Stream.analyzer d c.skip_side.new.self)
     c.direction-direction.ensures
     c.in_ok-skip_side.ensures)
