@@ -1,21 +1,30 @@
 -- What a packet does to its connection.
-use Rattle.std.proofs.Common.{◌≡◌, refl, sym, ap, ◌∙◌, subst, Option, Some, None, List, ◌∷◌, Bool, true, false}
-use Rattle.std.specs.Prelude.{is_some, not}
-use Rattle.std.specs.Option.{unwrap_or}
+use Rattle.std.proofs.Common.{◌≡◌, refl, sym, ap, ◌∙◌, subst, Option, Some, None, List, ◌∷◌, Bool, true, false, ◌-◌}
+use Rattle.std.specs.Prelude.{IfSome, if◌then◌else◌, is_some, not, ◌&&◌, ◌||◌}
+use Rattle.std.specs.Option.{option_and_then, option_map, unwrap_or}
 use Rattle.std.specs.Map.{set_value}
 use Rattle.std.proofs.lemmas.Map.Steps.{set_value_same}
-use Rattle.connections.proofs.TableLemmas.{is_five_tuple-refl, stands_first, written_promoted}
-use Rattle.connections.specs.Connection.{side_of, Accepts, TakesDatagramIn}
+use Rattle.connections.proofs.TableLemmas.{comes_in, is_five_tuple-refl, stands_first, written_promoted}
+use Rattle.connections.specs.Connection.{AcceptsKept, is_closed, is_datagram_damaged, is_kept, lets_in, side_of, verdict_of, Accepts, TakesDatagramIn}
 use Rattle.connections.specs.Datagram.{five_tuple_of_datagram}
 use Rattle.connections.specs.FiveTuple.{is_five_tuple}
 use Rattle.connections.specs.Lends.{with_first}
-use Rattle.connections.specs.Segment.{five_tuple_of}
-use Rattle.connections.specs.Table.{IsPut, Puts, Table, TakesDatagram, TakesSegment, at, closed_behind, others, promoting, with_other, without_if}
+use Rattle.connections.specs.Segment.{begins, begins_one, five_tuple_of, header_of}
+use Rattle.connections.specs.Table.{ComesFirst, IsPut, Puts, Table, TakesDatagram, TakesSegment, at, belongs, closed_behind, ended, others, promoting, weight_of, with_other, without_if}
+use Rattle.connections.specs.Waiting.{Kept}
 use Rattle.connections.specs.declared.connection.Connection.{Connection}
 use Rattle.connections.specs.declared.datagram.Datagram.{Datagram}
 use Rattle.connections.specs.declared.five_tuple.FiveTuple.{FiveTuple}
+use Rattle.connections.specs.declared.connection.Side.{Side}
+use Rattle.connections.specs.declared.connection.Verdict.{Verdict}
+use Rattle.connections.specs.declared.receiver.Judgement.{Judgement}
+use Rattle.connections.specs.declared.receiver.Judgement.TheVariants as judgement
 use Rattle.connections.specs.declared.segment.Segment.{Segment}
-use Rattle.log_connections.specs.Log.{HearsFrom, HearsSegment, HearsSide, LogsDatagram}
+use Rattle.tls_detection.specs.Front.{held_datagram}
+use Rattle.log_connections.specs.Accessors.{BeginsAnother}
+use Rattle.log_connections.specs.Analysis.{direction_of}
+use Rattle.log_connections.specs.Log.{AcceptsAt, AcceptsIf, AcceptsSegment, BeginsAnotherIn, EndsAfter, EndsClosed, HearsFrom, HearsKept, HearsPending, HearsSegment, HearsSide, Logs, LogsDatagram, TakesIf, TakesIn, is_closed_in, is_damaged_in, verdict_in}
+use Rattle.log_connections.specs.Sink.{EndsAs}
 use Rattle.log_connections.specs.declared.analysis.TlsAnalysis.{TlsAnalysis}
 
 module _ {X : Type 0} (e : FiveTuple) where
@@ -161,3 +170,190 @@ module _ {K : Type 0} where
       → None ≡ at (five_tuple_of_datagram g) mid.live → ⊥
   datagram_lent g old mid put none =
       some_lent (five_tuple_of_datagram g) (TakesDatagram g) old.live mid.live put (sym none)
+
+module _ {X : Type 0} where
+  pub none_of : (o : Option X) → is_some o ≡ false → o ≡ None
+  none_of None h = refl
+  none_of (Some x) h = cc
+
+  -- Only a closed connection is one that ended.
+  of_closed : (x : X) (b : Bool) → is_some (if b then Some x else None) ≡ b
+  of_closed x true = refl
+  of_closed x false = refl
+
+module _ {K : Type 0} where
+  -- A connection that was put first is closed, or not.
+  first_closed : (e : FiveTuple) (c : Connection (TlsAnalysis K))
+      (xs : List (FiveTuple × Connection (TlsAnalysis K)))
+      → is_some (option_and_then (λ d. if is_closed d then Some d else None)
+      (at e ((e, c) ∷ xs))) ≡ is_closed c
+  first_closed e c xs = ap (λ o. is_some (option_and_then
+      (λ d. if is_closed d then Some d else None) o)) (at_first e c xs)
+      ∙ of_closed c (is_closed c)
+
+  pub closes : (s : Segment) (t : Table (TlsAnalysis K)) (c : Connection (TlsAnalysis K))
+      (xs : List (FiveTuple × Connection (TlsAnalysis K)))
+      → t.live ≡ (five_tuple_of s, c) ∷ xs → is_closed c ≡ is_closed_in s t
+  closes s t c xs stands = sym (ap (λ l. is_some (option_and_then
+      (λ d. if is_closed d then Some d else None) (at (five_tuple_of s) l))) stands
+      ∙ first_closed (five_tuple_of s) c xs)
+
+  pub segment_closes : (b : Bool) (s : Segment) (old mid : Table (TlsAnalysis K))
+      (d : Connection (TlsAnalysis K)) → b ≡ true → Puts b s old mid
+      → is_closed d ≡ is_closed_in s
+      (record mid { live = set_value (is_five_tuple (five_tuple_of s)) mid.live d })
+  segment_closes b s old mid d is puts =
+      closes s (record mid { live = set_value (is_five_tuple (five_tuple_of s)) mid.live d }) d
+      (others (five_tuple_of s) old.live)
+      (written_first (five_tuple_of s) (TakesSegment s) old.live mid.live
+      (put_where_true b s old mid is puts) d)
+
+  -- What the verdict on a segment is.
+  pub none_judged : (s : Segment) (old : Table (TlsAnalysis K))
+      → None ≡ at (five_tuple_of s) old.live → verdict_in s old ≡ None
+  none_judged s old found = ap (option_map (verdict_of s)) (sym found)
+
+  pub some_judged : (s : Segment) (old : Table (TlsAnalysis K)) (c : Connection (TlsAnalysis K))
+      → Some c ≡ at (five_tuple_of s) old.live → verdict_in s old ≡ Some (verdict_of s c)
+  some_judged s old c found = ap (option_map (verdict_of s)) (sym found)
+
+  pub let_in_judged : (s : Segment) (old : Table (TlsAnalysis K))
+      (c : Connection (TlsAnalysis K)) → Some c ≡ at (five_tuple_of s) old.live
+      → true ≡ lets_in (verdict_of s c) → option_map lets_in (verdict_in s old) ≡ Some true
+  let_in_judged s old c found is = ap (option_map lets_in) (some_judged s old c found)
+      ∙ ap Some (sym is)
+
+  pub told_judged : (s : Segment) (old : Table (TlsAnalysis K)) (c : Connection (TlsAnalysis K))
+      (v : Verdict) → Some c ≡ at (five_tuple_of s) old.live → v ≡ verdict_of s c
+      → false ≡ lets_in (verdict_of s c)
+      → (verdict_in s old ≡ Some v) × (lets_in v ≡ false)
+  told_judged s old c v found is kept =
+      (some_judged s old c found ∙ ap Some (sym is), ap lets_in is ∙ sym kept)
+
+  pub is_belonging : (s : Segment) (old : Table (TlsAnalysis K))
+      (o : Option (Connection (TlsAnalysis K))) → at (five_tuple_of s) old.live ≡ o
+      → is_some o ≡ true → belongs s old ≡ true
+  is_belonging s old None found is = cc
+  is_belonging s old (Some c) found is =
+      ap (λ o. is_some o || (begins_one s
+      && (begins s || not (is_some (at (five_tuple_of s) old.closed))))) found
+
+  open_if_judged : (s : Segment) (o : Option (Connection (TlsAnalysis K)))
+      → option_map lets_in (option_map (verdict_of s) o) ≡ Some true → is_some o ≡ true
+  open_if_judged s None is = cc
+  open_if_judged s (Some c) is = refl
+
+  pub let_in_belongs : (s : Segment) (old : Table (TlsAnalysis K))
+      → option_map lets_in (verdict_in s old) ≡ Some true → belongs s old ≡ true
+  let_in_belongs s old is =
+      is_belonging s old (at (five_tuple_of s) old.live) refl
+      (open_if_judged s (at (five_tuple_of s) old.live) is)
+
+  -- An open connection doesn't end.
+  pub stays_open : (s : Segment) (mid new : Table (TlsAnalysis K))
+      (over : Option (Connection (TlsAnalysis K))) → is_closed_in s mid ≡ false → new ≡ mid
+      → over ≡ None → EndsClosed s mid new over
+  stays_open s mid new over is same none = record {
+    ends = subst (λ o. EndsAs o over) (sym (none_of (ended (five_tuple_of s) mid) is))
+        (subst (λ (o : Option (Connection (TlsAnalysis K))). EndsAs None o) (sym none) tt);
+    left = same ∙ sym (ap (λ b. if b then record {
+      live = others (five_tuple_of s) mid.live;
+      closed = (five_tuple_of s, s.time) ∷ others (five_tuple_of s) mid.closed;
+      held =
+          mid.held - weight_of (at (five_tuple_of s) mid.live);
+    } else mid) is);
+  }
+
+  pub takes_in : (heard : Option Bool) (s : Segment) (old mid new : Table (TlsAnalysis K))
+      (over : Option (Connection (TlsAnalysis K))) → is_some heard ≡ belongs s old
+      → Logs (is_some heard) s old mid
+      → IfSome heard (λ closed. closed ≡ is_closed_in s mid)
+      → EndsAfter heard s mid new over → TakesIn s old new over
+  takes_in None s old mid new over is logs closed ends =
+      subst (λ b. TakesIf b s old new over) is (ends.0 ∙ logs, ends.1)
+  takes_in (Some true) s old mid new over is logs closed ends =
+      subst (λ b. TakesIf b s old new over) is (mid, logs, ends)
+  takes_in (Some false) s old mid new over is logs closed ends =
+      subst (λ b. TakesIf b s old new over) is
+      (mid, logs, stays_open s mid new over (sym closed) ends.0 ends.1)
+
+  -- A verdict that lets a segment in is obeyed by taking it.
+  accepts_let_in : (j : Judgement) (another tells damage : Bool) (s : Segment)
+      (old new : Table (TlsAnalysis K)) (over : Option (Connection (TlsAnalysis K)))
+      → (is_kept j && (not another && (not tells && not damage))) ≡ true
+      → TakesIn s old new over → AcceptsIf damage another j tells s old new over
+  accepts_let_in judgement.Taken false false false s old new over h t = t
+  accepts_let_in judgement.Taken false false true s old new over h t = cc
+  accepts_let_in judgement.Taken false true damage s old new over h t = cc
+  accepts_let_in judgement.Taken true tells damage s old new over h t = cc
+  accepts_let_in judgement.Again false false false s old new over h t = t
+  accepts_let_in judgement.Again false false true s old new over h t = cc
+  accepts_let_in judgement.Again false true damage s old new over h t = cc
+  accepts_let_in judgement.Again true tells damage s old new over h t = cc
+  accepts_let_in (judgement.Waiting r) another tells damage s old new over h t = cc
+  accepts_let_in (judgement.Dropped r) another tells damage s old new over h t = cc
+
+  accepts_in : (v : Option Verdict) (s : Segment) (old new : Table (TlsAnalysis K))
+      (over : Option (Connection (TlsAnalysis K))) → option_map lets_in v ≡ Some true
+      → TakesIn s old new over → AcceptsAt v s old new over
+  accepts_in None s old new over h t = cc
+  accepts_in (Some v) s old new over h t =
+      let is : lets_in v ≡ true = cc in
+      accepts_let_in v.judgement v.begins_another v.tells v.shows_damage s old new over is t
+
+  pub accepts_open : (s : Segment) (old mid new : Table (TlsAnalysis K))
+      (over : Option (Connection (TlsAnalysis K)))
+      → option_map lets_in (verdict_in s old) ≡ Some true → HearsSegment s old mid
+      → EndsClosed s mid new over → AcceptsSegment s old new over
+  accepts_open s old mid new over is hears ends =
+      accepts_in (verdict_in s old) s old new over is
+      (subst (λ b. TakesIf b s old new over) (sym (let_in_belongs s old is)) (mid, hears, ends))
+
+  pub accepts_told : (s : Segment) (old mid new : Table (TlsAnalysis K)) (v : Option Verdict)
+      (over : Option (Connection (TlsAnalysis K))) → verdict_in s old ≡ v → mid ≡ old
+      → AcceptsAt v s mid new over → AcceptsSegment s old new over
+  accepts_told s old mid new v over is same accepts =
+      subst (λ w. AcceptsAt w s old new over) (sym is)
+      (subst (λ t. AcceptsAt v s t new over) same accepts)
+
+  -- A pending segment is heard.
+  pub pending_heard : (e : FiveTuple) (k : Kept) (old : Table (TlsAnalysis K))
+      (c put its : Connection (TlsAnalysis K)) (s : Segment) → Some c ≡ at e old.live
+      → AcceptsKept k c put → header_of s ≡ k.header → s.payload.now ≡ k.bytes
+      → HearsSide s (side_of put s.source) put its
+      → HearsPending e k old (with_first e its old)
+  pending_heard e k old c put its s found accepts header payload hears =
+      comes_in e (HearsKept k) old c its found (record {
+        put = put;
+        segment = s;
+        header = header;
+        payload = payload;
+        accepts = accepts;
+        hears = hears;
+      })
+
+  -- A datagram's checksum counts as wrong, or not.
+  pub none_damaged : (d : Datagram) (old : Table (TlsAnalysis K))
+      → None ≡ at (five_tuple_of_datagram d) old.live → is_damaged_in d old ≡ None
+  none_damaged d old found = ap (option_map (is_datagram_damaged d)) (sym found)
+
+  pub some_damaged : (d : Datagram) (old : Table (TlsAnalysis K))
+      (c : Connection (TlsAnalysis K)) (b : Bool)
+      → Some c ≡ at (five_tuple_of_datagram d) old.live → is_datagram_damaged d c ≡ b
+      → is_damaged_in d old ≡ Some b
+  some_damaged d old c b found is =
+      ap (option_map (is_datagram_damaged d)) (sym found) ∙ ap Some is
+
+  -- A datagram begins another association in its exchange, or not.
+  pub another_begun : (d : Datagram) (old : Table (TlsAnalysis K))
+      (c : Connection (TlsAnalysis K)) (b begins : Bool) (side : Side)
+      → Some c ≡ at (five_tuple_of_datagram d) old.live → side ≡ side_of c d.source → begins ≡ b
+      → BeginsAnother begins (direction_of c.attachment.is_turned side)
+      (held_datagram d.payload.now) c.attachment.said
+      → BeginsAnotherIn b d (at (five_tuple_of_datagram d) old.live)
+  another_begun d old c b begins side found from is another =
+      subst (λ o. BeginsAnotherIn b d o) found
+      (subst (λ z. BeginsAnother b (direction_of c.attachment.is_turned z)
+      (held_datagram d.payload.now) c.attachment.said) from
+      (subst (λ y. BeginsAnother y (direction_of c.attachment.is_turned side)
+      (held_datagram d.payload.now) c.attachment.said) is another))

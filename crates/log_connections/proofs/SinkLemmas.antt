@@ -1,27 +1,33 @@
 -- What a sink received of the connections that ended.
 use Rattle.std.proofs.Common.{◌≡◌, List, [], ◌∷◌, ◌++◌, Option, Some, None, true, sym, subst, ◌∙◌, ap, append_assoc}
 use Rattle.std.proofs.lemmas.List.{append-nil}
-use Rattle.std.specs.Prelude.{IfSome, IfNone, ℕ, ◌<◌, ◌≤◌}
+use Rattle.std.specs.Prelude.{IfSome, IfNone, OnOk, Result, Ok, Err, ℕ, ◌<◌, ◌≤◌}
 use Rattle.std.specs.Option.{option_map}
 use Rattle.connections.specs.Memory.{IsAccounted, IsTakenOut, open_part, total}
 use Rattle.connections.specs.Table.{IsOver, NoneIsOver, Table, WasLast}
 use Rattle.connections.specs.declared.five_tuple.FiveTuple.{FiveTuple}
 use Rattle.connections.specs.declared.connection.Connection.{Connection}
-use Rattle.log_connections.specs.Sink.{Adds, EndsAs, EndsCrowded, EndsIdle, EndsLast, IsEnded, IsLastEnded, PassesEnded, none, one}
+use Rattle.log_connections.specs.Sink.{Adds, EndsAs, EndsCrowded, EndsIdle, EndsLast, IsCrowded, IsEnded, IsLastEnded, PassesEnded, Receives, none, one}
 use Rattle.log_connections.specs.declared.analysis.TlsAnalysis.{TlsAnalysis}
 
 module _ {X : Type 0} where
-  adds_none : (r : Option (List X)) → Adds r r []
+  pub adds_none : (r : Option (List X)) → Adds r r []
   adds_none None = tt
   adds_none (Some xs) = sym (append-nil xs)
 
-  adds_then : (a b c : Option (List X)) (xs ys : List X) → Adds a b xs → Adds b c ys
+  pub adds_then : (a b c : Option (List X)) (xs ys : List X) → Adds a b xs → Adds b c ys
       → Adds a c (xs ++ ys)
   adds_then None b c xs ys h k = tt
   adds_then (Some before) None c xs ys h k = absurd h
   adds_then (Some before) (Some mid) None xs ys h k = absurd k
   adds_then (Some before) (Some mid) (Some after) xs ys h k =
       k ∙ ap (λ t. t ++ ys) h ∙ append_assoc before xs ys
+
+  -- What follows from what a sink received.
+  pub received_then : {E P : Type 0} (r : Result Unit E) (a b : Option (List X)) (x : X)
+      → (Adds a b (x ∷ []) → P) → Receives a b r x → OnOk r P
+  received_then (Ok u) a b x f h = f h
+  received_then (Err e) a b x f h = tt
 
 module _ {K : Type 0}
     (Is : List (FiveTuple × Connection (TlsAnalysis K)) → Connection (TlsAnalysis K) → Type 0) where
@@ -113,3 +119,11 @@ module _ {K B : Type 0} (value : B → Connection (TlsAnalysis K)) (t u : Table 
     },
     crowded,
   )
+
+module _ {K : Type 0} where
+  -- It ended because there was more than the limit allows.
+  pub crowded_by : (t u : Table (TlsAnalysis K)) (m n : ℕ) (c : Connection (TlsAnalysis K)) → m ≡ n
+      → (IsAccounted t → IsAccounted u) → open_part m < u.held → IsCrowded t n u.live c
+  crowded_by t u m n c same accounted over h =
+      subst (λ p. open_part p < total u.live) same
+      (subst (λ k. open_part m < k) (accounted h) over)

@@ -1,6 +1,8 @@
 pub mod Fronts
 pub mod Analysis
-pub mod Log
-pub mod Sink
 pub mod Accessors
 pub mod Capacity
+pub mod Found
+pub mod Sink
+pub mod Log
+pub mod Packet

@@ -1,22 +1,70 @@
 -- What an arrival does to the log: its connection takes it, and that connection's analysis processes
 -- it.
-use Rattle.std.specs.Prelude.{◌≡◌, Bool, true, false, ◌∷◌}
-use Rattle.connections.specs.Connection.{has_opening, side_of}
+use Rattle.std.specs.Prelude.{◌≡◌, ⊤, ℕ, ◌+◌, ◌-◌, Bool, true, false, if◌then◌else◌, Option, Some, None, is_some, List, ◌∷◌}
+use Rattle.std.specs.Option.{option_map}
+use Rattle.arrivals.specs.Arrival.{five_tuple_in, source_of}
+use Rattle.arrivals.specs.Counts.{one_more}
+use Rattle.arrivals.specs.declared.arrival.Arrival.{Arrival}
+use Rattle.arrivals.specs.declared.arrival.Arrival.TheVariants as arrival
+use Rattle.arrivals.specs.declared.counts.Counts.{Counts}
+use Rattle.connections.specs.Connection.{AcceptsKept, has_opening, is_datagram_damaged, lets_in, side_of, verdict_of}
 use Rattle.connections.specs.Datagram.{five_tuple_of_datagram}
-use Rattle.connections.specs.Segment.{five_tuple_of}
-use Rattle.connections.specs.Table.{DropsDatagram, Table, TakesDatagram, TakesSegment, at, closed_behind, others}
+use Rattle.connections.specs.Segment.{five_tuple_of, has_data, header_of, is_refused}
+use Rattle.connections.specs.Stream.{with_more_disagreeing}
+use Rattle.connections.specs.Table.{BeginsAfter, ComesFirst, DropsDatagram, Replaced, Restarts, Table, TakesDatagram, TakesSegment, at, belongs, changing, closed_behind, ended, others, pending_outcome_in, with_dropped_segment, with_other, with_waiting_segment, without_ended, without_pending_segment}
+use Rattle.connections.specs.Waiting.{Kept}
 use Rattle.connections.specs.declared.connection.Connection.{Connection}
 use Rattle.connections.specs.declared.connection.Side.{Side}
 use Rattle.connections.specs.declared.connection.Side.TheVariants.{Originator, Responder}
+use Rattle.connections.specs.declared.connection.Verdict.{Verdict}
 use Rattle.connections.specs.declared.datagram.Datagram.{Datagram}
+use Rattle.connections.specs.declared.five_tuple.FiveTuple.{FiveTuple}
+use Rattle.connections.specs.declared.pending.PendingOutcome.TheVariants as outcome
+use Rattle.connections.specs.declared.pending.TheConstants.{MAX_PENDING}
+use Rattle.connections.specs.declared.receiver.Judgement.{Judgement}
+use Rattle.connections.specs.declared.receiver.Judgement.TheVariants as judgement
 use Rattle.connections.specs.declared.segment.Segment.{Segment}
 use Rattle.tls_detection.specs.Front.{held_datagram}
+use Rattle.log_connections.specs.Accessors.{BeginsAnother}
 use Rattle.log_connections.specs.Analysis.{HearsDatagram, HearsOn, direction_of}
+use Rattle.log_connections.specs.Sink.{EndsAs}
 use Rattle.log_connections.specs.declared.analysis.TlsAnalysis.{TlsAnalysis}
 use Rattle.log_connections.specs.declared.log.Delivery.{Delivery}
 use Rattle.log_connections.specs.declared.log.Delivery.TheVariants as delivery
 use Rattle.log_connections.specs.declared.log.Reception.{Reception}
 use Rattle.log_connections.specs.declared.log.Reception.TheVariants as reception
+
+-- What the connections of all other five-tuples are stays.
+module _ {X : Type 0} where
+  pub record KeepsOthers (e : FiveTuple) (xs ys : List (FiveTuple × X)) : Type 0 where
+    pub same : (f : FiveTuple) → (e ≡ f → ⊥) → at f ys ≡ at f xs
+
+-- A segment is analyzed at once exactly if its connection is open, and the receiver's verdict lets
+-- it in.
+abbrev pub IsReceived : Reception → Option Verdict → Type 0
+IsReceived (reception.Heard closed) v = option_map lets_in v ≡ Some true
+IsReceived (reception.Told verdict) v = (v ≡ Some verdict) × (lets_in verdict ≡ false)
+IsReceived reception.NoneOpen v = v ≡ None
+
+-- Whether both sides closed its connection then.
+abbrev pub IsClosedAs : Reception → Bool → Type 0
+IsClosedAs (reception.Heard closed) is_closed = closed ≡ is_closed
+IsClosedAs (reception.Told verdict) is_closed = ⊤
+IsClosedAs reception.NoneOpen is_closed = ⊤
+
+-- A packet that its receiver drops for a wrong checksum counts as damaged. One that belongs to no
+-- connection does, or counts as stray if it has data.
+abbrev pub damaged_if : Bool → Counts → Counts
+damaged_if true c = record c { damaged = one_more c.damaged }
+damaged_if false c = c
+
+abbrev pub stray_if : Bool → Counts → Counts
+stray_if true c = record c { stray_segments = one_more c.stray_segments }
+stray_if false c = c
+
+abbrev pub with_stray : Segment → Counts → Counts
+with_stray s c =
+    if is_refused s.checksum then damaged_if true c else stray_if (has_data s) c
 
 module _ {K : Type 0} where
   -- A packet's tunnels are noted, and its pieces kept. Nothing else in the analysis changes.
@@ -51,6 +99,136 @@ module _ {K : Type 0} where
   Logs true s old new = HearsSegment s old new
   Logs false s old new = new ≡ old
 
+  -- What its open connection's receiver does with a segment; and whether both sides closed it.
+  abbrev pub verdict_in : Segment → Table (TlsAnalysis K) → Option Verdict
+  verdict_in s t = option_map (verdict_of s) (at (five_tuple_of s) t.live)
+
+  abbrev pub is_closed_in : Segment → Table (TlsAnalysis K) → Bool
+  is_closed_in s t = is_some (ended (five_tuple_of s) t)
+
+  -- A segment that its open connection analyzed is logged. For any other nothing changes.
+  abbrev pub LogsOpen : Reception → Segment → Table (TlsAnalysis K) → Table (TlsAnalysis K) → Type 0
+  LogsOpen (reception.Heard closed) s old new = HearsSegment s old new
+  LogsOpen (reception.Told verdict) s old new = new ≡ old
+  LogsOpen reception.NoneOpen s old new = new ≡ old
+
+  -- A closed connection ends, and counts as closed from then on. Any other stays.
+  pub record EndsClosed (s : Segment) (old new : Table (TlsAnalysis K))
+      (over : Option (Connection (TlsAnalysis K))) : Type 0 where
+    pub ends : EndsAs (ended (five_tuple_of s) old) over
+    pub left : new ≡ without_ended (five_tuple_of s) s.time old
+
+  -- The connection of an analyzed segment ends if it is closed.
+  abbrev pub EndsAfter : Option Bool → Segment → Table (TlsAnalysis K) → Table (TlsAnalysis K)
+      → Option (Connection (TlsAnalysis K)) → Type 0
+  EndsAfter (Some true) s old new over = EndsClosed s old new over
+  EndsAfter (Some false) s old new over = (new ≡ old) × (over ≡ None)
+  EndsAfter None s old new over = (new ≡ old) × (over ≡ None)
+
+  -- A segment that belongs to a connection is analyzed in it, which ends if it is closed then. Any
+  -- other changes nothing.
+  abbrev pub TakesIf : Bool → Segment → Table (TlsAnalysis K) → Table (TlsAnalysis K)
+      → Option (Connection (TlsAnalysis K)) → Type 0
+  TakesIf true s old new over =
+      (mid : Table (TlsAnalysis K)) × HearsSegment s old mid × EndsClosed s mid new over
+  TakesIf false s old new over = (new ≡ old) × (over ≡ None)
+
+  abbrev pub TakesIn : Segment → Table (TlsAnalysis K) → Table (TlsAnalysis K)
+      → Option (Connection (TlsAnalysis K)) → Type 0
+  TakesIn s old new over = TakesIf (belongs s old) s old new over
+
+  -- A pending segment is added to its sender's stream, whose next bytes are analyzed. Its connection
+  -- comes first then, and all others stay.
+  pub record HearsKept (k : Kept) (c c' : Connection (TlsAnalysis K)) : Type 0 where
+    pub put : Connection (TlsAnalysis K)
+    pub segment : Segment
+    pub header : header_of segment ≡ k.header
+    pub payload : segment.payload.now ≡ k.bytes
+    pub accepts : AcceptsKept k c put
+    pub hears : HearsSide segment (side_of put segment.source) put c'
+
+  abbrev pub HearsPending : FiveTuple → Kept → Table (TlsAnalysis K) → Table (TlsAnalysis K) → Type 0
+  HearsPending e k old new = ComesFirst e (HearsKept k) (at e old.live) old new
+
+  -- A pending segment that a segment acknowledges is taken out, and analyzed if bytes of it are
+  -- missing; or there is none.
+  pub data HearsOne (s : Segment) (old new : Table (TlsAnalysis K)) : Bool → Type 0 where
+    none : pending_outcome_in s old ≡ None → new ≡ without_pending_segment s old
+        → HearsOne s old new false
+    had : pending_outcome_in s old ≡ Some outcome.Had → new ≡ without_pending_segment s old
+        → HearsOne s old new true
+    taken :
+        (k : Kept) → pending_outcome_in s old ≡ Some (outcome.Taken k)
+        → HearsPending (five_tuple_of s) k (without_pending_segment s old) new
+        → HearsOne s old new true
+
+  -- So they are one by one, at most this many.
+  pub data HearsAcknowledged (s : Segment)
+      : ℕ → Table (TlsAnalysis K) → Table (TlsAnalysis K) → Type 0 where
+    enough : (t : Table (TlsAnalysis K)) → HearsAcknowledged s 0 t t
+    no_more :
+        (n : ℕ) (t u : Table (TlsAnalysis K)) → HearsOne s t u false → HearsAcknowledged s n t u
+    one_then :
+        (m n : ℕ) (t mid u : Table (TlsAnalysis K)) → m ≡ n + 1 → HearsOne s t mid true
+        → HearsAcknowledged s n mid u → HearsAcknowledged s m t u
+
+  abbrev pub HearsAllAcknowledged : Segment → Table (TlsAnalysis K) → Table (TlsAnalysis K) → Type 0
+  HearsAllAcknowledged s old new = HearsAcknowledged s MAX_PENDING old new
+
+  -- The receiver takes a segment or already has it: it is analyzed, behind the pending ones that it
+  -- acknowledges, if it may acknowledge any.
+  abbrev pub TakesBehind : Bool → Segment → Table (TlsAnalysis K) → Table (TlsAnalysis K)
+      → Option (Connection (TlsAnalysis K)) → Type 0
+  TakesBehind true s old new over =
+      (mid : Table (TlsAnalysis K)) × HearsAllAcknowledged s old mid × TakesIn s mid new over
+  TakesBehind false s old new over = TakesIn s old new over
+
+  -- Everything before a segment was damaged: its connection restarts and takes it.
+  abbrev pub TakesAnew : Segment → Table (TlsAnalysis K) → Table (TlsAnalysis K)
+      → Option (Connection (TlsAnalysis K)) → Type 0
+  TakesAnew s old new over =
+      (mid : Table (TlsAnalysis K)) × Restarts s old mid × TakesIn s mid new over
+
+  -- Another connection begins in place of the open one, which ends, and analyzes the segment.
+  pub record TakesInAnother (s : Segment) (old new : Table (TlsAnalysis K))
+      (over : Option (Connection (TlsAnalysis K))) : Type 0 where
+    pub was : Option (Connection (TlsAnalysis K))
+    pub mid : Table (TlsAnalysis K)
+    pub replaced : Replaced s old mid was
+    pub logs : Logs (belongs s mid) s mid new
+    pub ends : EndsAs was over
+
+  abbrev pub AcceptsJudged : Judgement → Bool → Segment → Table (TlsAnalysis K)
+      → Table (TlsAnalysis K) → Option (Connection (TlsAnalysis K)) → Type 0
+  AcceptsJudged judgement.Taken tells s old new over = TakesBehind tells s old new over
+  AcceptsJudged judgement.Again tells s old new over = TakesBehind tells s old new over
+  AcceptsJudged (judgement.Waiting r) tells s old new over =
+      (new ≡ with_waiting_segment r s old) × (over ≡ None)
+  AcceptsJudged (judgement.Dropped r) tells s old new over =
+      (new ≡ with_dropped_segment r s old) × (over ≡ None)
+
+  -- A verdict is obeyed.
+  abbrev pub AcceptsIf : Bool → Bool → Judgement → Bool → Segment → Table (TlsAnalysis K)
+      → Table (TlsAnalysis K) → Option (Connection (TlsAnalysis K)) → Type 0
+  AcceptsIf true begins_another j tells s old new over = TakesAnew s old new over
+  AcceptsIf false true j tells s old new over = TakesInAnother s old new over
+  AcceptsIf false false j tells s old new over = AcceptsJudged j tells s old new over
+
+  abbrev pub AcceptsBy : Verdict → Segment → Table (TlsAnalysis K) → Table (TlsAnalysis K)
+      → Option (Connection (TlsAnalysis K)) → Type 0
+  AcceptsBy v s old new over =
+      AcceptsIf v.shows_damage v.begins_another v.judgement v.tells s old new over
+
+  -- A segment is accepted by the verdict of its open connection. Without one it may begin one.
+  abbrev pub AcceptsAt : Option Verdict → Segment → Table (TlsAnalysis K) → Table (TlsAnalysis K)
+      → Option (Connection (TlsAnalysis K)) → Type 0
+  AcceptsAt (Some v) s old new over = AcceptsBy v s old new over
+  AcceptsAt None s old new over = TakesIn s old new over
+
+  abbrev pub AcceptsSegment : Segment → Table (TlsAnalysis K) → Table (TlsAnalysis K)
+      → Option (Connection (TlsAnalysis K)) → Type 0
+  AcceptsSegment s old new over = AcceptsAt (verdict_in s old) s old new over
+
   -- A datagram, or the DTLS datagram inside it, is analyzed. Everything else in the exchange stays.
   abbrev pub HearsFrom : Datagram → Connection (TlsAnalysis K) → Connection (TlsAnalysis K) → Type 0
   HearsFrom d c c' =
@@ -69,11 +247,25 @@ module _ {K : Type 0} where
         (five_tuple_of_datagram d) old.live
     pub closed : new.closed ≡ old.closed
 
-  -- A segment that its open connection analyzed is logged. For any other nothing changes.
-  abbrev pub LogsOpen : Reception → Segment → Table (TlsAnalysis K) → Table (TlsAnalysis K) → Type 0
-  LogsOpen (reception.Heard closed) s old new = HearsSegment s old new
-  LogsOpen (reception.Told verdict) s old new = new ≡ old
-  LogsOpen reception.NoneOpen s old new = new ≡ old
+  -- A datagram's checksum counts as wrong in its open exchange; and it begins another DTLS
+  -- association there.
+  abbrev pub is_damaged_in : Datagram → Table (TlsAnalysis K) → Option Bool
+  is_damaged_in d t = option_map (is_datagram_damaged d) (at (five_tuple_of_datagram d) t.live)
+
+  abbrev pub BeginsAnotherIn : Bool → Datagram → Option (Connection (TlsAnalysis K)) → Type 0
+  BeginsAnotherIn begins d None = ⊥
+  BeginsAnotherIn begins d (Some c) =
+      BeginsAnother begins (direction_of c.attachment.is_turned (side_of c d.source))
+      (held_datagram d.payload.now) c.attachment.said
+
+  -- Which of these it is.
+  abbrev pub IsDelivered : Delivery → Datagram → Table (TlsAnalysis K) → Type 0
+  IsDelivered delivery.Heard d t = (is_damaged_in d t ≡ Some false)
+      × BeginsAnotherIn false d (at (five_tuple_of_datagram d) t.live)
+  IsDelivered delivery.Damaged d t = is_damaged_in d t ≡ Some true
+  IsDelivered delivery.BeginsAnother d t = (is_damaged_in d t ≡ Some false)
+      × BeginsAnotherIn true d (at (five_tuple_of_datagram d) t.live)
+  IsDelivered delivery.NoneOpen d t = is_damaged_in d t ≡ None
 
   -- A datagram that its open exchange analyzed is logged, and a damaged one counted. For any other
   -- nothing changes.
@@ -83,3 +275,67 @@ module _ {K : Type 0} where
   LogsExchange delivery.Damaged d old new = DropsDatagram d true old new
   LogsExchange delivery.BeginsAnother d old new = new ≡ old
   LogsExchange delivery.NoneOpen d old new = new ≡ old
+
+  -- A datagram begins an exchange, unless no receiver takes it.
+  abbrev pub BeginsUnless : Bool → Datagram → Table (TlsAnalysis K) → Table (TlsAnalysis K) → Type 0
+  BeginsUnless true d old new = new ≡ old
+  BeginsUnless false d old new = LogsDatagram d old new
+
+  -- Another exchange begins with the datagram in place of the open one.
+  pub record LogsInAnother (d : Datagram) (old new : Table (TlsAnalysis K))
+      (over : Option (Connection (TlsAnalysis K))) : Type 0 where
+    pub mid : Table (TlsAnalysis K)
+    pub begins : BeginsAfter d (at (five_tuple_of_datagram d) old.live) old mid
+    pub logs : LogsDatagram d mid new
+    pub was : over ≡ at (five_tuple_of_datagram d) old.live
+
+  abbrev pub AcceptsDelivered : Delivery → Datagram → Table (TlsAnalysis K) → Table (TlsAnalysis K)
+      → Option (Connection (TlsAnalysis K)) → Type 0
+  AcceptsDelivered delivery.Heard d old new over = LogsDatagram d old new × (over ≡ None)
+  AcceptsDelivered delivery.Damaged d old new over = DropsDatagram d true old new × (over ≡ None)
+  AcceptsDelivered delivery.BeginsAnother d old new over = LogsInAnother d old new over
+  AcceptsDelivered delivery.NoneOpen d old new over =
+      BeginsUnless (is_refused d.checksum) d old new × (over ≡ None)
+
+  -- A datagram is analyzed in its open exchange, is counted there, or begins one.
+  pub record AcceptsDatagram (d : Datagram) (old new : Table (TlsAnalysis K))
+      (over : Option (Connection (TlsAnalysis K))) : Type 0 where
+    pub way : Delivery
+    pub is : IsDelivered way d old
+    pub accepts : AcceptsDelivered way d old new over
+
+  abbrev pub Takes : Arrival → Table (TlsAnalysis K) → Table (TlsAnalysis K)
+      → Option (Connection (TlsAnalysis K)) → Type 0
+  Takes (arrival.Segment s) old new over = AcceptsSegment s old new over
+  Takes (arrival.Datagram d) old new over = AcceptsDatagram d old new over
+
+  -- The accounted memory of this five-tuple's connection may change, and nothing else.
+  pub data Settles (e : FiveTuple) (old new : Table (TlsAnalysis K)) : Type 0 where
+    stays : new ≡ old → Settles e old new
+    settles :
+        (c : Connection (TlsAnalysis K)) (weight : ℕ) → at e old.live ≡ Some c
+        → new ≡ record (with_other e (record c { weight = weight }) old) {
+          held = (old.held - c.weight) + weight;
+        }
+        → Settles e old new
+
+  -- An arrival is added to its connection and analyzed. The connection that is over by it was
+  -- removed.
+  pub record Accepts (a : Arrival) (old new : Table (TlsAnalysis K))
+      (over : Option (Connection (TlsAnalysis K))) : Type 0 where
+    pub mid : Table (TlsAnalysis K)
+    pub takes : Takes a old mid over
+    pub settles : Settles (five_tuple_in a) mid new
+
+  -- Bytes that disagreed in a datagram's fragments are counted for the sender of the arrival inside.
+  abbrev pub disagreeing_from : Side → ℕ → Connection (TlsAnalysis K) → Connection (TlsAnalysis K)
+  disagreeing_from Originator n c =
+      record c { from_originator = with_more_disagreeing n c.from_originator }
+  disagreeing_from Responder n c =
+      record c { from_responder = with_more_disagreeing n c.from_responder }
+
+  abbrev pub disagreeing_of : Arrival → ℕ → Connection (TlsAnalysis K) → Connection (TlsAnalysis K)
+  disagreeing_of a n c = disagreeing_from (side_of c (source_of a)) n c
+
+  abbrev pub with_disagreeing : Arrival → ℕ → Table (TlsAnalysis K) → Table (TlsAnalysis K)
+  with_disagreeing a n t = changing (five_tuple_in a) (disagreeing_of a n) t

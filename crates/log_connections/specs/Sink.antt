@@ -1,8 +1,8 @@
 -- The connections that a log passes to its sink.
-use Rattle.std.specs.Prelude.{◌≡◌, ⊤, ℕ, ◌<◌, ◌≤◌, IfSome, Bool, true, Result, Ok, Err, List, [], ◌∷◌, ◌++◌, Option, Some, None}
+use Rattle.std.specs.Prelude.{◌≡◌, ⊤, ℕ, ◌<◌, ◌≤◌, IfSome, Bool, true, ◌||◌, is_some, Result, Ok, Err, List, [], ◌∷◌, ◌++◌, Option, Some, None}
 use Rattle.connections.specs.Connection.{has_opening}
 use Rattle.connections.specs.Memory.{IsAccounted, open_part, total}
-use Rattle.connections.specs.Table.{IsOver, NoneIsOver, Table}
+use Rattle.connections.specs.Table.{IsOver, NoneIsOver, Table, at, others}
 use Rattle.connections.specs.declared.five_tuple.FiveTuple.{FiveTuple}
 use Rattle.connections.specs.declared.connection.Connection.{Connection}
 use Rattle.connections.specs.declared.connection.Side.TheVariants.{Originator, Responder}
@@ -23,6 +23,11 @@ module _ {X : Type 0} where
   Adds None new xs = ⊤
   Adds (Some before) None xs = ⊥
   Adds (Some before) (Some after) xs = after ≡ before ++ xs
+
+  -- None, or one.
+  abbrev pub as_list : Option X → List X
+  as_list None = []
+  as_list (Some x) = x ∷ []
 
   -- A sink received it, or failed and has what it had.
   abbrev pub Receives : {E : Type 0} → Option (List X) → Option (List X) → Result Unit E → X → Type 0
@@ -117,3 +122,22 @@ module _ {K : Type 0} where
   abbrev pub IsIdle : ℕ → List (FiveTuple × Connection (TlsAnalysis K))
       → Connection (TlsAnalysis K) → Type 0
   IsIdle time xs c = IsOver time xs c.last_time
+
+  -- The open connections exceeded their part of the memory limit, if the memory was accounted at
+  -- first.
+  abbrev pub IsCrowded : Table (TlsAnalysis K) → ℕ → List (FiveTuple × Connection (TlsAnalysis K))
+      → Connection (TlsAnalysis K) → Type 0
+  IsCrowded t limit xs c = IsAccounted t → open_part limit < total xs
+
+  -- Memory was refused for the connection of a five-tuple. It ended early, and the longest-idle one
+  -- of the others. There was at least one.
+  pub record EndsRefused (e : FiveTuple) (xs ys : List (FiveTuple × Connection (TlsAnalysis K)))
+      (old new : Option (List (Connection (TlsAnalysis K)))) : Type 0 where
+    pub own : Option (Connection (TlsAnalysis K))
+    pub oldest : Option (Connection (TlsAnalysis K))
+    pub own_ends : EndsAs (at e xs) own
+    pub oldest_ends : EndsLast (others e xs) ys oldest
+    pub own_is_early : AreEarly own
+    pub oldest_is_early : AreEarly oldest
+    pub are_some : (is_some own || is_some oldest) ≡ true
+    pub received : Adds old new (as_list own ++ as_list oldest)

@@ -208,6 +208,8 @@ fn stop_if(stream: &mut Stream, is_over: bool)
 }
 
 impl<K: PieceCollector> Attachment for TlsAnalysis<K> {
+    ghost IsBegun = { λ protocol a. IsBegunAs protocol a };
+
     fn begin(alloc: Global, protocol: Protocol) -> TlsAnalysis<K>
         ensures { IsBegunAs protocol result }
     {

@@ -1,8 +1,12 @@
 //! What drives a log: [`Log::packet`] for each packet, and [`Log::finish`] at the end.
-ghost use Rattle.std.specs.Prelude.{◌≡◌, ◌≤◌, [], OnOk};
+ghost use Rattle.std.specs.Prelude.{◌≡◌, ◌≤◌, [], IfOk, OnOk, is_some};
+ghost use Rattle.std.specs.Option.{option_map};
+ghost use Rattle.arrivals.specs.Arrival.{five_tuple_in};
 ghost use Rattle.connections.specs.Memory.{IsAccounted, open_part, total};
-ghost use Rattle.connections.specs.Table.{NoneIsOver};
-ghost use Rattle.log_connections.specs.Sink.{IsIdle, IsOpen, PassesEnded, Receives, StaysSound};
+ghost use Rattle.connections.specs.Table.{NoneIsOver, at};
+ghost use Rattle.log_connections.specs.Found.{IsCounted};
+ghost use Rattle.log_connections.specs.Packet.{Arrives, Handles, IsLent, Processes, ProcessesIf, noted_if};
+ghost use Rattle.log_connections.specs.Sink.{Adds, EndsRefused, IsCrowded, IsIdle, IsOpen, PassesEnded, Receives, StaysSound, as_list};
 
 use crate::analysis::{PieceCollector, TlsAnalysis};
 use crate::found::add_connection;
@@ -25,7 +29,10 @@ impl<K: PieceCollector> Log<K> {
         packet: Packet<'_>,
         sink: &mut S,
     ) -> Result<(), LogError<S::Error>>
-        ensures { StaysSound (S.is_sound sink.old) (S.is_sound sink.new) result }
+        ensures handled { OnOk result
+            (Handles self.old.memory self.old.connections self.new.connections
+            (S.received sink.old) (S.received sink.new)) }
+        ensures sound { StaysSound (S.is_sound sink.old) (S.is_sound sink.new) result }
     {
         if let Some(arrival) = self.arrivals.plain_arrival(packet) {
             return self.process(&arrival, sink);
@@ -41,7 +48,10 @@ impl<K: PieceCollector> Log<K> {
         packet: Packet<'_>,
         sink: &mut S,
     ) -> Result<(), LogError<S::Error>>
-        ensures { StaysSound (S.is_sound sink.old) (S.is_sound sink.new) result }
+        ensures handled { OnOk result
+            (Handles self.old.memory self.old.connections self.new.connections
+            (S.received sink.old) (S.received sink.new)) }
+        ensures sound { StaysSound (S.is_sound sink.old) (S.is_sound sink.new) result }
     {
         match self.arrivals.arrival(packet)? {
             Some(arrival) => self.process(&arrival, sink),
@@ -56,15 +66,18 @@ impl<K: PieceCollector> Log<K> {
         packet: Packet<'_>,
         sink: &mut S,
     ) -> Result<(), LogError<S::Error>>
-        ensures { StaysSound (S.is_sound sink.old) (S.is_sound sink.new) result }
+        ensures handled { OnOk result
+            (Handles self.old.memory self.old.connections self.new.connections
+            (S.received sink.old) (S.received sink.new)) }
+        ensures sound { StaysSound (S.is_sound sink.old) (S.is_sound sink.new) result }
     {
         let mut whole = self.arrivals.join(packet)?;
         'inside: for _ in 0..MAX_TUNNELS + 1 {
             let Some(joined) = whole else {
-                break;
+                return Ok(());
             };
             if self.process_inside(packet, &joined, sink)? {
-                break;
+                return Ok(());
             }
             whole = self.arrivals.join_inner(&joined)?;
         }
@@ -78,17 +91,31 @@ impl<K: PieceCollector> Log<K> {
         joined: &CompletedDatagram,
         sink: &mut S,
     ) -> Result<bool, LogError<S::Error>>
-        ensures { StaysSound (S.is_sound sink.old) (S.is_sound sink.new) result }
+        ensures processed { IfOk result
+            (λ holds_one. ProcessesIf holds_one self.old.memory self.old.connections
+            self.new.connections (S.received sink.old) (S.received sink.new)) }
+        ensures memory { OnOk result (self.new.memory ≡ self.old.memory) }
+        ensures sound { StaysSound (S.is_sound sink.old) (S.is_sound sink.new) result }
     {
         let Some(arrival) = self.arrivals.arrival_in(packet, joined)? else {
             return Ok(false);
         };
-        let is_noted = self.note_disagreeing(&arrival, joined);
+        let count = joined.disagreeing();
+        let is_noted = self.note_disagreeing(&arrival, count);
         self.process(&arrival, sink)?;
-        if !is_noted {
-            self.note_disagreeing(&arrival, joined);
-        }
+        self.note_unless(is_noted, &arrival, count);
         Ok(true)
+    }
+
+    /// Adds a count of bytes that disagreed to the sender of an arrival, unless it is noted.
+    fn note_unless(&mut self, is_noted: bool, arrival: &Arrival<'_>, count: u64)
+        ensures noted { self.new.connections
+            ≡ noted_if is_noted arrival.now count self.old.connections }
+        ensures memory { self.new.memory ≡ self.old.memory }
+    {
+        if !is_noted {
+            self.note_disagreeing(arrival, count);
+        }
     }
 
     /// Processes a segment or datagram, after the connections that timed out before it.
@@ -97,15 +124,35 @@ impl<K: PieceCollector> Log<K> {
         arrival: &Arrival<'_>,
         sink: &mut S,
     ) -> Result<(), LogError<S::Error>>
-        ensures { StaysSound (S.is_sound sink.old) (S.is_sound sink.new) result }
+        ensures processed { OnOk result
+            (Processes arrival.now self.old.memory self.old.connections self.new.connections
+            (S.received sink.old) (S.received sink.new)) }
+        ensures memory { OnOk result (self.new.memory ≡ self.old.memory) }
+        ensures sound { StaysSound (S.is_sound sink.old) (S.is_sound sink.new) result }
     {
         self.end_idle(arrival.time(), sink)?;
-        match self.accept(arrival) {
-            Ok(Some(over)) => self.end_connection(over, arrival.time(), sink)?,
-            Ok(None) => self.pass_pieces(arrival, sink)?,
-            Err(_) => self.end_refused(arrival, sink)?,
-        }
+        self.process_arrival(arrival, sink)?;
         self.end_crowded(arrival.time(), sink)
+    }
+
+    /// Adds a segment or datagram to its connection. Passes the connection that is over by it to the
+    /// sink, or else the pieces that it completed.
+    fn process_arrival<S: Sink<K>>(
+        &mut self,
+        arrival: &Arrival<'_>,
+        sink: &mut S,
+    ) -> Result<(), LogError<S::Error>>
+        ensures arrives { OnOk result
+            (Arrives arrival.now self.old.connections self.new.connections
+            (S.received sink.old) (S.received sink.new)) }
+        ensures memory { OnOk result (self.new.memory ≡ self.old.memory) }
+        ensures sound { StaysSound (S.is_sound sink.old) (S.is_sound sink.new) result }
+    {
+        match self.accept(arrival) {
+            Ok(Some(over)) => self.end_connection(over, arrival.time(), sink),
+            Ok(None) => self.pass_pieces(arrival, sink),
+            Err(_) => self.end_refused(arrival, sink),
+        }
     }
 
     /// Counts a connection that is over, and passes it to the sink.
@@ -116,6 +163,7 @@ impl<K: PieceCollector> Log<K> {
         sink: &mut S,
     ) -> Result<(), LogError<S::Error>>
         ensures received { Receives (S.received sink.old) (S.received sink.new) result over.value }
+        ensures counted { IsCounted over.value self.old.arrivals.counts self.new.arrivals.counts }
         ensures same { self.new ≡ record self.old { arrivals = self.new.arrivals } }
         ensures sound { StaysSound (S.is_sound sink.old) (S.is_sound sink.new) result }
     {
@@ -129,6 +177,7 @@ impl<K: PieceCollector> Log<K> {
             (PassesEnded (IsIdle time) self.old.connections.live self.new.connections.live
             (S.received sink.old) (S.received sink.new)) }
         ensures none { OnOk result (NoneIsOver time self.new.connections.live) }
+        ensures memory { OnOk result (self.new.memory ≡ self.old.memory) }
         ensures sound { StaysSound (S.is_sound sink.old) (S.is_sound sink.new) result }
     {
         while let Some(over) = self.take_over(time)? {
@@ -145,12 +194,17 @@ impl<K: PieceCollector> Log<K> {
         arrival: &Arrival<'_>,
         sink: &mut S,
     ) -> Result<(), LogError<S::Error>>
-        ensures { StaysSound (S.is_sound sink.old) (S.is_sound sink.new) result }
+        ensures received { Adds (S.received sink.old) (S.received sink.new) [] }
+        ensures lent { IsLent (five_tuple_in arrival.now)
+            (at (five_tuple_in arrival.now) self.old.connections.live) self.old.connections
+            self.new.connections }
+        ensures memory { self.new.memory ≡ self.old.memory }
+        ensures sound { StaysSound (S.is_sound sink.old) (S.is_sound sink.new) result }
     {
         if !self.passes_pieces() {
             return Ok(());
         }
-        match self.connection(arrival) {
+        match self.connections.get_mut(&arrival.between()) {
             Some(open) => hand_pieces(open, arrival.time(), sink),
             None => Ok(()),
         }
@@ -159,8 +213,10 @@ impl<K: PieceCollector> Log<K> {
     /// Ends the longest-idle connections until the rest fit the memory limit.
     fn end_crowded<S: Sink<K>>(&mut self, time: u64, sink: &mut S) -> Result<(), LogError<S::Error>>
         ensures ended { OnOk result
-            (PassesEnded IsOpen self.old.connections.live self.new.connections.live
+            (PassesEnded (IsCrowded self.old.connections self.old.memory)
+            self.old.connections.live self.new.connections.live
             (S.received sink.old) (S.received sink.new)) }
+        ensures memory { OnOk result (self.new.memory ≡ self.old.memory) }
         ensures within { OnOk result (IsAccounted self.old.connections
             → total self.new.connections.live ≤ open_part self.old.memory) }
         ensures sound { StaysSound (S.is_sound sink.old) (S.is_sound sink.new) result }
@@ -178,7 +234,11 @@ impl<K: PieceCollector> Log<K> {
         time: u64,
         sink: &mut S,
     ) -> Result<bool, LogError<S::Error>>
-        ensures { StaysSound (S.is_sound sink.old) (S.is_sound sink.new) result }
+        ensures received { OnOk result (Adds (S.received sink.old) (S.received sink.new)
+            (as_list (option_map (λ b. b.value) removed))) }
+        ensures was { IfOk result (λ was_one. was_one ≡ is_some removed) }
+        ensures same { self.new ≡ record self.old { arrivals = self.new.arrivals } }
+        ensures sound { StaysSound (S.is_sound sink.old) (S.is_sound sink.new) result }
     {
         match removed {
             Some(over) => {
@@ -196,7 +256,11 @@ impl<K: PieceCollector> Log<K> {
         arrival: &Arrival<'_>,
         sink: &mut S,
     ) -> Result<(), LogError<S::Error>>
-        ensures { StaysSound (S.is_sound sink.old) (S.is_sound sink.new) result }
+        ensures ended { OnOk result
+            (EndsRefused (five_tuple_in arrival.now) self.old.connections.live
+            self.new.connections.live (S.received sink.old) (S.received sink.new)) }
+        ensures memory { OnOk result (self.new.memory ≡ self.old.memory) }
+        ensures sound { StaysSound (S.is_sound sink.old) (S.is_sound sink.new) result }
     {
         let time = arrival.time();
         let own = self.take_refused(arrival)?;

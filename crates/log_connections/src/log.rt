@@ -1,17 +1,21 @@
 //! What a capture's arrivals add to the log.
-ghost use Rattle.std.specs.Prelude.{◌≡◌, ◌<◌, IfOk, IfSome, OnOk, is_some, length};
+ghost use Rattle.std.specs.Prelude.{◌≡◌, ◌-◌, ◌<◌, ◌^◌, [], IfOk, IfSome, OnOk, is_some, length};
 ghost use Rattle.std.specs.Option.{option_map};
-ghost use Rattle.connections.specs.Connection.{side_of};
+ghost use Rattle.arrivals.specs.Arrival.{five_tuple_in};
+ghost use Rattle.connections.specs.Connection.{is_for_checksum, side_of};
+ghost use Rattle.connections.specs.Datagram.{five_tuple_of_datagram};
+ghost use Rattle.connections.specs.Segment.{five_tuple_of, is_refused};
+ghost use Rattle.connections.specs.Table.{at, belongs, with_dropped_segment, with_waiting_segment};
 ghost use Rattle.log_connections.specs.Analysis.{HearsNext, HearsOn};
-ghost use Rattle.log_connections.specs.Log.{HearsFrom, HearsSide, Logs, LogsDatagram, LogsExchange, LogsOpen};
+ghost use Rattle.log_connections.specs.Log.{Accepts, AcceptsBy, AcceptsDatagram, AcceptsJudged, AcceptsSegment, BeginsUnless, EndsAfter, EndsClosed, HearsAllAcknowledged, HearsFrom, HearsOne, HearsPending, HearsSide, IsClosedAs, IsDelivered, IsReceived, KeepsOthers, Logs, LogsDatagram, LogsExchange, LogsOpen, Settles, Takes, TakesAnew, TakesBehind, TakesIn, TakesInAnother, damaged_if, disagreeing_from, is_closed_in, verdict_in, with_disagreeing, with_stray};
 ghost use Rattle.log_connections.specs.Sink.{EndsAs, EndsIdle, EndsLast, IsEnded};
 
 use crate::analysis::{PieceCollector, PieceKind, TlsAnalysis};
 use crate::memory::SPARE;
-use arrivals::{Arrival, ArrivalReader, CompletedDatagram, add_one};
+use arrivals::{Arrival, ArrivalReader, add_one};
 use connections::{
-    Checksum, Connection, Connections, Datagram, DropReason, Judgement, MAX_PENDING,
-    PendingOutcome, PendingSegment, Segment, Side, Stream, Verdict,
+    Checksum, Connection, Connections, Datagram, DropReason, End, FiveTuple, Judgement,
+    MAX_PENDING, PendingOutcome, PendingSegment, Segment, Side, Stream, Verdict,
 };
 use std::alloc::{AllocError, Global};
 use std::hash::RandomState;
@@ -176,6 +180,21 @@ fn analyze_from<K: PieceCollector>(
     heard.analyze_datagram(direction, datagram.payload, known)
 }
 
+/// Counts bytes that disagreed in the fragments of a packet of this sender.
+fn count_disagreeing<K: PieceCollector>(
+    connection: &mut Connection<TlsAnalysis<K>>,
+    sender: End,
+    count: u64,
+)
+    ensures { connection.new
+        ≡ disagreeing_from (side_of connection.old sender) count connection.old }
+{
+    match connection.side_of(sender) {
+        Side::Originator => connection.from_originator.add_disagreeing(count),
+        Side::Responder => connection.from_responder.add_disagreeing(count),
+    }
+}
+
 impl<K: PieceCollector> Log<K> {
     /// Returns the log of a capture of which nothing was read. `keys` keys the hashes of its
     /// tables. Such pieces of connections as `kept` are kept until they are taken.
@@ -183,7 +202,12 @@ impl<K: PieceCollector> Log<K> {
         alloc: Global,
         keys: RandomState,
         kept: Option<PieceKind>,
-    ) -> Result<Log<K>, AllocError> {
+    ) -> Result<Log<K>, AllocError>
+        ensures empty { IfOk result
+            (λ log. log.connections ≡ record { live = []; closed = []; held = 0 }) }
+        ensures kept { IfOk result (λ log. log.kept ≡ kept) }
+        ensures memory { IfOk result (λ log. log.memory ≡ 2 ^ 64 - 1) }
+    {
         Ok(Log {
             alloc,
             connections: Connections::new(alloc, keys)?,
@@ -205,6 +229,7 @@ impl<K: PieceCollector> Log<K> {
             self.new.connections.live (option_map (λ b. b.value) o)) }
         ensures fewer { IfOk result (λ o. IfSome o (λ _.
             length self.new.connections.live < length self.old.connections.live)) }
+        ensures memory { self.new.memory ≡ self.old.memory }
     {
         if !self.connections.has_idle(time) {
             return Ok(None);
@@ -221,6 +246,7 @@ impl<K: PieceCollector> Log<K> {
             self.new.connections.live (option_map (λ b. b.value) o)) }
         ensures fewer { IfOk result (λ o. IfSome o (λ _.
             length self.new.connections.live < length self.old.connections.live)) }
+        ensures memory { self.new.memory ≡ self.old.memory }
     {
         with_last(&mut self.known, self.connections.take_idle(time))
     }
@@ -232,13 +258,28 @@ impl<K: PieceCollector> Log<K> {
     pub(crate) fn accept(
         &mut self,
         arrival: &Arrival<'_>,
-    ) -> Result<Option<Box<Connection<TlsAnalysis<K>>>>, AllocError> {
+    ) -> Result<Option<Box<Connection<TlsAnalysis<K>>>>, AllocError>
+        ensures accepted { IfOk result (λ over. Accepts arrival.now self.old.connections
+            self.new.connections (option_map (λ b. b.value) over)) }
+        ensures others { KeepsOthers (five_tuple_in arrival.now) self.old.connections.live
+            self.new.connections.live }
+        ensures memory { self.new.memory ≡ self.old.memory }
+    {
         self.is_unsettled = false;
         let over = self.analyze_arrival(arrival)?;
-        if self.is_unsettled {
-            self.connections.settle(&arrival.between());
-        }
+        self.settle(&arrival.between());
         Ok(over)
+    }
+
+    /// Updates the memory that is accounted for a connection, if that may have changed.
+    fn settle(&mut self, five_tuple: &FiveTuple)
+        ensures settled { Settles five_tuple.now self.old.connections self.new.connections }
+        ensures memory { self.new.memory ≡ self.old.memory }
+    {
+        if !self.is_unsettled {
+            return;
+        }
+        self.connections.settle(five_tuple);
     }
 
     /// Adds an arrival to its connection and analyzes it, and notes whether the accounted memory
@@ -246,7 +287,13 @@ impl<K: PieceCollector> Log<K> {
     fn analyze_arrival(
         &mut self,
         arrival: &Arrival<'_>,
-    ) -> Result<Option<Box<Connection<TlsAnalysis<K>>>>, AllocError> {
+    ) -> Result<Option<Box<Connection<TlsAnalysis<K>>>>, AllocError>
+        ensures taken { IfOk result (λ over. Takes arrival.now self.old.connections
+            self.new.connections (option_map (λ b. b.value) over)) }
+        ensures others { KeepsOthers (five_tuple_in arrival.now) self.old.connections.live
+            self.new.connections.live }
+        ensures memory { self.new.memory ≡ self.old.memory }
+    {
         match arrival {
             Arrival::Segment(segment) => self.accept_segment(segment),
             Arrival::Datagram(datagram) => self.accept_user_datagram(datagram),
@@ -256,8 +303,15 @@ impl<K: PieceCollector> Log<K> {
     /// Adds the segment to its connection and analyzes the bytes that it completes. Returns whether
     /// both sides closed the connection, or `None` if the segment belongs to none.
     fn analyze_segment(&mut self, segment: &Segment<'_>) -> Result<Option<bool>, AllocError>
-        ensures { IfOk result
+        ensures logged { IfOk result
             (λ heard. Logs (is_some heard) segment.now self.old.connections self.new.connections) }
+        ensures belongs { IfOk result
+            (λ heard. is_some heard ≡ belongs segment.now self.old.connections) }
+        ensures closed { IfOk result (λ heard. IfSome heard
+            (λ closed. closed ≡ is_closed_in segment.now self.new.connections)) }
+        ensures others { KeepsOthers (five_tuple_of segment.now) self.old.connections.live
+            self.new.connections.live }
+        ensures memory { self.new.memory ≡ self.old.memory }
     {
         // (mostly there is a connection already, which is looked up once)
         if let Some(connection) = self.connections.get_first_mut(&segment.between()) {
@@ -277,8 +331,15 @@ impl<K: PieceCollector> Log<K> {
 
     /// Adds a segment that may begin a connection, and analyzes the bytes that it completes.
     fn analyze_first(&mut self, segment: &Segment<'_>) -> Result<Option<bool>, AllocError>
-        ensures { IfOk result
+        ensures logged { IfOk result
             (λ heard. Logs (is_some heard) segment.now self.old.connections self.new.connections) }
+        ensures belongs { IfOk result
+            (λ heard. is_some heard ≡ belongs segment.now self.old.connections) }
+        ensures closed { IfOk result (λ heard. IfSome heard
+            (λ closed. closed ≡ is_closed_in segment.now self.new.connections)) }
+        ensures others { KeepsOthers (five_tuple_of segment.now) self.old.connections.live
+            self.new.connections.live }
+        ensures memory { self.new.memory ≡ self.old.memory }
     {
         if !self.connections.accept(segment)? {
             return Ok(None);
@@ -299,33 +360,66 @@ impl<K: PieceCollector> Log<K> {
         }
     }
 
-    /// Analyzes a pending segment that its receiver took.
-    fn analyze_pending(&mut self, kept: &PendingSegment) -> Result<(), AllocError> {
-        self.connections.accept_pending(kept)?;
-        let segment = kept.segment();
-        match self.connections.get_mut(&segment.between()) {
-            Some(connection) => analyze(
-                connection,
-                &segment,
-                self.kept,
-                &self.arrivals.tunnels,
-                &mut self.known,
-            ),
-            None => Ok(()),
-        }
+    /// Adds a pending segment that its receiver took to the stream of its connection, and analyzes
+    /// the bytes that it completes.
+    fn analyze_pending(
+        &mut self,
+        five_tuple: &FiveTuple,
+        kept: &PendingSegment,
+    ) -> Result<(), AllocError>
+        ensures heard { OnOk result
+            (HearsPending five_tuple.now kept.now self.old.connections self.new.connections) }
+        ensures others { KeepsOthers five_tuple.now self.old.connections.live
+            self.new.connections.live }
+        ensures memory { self.new.memory ≡ self.old.memory }
+    {
+        let Some(connection) = self.connections.get_first_mut(five_tuple) else {
+            return Ok(());
+        };
+        connection.accept_pending(self.alloc, kept)?;
+        analyze(
+            connection,
+            &kept.segment(),
+            self.kept,
+            &self.arrivals.tunnels,
+            &mut self.known,
+        )
     }
 
     /// Analyzes the pending segments that this segment acknowledges.
-    fn analyze_acknowledged(&mut self, segment: &Segment<'_>) -> Result<(), AllocError> {
+    fn analyze_acknowledged(&mut self, segment: &Segment<'_>) -> Result<(), AllocError>
+        ensures heard { OnOk result
+            (HearsAllAcknowledged segment.now self.old.connections self.new.connections) }
+        ensures others { KeepsOthers (five_tuple_of segment.now) self.old.connections.live
+            self.new.connections.live }
+        ensures memory { self.new.memory ≡ self.old.memory }
+    {
         self.is_unsettled = true;
-        'waiting: for _ in 0..MAX_PENDING {
-            match self.connections.take_pending(segment) {
-                Some(PendingOutcome::Taken(kept)) => self.analyze_pending(&kept)?,
-                Some(PendingOutcome::Had) => {}
-                None => break,
+        'waiting: for count in 0..MAX_PENDING {
+            if !self.analyze_one_acknowledged(segment)? {
+                return Ok(());
             }
         }
         Ok(())
+    }
+
+    /// Removes a pending segment that this segment acknowledges, and analyzes it if its receiver
+    /// took it. Returns whether there was one.
+    fn analyze_one_acknowledged(&mut self, segment: &Segment<'_>) -> Result<bool, AllocError>
+        ensures heard { IfOk result
+            (λ was_one. HearsOne segment.now self.old.connections self.new.connections was_one) }
+        ensures others { KeepsOthers (five_tuple_of segment.now) self.old.connections.live
+            self.new.connections.live }
+        ensures memory { self.new.memory ≡ self.old.memory }
+    {
+        match self.connections.take_pending(segment) {
+            Some(PendingOutcome::Taken(kept)) => {
+                self.analyze_pending(&segment.between(), &kept)?;
+                Ok(true)
+            }
+            Some(PendingOutcome::Had) => Ok(true),
+            None => Ok(false),
+        }
     }
 
     /// Adds a segment that its receiver takes to its connection, and removes and returns that if it
@@ -333,9 +427,31 @@ impl<K: PieceCollector> Log<K> {
     fn take_segment(
         &mut self,
         segment: &Segment<'_>,
-    ) -> Result<Option<Box<Connection<TlsAnalysis<K>>>>, AllocError> {
+    ) -> Result<Option<Box<Connection<TlsAnalysis<K>>>>, AllocError>
+        ensures taken { IfOk result (λ over. TakesIn segment.now self.old.connections
+            self.new.connections (option_map (λ b. b.value) over)) }
+        ensures others { KeepsOthers (five_tuple_of segment.now) self.old.connections.live
+            self.new.connections.live }
+        ensures memory { self.new.memory ≡ self.old.memory }
+    {
         let heard = self.analyze_segment(segment)?;
         self.end_analyzed(segment, heard)
+    }
+
+    /// Counts a segment that belongs to no connection, as damaged or stray. (The last
+    /// acknowledgement of a closed connection loses nothing.)
+    fn count_stray(&mut self, segment: &Segment<'_>)
+        ensures { self.new ≡ record self.old {
+          arrivals = record self.old.arrivals {
+            counts = with_stray segment.now self.old.arrivals.counts;
+          };
+        } }
+    {
+        if segment.checksum == Checksum::Refused {
+            add_one(&mut self.arrivals.counts.damaged);
+        } else if segment.has_data() {
+            add_one(&mut self.arrivals.counts.stray_segments);
+        }
     }
 
     /// Removes and returns the connection of an analyzed segment if it is closed. A segment without
@@ -344,17 +460,18 @@ impl<K: PieceCollector> Log<K> {
         &mut self,
         segment: &Segment<'_>,
         heard: Option<bool>,
-    ) -> Result<Option<Box<Connection<TlsAnalysis<K>>>>, AllocError> {
+    ) -> Result<Option<Box<Connection<TlsAnalysis<K>>>>, AllocError>
+        ensures ended { IfOk result (λ over. EndsAfter heard segment.now self.old.connections
+            self.new.connections (option_map (λ b. b.value) over)) }
+        ensures others { KeepsOthers (five_tuple_of segment.now) self.old.connections.live
+            self.new.connections.live }
+        ensures memory { self.new.memory ≡ self.old.memory }
+    {
         match heard {
             Some(true) => self.take_closed(segment),
             Some(false) => Ok(None),
             None => {
-                // (the last acknowledgement of a closed connection loses nothing)
-                if segment.checksum == Checksum::Refused {
-                    add_one(&mut self.arrivals.counts.damaged);
-                } else if segment.has_data() {
-                    add_one(&mut self.arrivals.counts.stray_segments);
-                }
+                self.count_stray(segment);
                 Ok(None)
             }
         }
@@ -364,7 +481,13 @@ impl<K: PieceCollector> Log<K> {
     fn take_closed(
         &mut self,
         segment: &Segment<'_>,
-    ) -> Result<Option<Box<Connection<TlsAnalysis<K>>>>, AllocError> {
+    ) -> Result<Option<Box<Connection<TlsAnalysis<K>>>>, AllocError>
+        ensures ended { IfOk result (λ over. EndsClosed segment.now self.old.connections
+            self.new.connections (option_map (λ b. b.value) over)) }
+        ensures others { KeepsOthers (five_tuple_of segment.now) self.old.connections.live
+            self.new.connections.live }
+        ensures memory { self.new.memory ≡ self.old.memory }
+    {
         with_last(&mut self.known, self.connections.take_closed(segment)?)
     }
 
@@ -373,7 +496,13 @@ impl<K: PieceCollector> Log<K> {
     fn take_replaced(
         &mut self,
         segment: &Segment<'_>,
-    ) -> Result<Option<Box<Connection<TlsAnalysis<K>>>>, AllocError> {
+    ) -> Result<Option<Box<Connection<TlsAnalysis<K>>>>, AllocError>
+        ensures replaced { IfOk result (λ over. TakesInAnother segment.now self.old.connections
+            self.new.connections (option_map (λ b. b.value) over)) }
+        ensures others { KeepsOthers (five_tuple_of segment.now) self.old.connections.live
+            self.new.connections.live }
+        ensures memory { self.new.memory ≡ self.old.memory }
+    {
         let over = self.connections.take_replaced(segment)?;
         self.analyze_segment(segment)?;
         with_last(&mut self.known, over)
@@ -383,8 +512,15 @@ impl<K: PieceCollector> Log<K> {
     /// it completes. If something has to be done first, nothing changes. The connection is looked
     /// up once, and looks at the segment once.
     fn analyze_open(&mut self, segment: &Segment<'_>) -> Result<Reception, AllocError>
-        ensures { IfOk result
+        ensures logged { IfOk result
             (λ reception. LogsOpen reception segment.now self.old.connections self.new.connections) }
+        ensures judged { IfOk result
+            (λ reception. IsReceived reception (verdict_in segment.now self.old.connections)) }
+        ensures closed { IfOk result
+            (λ reception. IsClosedAs reception (is_closed_in segment.now self.new.connections)) }
+        ensures others { KeepsOthers (five_tuple_of segment.now) self.old.connections.live
+            self.new.connections.live }
+        ensures memory { self.new.memory ≡ self.old.memory }
     {
         let five_tuple = segment.between();
         let Some(connection) = self.connections.get_mut(&five_tuple) else {
@@ -412,7 +548,13 @@ impl<K: PieceCollector> Log<K> {
     fn accept_segment(
         &mut self,
         segment: &Segment<'_>,
-    ) -> Result<Option<Box<Connection<TlsAnalysis<K>>>>, AllocError> {
+    ) -> Result<Option<Box<Connection<TlsAnalysis<K>>>>, AllocError>
+        ensures accepted { IfOk result (λ over. AcceptsSegment segment.now self.old.connections
+            self.new.connections (option_map (λ b. b.value) over)) }
+        ensures others { KeepsOthers (five_tuple_of segment.now) self.old.connections.live
+            self.new.connections.live }
+        ensures memory { self.new.memory ≡ self.old.memory }
+    {
         match self.analyze_open(segment)? {
             Reception::Heard(false) => Ok(None),
             Reception::Heard(true) => self.take_closed(segment),
@@ -424,48 +566,140 @@ impl<K: PieceCollector> Log<K> {
         }
     }
 
+    /// Counts a segment that its receiver drops as damaged, if its checksum is the reason.
+    fn count_dropped(&mut self, reason: DropReason)
+        ensures { self.new ≡ record self.old {
+          arrivals = record self.old.arrivals {
+            counts = damaged_if (is_for_checksum reason) self.old.arrivals.counts;
+          };
+        } }
+    {
+        if reason == DropReason::Checksum {
+            add_one(&mut self.arrivals.counts.damaged);
+        }
+    }
+
     /// Processes a segment by its connection's verdict, when it isn't simply taken.
     fn accept_by(
         &mut self,
         segment: &Segment<'_>,
         verdict: Verdict,
-    ) -> Result<Option<Box<Connection<TlsAnalysis<K>>>>, AllocError> {
+    ) -> Result<Option<Box<Connection<TlsAnalysis<K>>>>, AllocError>
+        ensures accepted { IfOk result (λ over. AcceptsBy verdict segment.now self.old.connections
+            self.new.connections (option_map (λ b. b.value) over)) }
+        ensures others { KeepsOthers (five_tuple_of segment.now) self.old.connections.live
+            self.new.connections.live }
+        ensures memory { self.new.memory ≡ self.old.memory }
+    {
         if verdict.shows_damage {
-            self.connections.restart(segment);
-            return self.take_segment(segment);
+            return self.take_anew(segment);
         }
         if verdict.begins_another {
             return self.take_replaced(segment);
         }
-        match verdict.judgement {
+        self.accept_judged(segment, verdict.judgement, verdict.tells)
+    }
+
+    /// Restarts the connection of a segment, since everything before it was damaged, and analyzes
+    /// the segment.
+    fn take_anew(
+        &mut self,
+        segment: &Segment<'_>,
+    ) -> Result<Option<Box<Connection<TlsAnalysis<K>>>>, AllocError>
+        ensures taken { IfOk result (λ over. TakesAnew segment.now self.old.connections
+            self.new.connections (option_map (λ b. b.value) over)) }
+        ensures others { KeepsOthers (five_tuple_of segment.now) self.old.connections.live
+            self.new.connections.live }
+        ensures memory { self.new.memory ≡ self.old.memory }
+    {
+        self.connections.restart(segment);
+        self.take_segment(segment)
+    }
+
+    /// Processes a segment by what its receiver does with it. It `tells` if it may acknowledge
+    /// pending segments.
+    fn accept_judged(
+        &mut self,
+        segment: &Segment<'_>,
+        judgement: Judgement,
+        tells: bool,
+    ) -> Result<Option<Box<Connection<TlsAnalysis<K>>>>, AllocError>
+        ensures accepted { IfOk result (λ over. AcceptsJudged judgement tells segment.now
+            self.old.connections self.new.connections (option_map (λ b. b.value) over)) }
+        ensures others { KeepsOthers (five_tuple_of segment.now) self.old.connections.live
+            self.new.connections.live }
+        ensures memory { self.new.memory ≡ self.old.memory }
+    {
+        match judgement {
             Judgement::Dropped(reason) => {
-                if reason == DropReason::Checksum {
-                    add_one(&mut self.arrivals.counts.damaged);
-                }
-                self.is_unsettled = segment.begins();
-                self.connections.drop_segment(segment, reason)?;
+                self.drop_segment(segment, reason)?;
                 Ok(None)
             }
             Judgement::Waiting(reason) => {
-                self.is_unsettled = true;
-                self.connections.wait(segment, reason)?;
+                self.keep_waiting(segment, reason)?;
                 Ok(None)
             }
-            Judgement::Taken | Judgement::Again => {
-                if verdict.tells {
-                    self.analyze_acknowledged(segment)?;
-                }
-                self.take_segment(segment)
-            }
+            Judgement::Taken => self.take_behind(segment, tells),
+            Judgement::Again => self.take_behind(segment, tells),
         }
+    }
+
+    /// Counts a segment that its receiver drops for this reason.
+    fn drop_segment(&mut self, segment: &Segment<'_>, reason: DropReason) -> Result<(), AllocError>
+        ensures dropped { OnOk result
+            (self.new.connections ≡ with_dropped_segment reason segment.now self.old.connections) }
+        ensures others { KeepsOthers (five_tuple_of segment.now) self.old.connections.live
+            self.new.connections.live }
+        ensures memory { self.new.memory ≡ self.old.memory }
+    {
+        self.count_dropped(reason);
+        self.is_unsettled = segment.begins();
+        self.connections.drop_segment(segment, reason)
+    }
+
+    /// Keeps a segment until its receiver shows whether it took it, or counts it as dropped for
+    /// this reason.
+    fn keep_waiting(&mut self, segment: &Segment<'_>, reason: DropReason) -> Result<(), AllocError>
+        ensures waits { OnOk result
+            (self.new.connections ≡ with_waiting_segment reason segment.now self.old.connections) }
+        ensures others { KeepsOthers (five_tuple_of segment.now) self.old.connections.live
+            self.new.connections.live }
+        ensures memory { self.new.memory ≡ self.old.memory }
+    {
+        self.is_unsettled = true;
+        self.connections.wait(segment, reason)
+    }
+
+    /// Analyzes a segment, behind the pending segments that it acknowledges if it `tells` of any.
+    fn take_behind(
+        &mut self,
+        segment: &Segment<'_>,
+        tells: bool,
+    ) -> Result<Option<Box<Connection<TlsAnalysis<K>>>>, AllocError>
+        ensures taken { IfOk result (λ over. TakesBehind tells segment.now self.old.connections
+            self.new.connections (option_map (λ b. b.value) over)) }
+        ensures others { KeepsOthers (five_tuple_of segment.now) self.old.connections.live
+            self.new.connections.live }
+        ensures memory { self.new.memory ≡ self.old.memory }
+    {
+        if !tells {
+            return self.take_segment(segment);
+        }
+        self.analyze_acknowledged(segment)?;
+        self.take_segment(segment)
     }
 
     /// Analyzes a datagram in its open exchange, unless it is damaged or begins another DTLS
     /// association. The exchange is looked up once.
     fn analyze_exchange(&mut self, datagram: &Datagram<'_>) -> Result<Delivery, AllocError>
-        ensures { IfOk result
+        ensures logged { IfOk result
             (λ delivery. LogsExchange delivery datagram.now self.old.connections
             self.new.connections) }
+        ensures delivered { IfOk result
+            (λ delivery. IsDelivered delivery datagram.now self.old.connections) }
+        ensures others { KeepsOthers (five_tuple_of_datagram datagram.now) self.old.connections.live
+            self.new.connections.live }
+        ensures memory { self.new.memory ≡ self.old.memory }
     {
         let five_tuple = datagram.between();
         let Some(exchange) = self.connections.get_mut(&five_tuple) else {
@@ -497,7 +731,13 @@ impl<K: PieceCollector> Log<K> {
     fn accept_user_datagram(
         &mut self,
         datagram: &Datagram<'_>,
-    ) -> Result<Option<Box<Connection<TlsAnalysis<K>>>>, AllocError> {
+    ) -> Result<Option<Box<Connection<TlsAnalysis<K>>>>, AllocError>
+        ensures accepted { IfOk result (λ over. AcceptsDatagram datagram.now self.old.connections
+            self.new.connections (option_map (λ b. b.value) over)) }
+        ensures others { KeepsOthers (five_tuple_of_datagram datagram.now) self.old.connections.live
+            self.new.connections.live }
+        ensures memory { self.new.memory ≡ self.old.memory }
+    {
         match self.analyze_exchange(datagram)? {
             Delivery::Heard => Ok(None),
             Delivery::Damaged => {
@@ -517,7 +757,13 @@ impl<K: PieceCollector> Log<K> {
     }
 
     /// Begins an exchange with a datagram, or counts the datagram if its checksum is wrong.
-    fn begin_exchange(&mut self, datagram: &Datagram<'_>) -> Result<(), AllocError> {
+    fn begin_exchange(&mut self, datagram: &Datagram<'_>) -> Result<(), AllocError>
+        ensures begun { OnOk result (BeginsUnless (is_refused datagram.now.checksum) datagram.now
+            self.old.connections self.new.connections) }
+        ensures others { KeepsOthers (five_tuple_of_datagram datagram.now) self.old.connections.live
+            self.new.connections.live }
+        ensures memory { self.new.memory ≡ self.old.memory }
+    {
         if datagram.checksum == Checksum::Refused {
             add_one(&mut self.arrivals.counts.damaged);
             return Ok(());
@@ -527,8 +773,11 @@ impl<K: PieceCollector> Log<K> {
 
     /// Analyzes a datagram in its exchange, which it begins if there is none.
     fn accept_datagram(&mut self, datagram: &Datagram<'_>) -> Result<(), AllocError>
-        ensures { OnOk result
+        ensures logged { OnOk result
             (LogsDatagram datagram.now self.old.connections self.new.connections) }
+        ensures others { KeepsOthers (five_tuple_of_datagram datagram.now) self.old.connections.live
+            self.new.connections.live }
+        ensures memory { self.new.memory ≡ self.old.memory }
     {
         self.connections.accept_datagram(datagram)?;
         match self.connections.get_mut(&datagram.between()) {
@@ -547,30 +796,19 @@ impl<K: PieceCollector> Log<K> {
         }
     }
 
-    /// Returns the open connection of an arrival.
-    pub(crate) fn connection(
-        &mut self,
-        arrival: &Arrival<'_>,
-    ) -> Option<&mut Connection<TlsAnalysis<K>>> {
-        self.connections.get_mut(&arrival.between())
-    }
-
-    /// Adds the count of bytes that disagreed in a datagram's fragments to the sender of an
-    /// arrival, if its connection is open. Returns whether it is.
-    pub(crate) fn note_disagreeing(
-        &mut self,
-        arrival: &Arrival<'_>,
-        joined: &CompletedDatagram,
-    ) -> bool {
-        let count = joined.disagreeing();
-        let source = arrival.source();
-        let Some(connection) = self.connection(arrival) else {
+    /// Adds a count of bytes that disagreed in a datagram's fragments to the sender of the arrival
+    /// inside, if its connection is open. Returns whether it is.
+    pub(crate) fn note_disagreeing(&mut self, arrival: &Arrival<'_>, count: u64) -> bool
+        ensures noted { self.new.connections
+            ≡ with_disagreeing arrival.now count self.old.connections }
+        ensures is_open { result
+            ≡ is_some (at (five_tuple_in arrival.now) self.old.connections.live) }
+        ensures memory { self.new.memory ≡ self.old.memory }
+    {
+        let Some(connection) = self.connections.get_mut(&arrival.between()) else {
             return false;
         };
-        match connection.side_of(source) {
-            Side::Originator => connection.from_originator.add_disagreeing(count),
-            Side::Responder => connection.from_responder.add_disagreeing(count),
-        }
+        count_disagreeing(connection, arrival.source(), count);
         true
     }
 

@@ -76,6 +76,7 @@ impl<K: PieceCollector> Log<K> {
         ensures others { self.new.connections.live ≡ others (five_tuple_in arrival.now)
             self.old.connections.live }
         ensures early { IfOk result (λ o. AreEarly (option_map (λ b. b.value) o)) }
+        ensures memory { self.new.memory ≡ self.old.memory }
     {
         self.spare = Vec::new(self.alloc);
         let taken = self.connections.take(&arrival.between());
@@ -89,13 +90,16 @@ impl<K: PieceCollector> Log<K> {
         ensures oldest { IfOk result (λ o. EndsLast self.old.connections.live
             self.new.connections.live (option_map (λ b. b.value) o)) }
         ensures early { IfOk result (λ o. AreEarly (option_map (λ b. b.value) o)) }
+        ensures memory { self.new.memory ≡ self.old.memory }
     {
         let taken = self.connections.take_remaining();
         self.end_early(taken)
     }
 
     /// Allocates the reserve again, if there is enough memory.
-    pub(crate) fn spare(&mut self) {
+    pub(crate) fn spare(&mut self)
+        ensures { self.new ≡ record self.old { spare = self.new.spare } }
+    {
         if let Ok(spare) = Vec::with_capacity(self.alloc, SPARE) {
             self.spare = spare;
         }

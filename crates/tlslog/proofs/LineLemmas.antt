@@ -13,7 +13,7 @@ use Rattle.tlslog.specs.Summary.{LogsConnection, are_connections}
 module _ {K : Type 0} where
   pub logs_none : (lines : Lines) (c : Connection (TlsAnalysis K)) (known : Option (List ℕ))
       (b : Bool)
-      → IsSpokenBy b c.attachment.said → (b && are_connections lines) ≡ false
+      → IsSpokenBy b c.attachment.is_turned c.attachment.said → (b && are_connections lines) ≡ false
       → LogsConnection lines c known known (Ok tt)
   logs_none lines c known b s e = record {
     is_spoken = b;
@@ -23,7 +23,7 @@ module _ {K : Type 0} where
 
   pub logs_one : (lines : Lines) (c : Connection (TlsAnalysis K)) (old new : Option (List ℕ))
       (r : Result Unit LineError)
-      → IsSpokenBy true c.attachment.said → are_connections lines ≡ true
+      → IsSpokenBy true c.attachment.is_turned c.attachment.said → are_connections lines ≡ true
       → OnOk r (AppendsLine old new) → LogsConnection lines c old new r
   logs_one lines c old new r s e h = record {
     is_spoken = true;

@@ -58,5 +58,5 @@ module _ {K : Type 0} where
   pub record LogsConnection (lines : Lines) (c : Connection (TlsAnalysis K))
       (old new : Option (List ℕ)) (r : Result Unit LineError) : Type 0 where
     pub is_spoken : Bool
-    pub spoken : IsSpokenBy is_spoken c.attachment.said
+    pub spoken : IsSpokenBy is_spoken c.attachment.is_turned c.attachment.said
     pub printed : OnOk r (AppendsLineIf (is_spoken && are_connections lines) old new)

@@ -1,8 +1,31 @@
-use Rattle.log_connections.proofs.LogLemmas.{segment_heard, segment_lent}
+use Rattle.std.proofs.Common.{◌∙◌}
+use Rattle.connections.specs.Segment.{five_tuple_of}
+use Rattle.connections.specs.Table.{with_other}
+use Rattle.log_connections.proofs.LogLemmas.{segment_closes, segment_heard, segment_lent}
+use Rattle.log_connections.proofs.OtherLemmas.{keeps_by_others, keeps_other, keeps_then}
 use Rattle.log_connections.proofs.log.Log.analyze_first.Goals as goal
 
-pub returns-in_ok-analyze-in-Some : goal.returns-in_ok-analyze-in-Some
-returns-in_ok-analyze-in-Some g c =
+pub returns-in_err-accept-clause-others : goal.returns-in_err-accept-clause-others
+returns-in_err-accept-clause-others g c =
+    keeps_by_others (five_tuple_of c.args.segment.now) c.args.self.now.connections.live
+    c.accept.new.self.live c.accept.ensures.others
+
+pub returns-then-not-branch-clause-others : goal.returns-then-not-branch-clause-others
+returns-then-not-branch-clause-others g c =
+    keeps_by_others (five_tuple_of c.args.segment.now) c.args.self.now.connections.live
+    c.accept.new.self.live c.accept.ensures.others
+
+pub returns-in_err-analyze-in-Some-clause-others : goal.returns-in_err-analyze-in-Some-clause-others
+returns-in_err-analyze-in-Some-clause-others g c =
+    let e = five_tuple_of c.args.segment.now in
+    let mid = c.accept.new.self in let its = c.analyze.new.connection in
+    rw c.between.ensures
+    (keeps_then e c.args.self.now.connections.live mid.live (with_other e its mid).live
+    (keeps_by_others e c.args.self.now.connections.live mid.live c.accept.ensures.others)
+    (keeps_other e mid its))
+
+pub returns-in_ok-analyze-in-Some-clause-logged : goal.returns-in_ok-analyze-in-Some-clause-logged
+returns-in_ok-analyze-in-Some-clause-logged g c =
     rw c.between.ensures
     (segment_heard c.in_ok-accept.field-0 c.args.segment.now c.args.self.now.connections
     c.accept.new.self
@@ -11,9 +34,38 @@ returns-in_ok-analyze-in-Some g c =
     c.in_ok-accept.ensures.closed (rw c.between.ensures at c.in-Some.ensures.value)
     c.in_ok-analyze-in-Some.ensures)
 
-pub returns-in-None : goal.returns-in-None
-returns-in-None g c =
+pub returns-in_ok-analyze-in-Some-clause-closed : goal.returns-in_ok-analyze-in-Some-clause-closed
+returns-in_ok-analyze-in-Some-clause-closed g c =
+    rw c.between.ensures
+    (c.is_closed.ensures
+    ∙ segment_closes c.in_ok-accept.field-0 c.args.segment.now c.args.self.now.connections
+    c.accept.new.self c.analyze.new.connection c.if-not-branch.false
+    c.in_ok-accept.ensures.put)
+
+pub returns-in_ok-analyze-in-Some-clause-others : goal.returns-in_ok-analyze-in-Some-clause-others
+returns-in_ok-analyze-in-Some-clause-others g c =
+    let e = five_tuple_of c.args.segment.now in
+    let mid = c.accept.new.self in let its = c.analyze.new.connection in
+    rw c.between.ensures
+    (keeps_then e c.args.self.now.connections.live mid.live (with_other e its mid).live
+    (keeps_by_others e c.args.self.now.connections.live mid.live c.accept.ensures.others)
+    (keeps_other e mid its))
+
+pub returns-in-None-clause-logged : goal.returns-in-None-clause-logged
+returns-in-None-clause-logged g c =
     absurd (segment_lent c.in_ok-accept.field-0 c.args.segment.now c.args.self.now.connections
     c.accept.new.self
     c.if-not-branch.false c.in_ok-accept.ensures.put
     (rw c.between.ensures at c.in-None.ensures.value))
+
+pub returns-in-None-clause-belongs : goal.returns-in-None-clause-belongs
+returns-in-None-clause-belongs g c =
+    absurd (segment_lent c.in_ok-accept.field-0 c.args.segment.now c.args.self.now.connections
+    c.accept.new.self
+    c.if-not-branch.false c.in_ok-accept.ensures.put
+    (rw c.between.ensures at c.in-None.ensures.value))
+
+pub returns-in-None-clause-others : goal.returns-in-None-clause-others
+returns-in-None-clause-others g c =
+    keeps_by_others (five_tuple_of c.args.segment.now) c.args.self.now.connections.live
+    c.accept.new.self.live c.accept.ensures.others

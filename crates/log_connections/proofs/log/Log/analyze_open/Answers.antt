@@ -1,16 +1,75 @@
-use Rattle.log_connections.proofs.LogLemmas.{heard_in_place, lent_unchanged}
+use Rattle.std.proofs.Common.{sym, ◌∙◌}
+use Rattle.connections.proofs.TableLemmas.{written_promoted}
+use Rattle.connections.specs.Segment.{five_tuple_of}
+use Rattle.connections.specs.Table.{others, promoting, with_other}
+use Rattle.log_connections.proofs.LogLemmas.{closes, heard_in_place, lent_unchanged, let_in_judged, none_judged, told_judged}
+use Rattle.log_connections.proofs.OtherLemmas.{keeps_other, keeps_promoted}
 use Rattle.log_connections.proofs.log.Log.analyze_open.Goals as goal
 
-pub returns-in-Some-2 : goal.returns-in-Some-2
-returns-in-Some-2 g c =
+pub returns-in_default-clause-judged : goal.returns-in_default-clause-judged
+returns-in_default-clause-judged g c =
+    none_judged c.args.segment.now c.args.self.now.connections
+    (rw c.between-five_tuple.ensures at c.in_default.ensures.value)
+
+pub returns-in_err-verdict-clause-others : goal.returns-in_err-verdict-clause-others
+returns-in_err-verdict-clause-others g c =
+    rw c.between-five_tuple.ensures
+    (keeps_other (five_tuple_of c.args.segment.now) c.args.self.now.connections
+    c.accept_or_judge.new.self)
+
+pub returns-in-Some-2-clause-logged : goal.returns-in-Some-2-clause-logged
+returns-in-Some-2-clause-logged g c =
     lent_unchanged c.between-five_tuple.result c.args.self.now.connections c.in-Some.connection.now
     c.accept_or_judge.new.self
     c.in-Some.ensures.value (rw c.in-Some-2.is at c.in_ok-verdict.ensures.stays)
 
-pub returns : goal.returns
-returns g c =
+pub returns-in-Some-2-clause-judged : goal.returns-in-Some-2-clause-judged
+returns-in-Some-2-clause-judged g c =
+    told_judged c.args.segment.now c.args.self.now.connections c.in-Some.connection.now
+    c.in-Some-2.verdict (rw c.between-five_tuple.ensures at c.in-Some.ensures.value)
+    (rw c.in-Some-2.is at c.in_ok-verdict.ensures.judged)
+    (rw c.in-Some-2.is at c.in_ok-verdict.ensures.let_in)
+
+pub returns-in-Some-2-clause-others : goal.returns-in-Some-2-clause-others
+returns-in-Some-2-clause-others g c =
+    rw c.between-five_tuple.ensures
+    (keeps_other (five_tuple_of c.args.segment.now) c.args.self.now.connections
+    c.accept_or_judge.new.self)
+
+pub returns-in_err-analyze-clause-others : goal.returns-in_err-analyze-clause-others
+returns-in_err-analyze-clause-others g c =
+    rw c.between-five_tuple.ensures
+    (keeps_other (five_tuple_of c.args.segment.now) c.args.self.now.connections
+    c.analyze.new.connection)
+
+pub returns-clause-logged : goal.returns-clause-logged
+returns-clause-logged g c =
     rw (c.promote.ensures.promoted, c.between-five_tuple.ensures)
     (heard_in_place c.args.segment.now c.args.self.now.connections c.in-Some.connection.now
     c.accept_or_judge.new.self
     c.analyze.new.connection (rw c.between-five_tuple.ensures at c.in-Some.ensures.value)
     (rw c.in_default-2.is at c.in_ok-verdict.ensures.taken).1 c.in_ok-analyze.ensures)
+
+pub returns-clause-judged : goal.returns-clause-judged
+returns-clause-judged g c =
+    let_in_judged c.args.segment.now c.args.self.now.connections c.in-Some.connection.now
+    (rw c.between-five_tuple.ensures at c.in-Some.ensures.value)
+    (rw c.in_default-2.is at c.in_ok-verdict.ensures.let_in)
+
+pub returns-clause-closed : goal.returns-clause-closed
+returns-clause-closed g c =
+    let s = c.args.segment.now in let old = c.args.self.now.connections in
+    let its = c.analyze.new.connection in
+    rw (c.promote.ensures.promoted, c.between-five_tuple.ensures)
+    (c.is_closed-is_closed.ensures
+    ∙ closes s (promoting (five_tuple_of s) (with_other (five_tuple_of s) its old)) its
+    (others (five_tuple_of s) old.live)
+    (written_promoted (five_tuple_of s) old.live c.in-Some.connection.now its
+    (sym (rw c.between-five_tuple.ensures at c.in-Some.ensures.value))))
+
+pub returns-clause-others : goal.returns-clause-others
+returns-clause-others g c =
+    rw (c.promote.ensures.promoted, c.between-five_tuple.ensures)
+    (keeps_promoted (five_tuple_of c.args.segment.now) c.args.self.now.connections
+    c.in-Some.connection.now c.analyze.new.connection
+    (rw c.between-five_tuple.ensures at c.in-Some.ensures.value))

@@ -1,10 +1,52 @@
-use Rattle.log_connections.proofs.LogLemmas.{heard_by_open}
+use Rattle.std.proofs.Common.{refl, sym, ◌∙◌}
+use Rattle.connections.proofs.TableLemmas.{stands_first}
+use Rattle.connections.specs.Lends.{with_first}
+use Rattle.connections.specs.Segment.{five_tuple_of}
+use Rattle.connections.specs.Table.{others}
+use Rattle.log_connections.proofs.LogLemmas.{closes, heard_by_open, is_belonging}
+use Rattle.log_connections.proofs.OtherLemmas.{keeps_first}
 use Rattle.log_connections.proofs.log.Log.analyze_segment.Goals as goal
 
-pub returns-in-Some : goal.returns-in-Some
-returns-in-Some g c =
+pub returns-in_err-accept-clause-others : goal.returns-in_err-accept-clause-others
+returns-in_err-accept-clause-others g c =
+    rw c.between.ensures
+    (keeps_first (five_tuple_of c.args.segment.now) c.args.self.now.connections
+    c.in-Some.connection.now c.accept.new.self
+    (rw c.between.ensures at c.in-Some.ensures.value))
+
+pub returns-in_err-analyze-clause-others : goal.returns-in_err-analyze-clause-others
+returns-in_err-analyze-clause-others g c =
+    rw c.between.ensures
+    (keeps_first (five_tuple_of c.args.segment.now) c.args.self.now.connections
+    c.in-Some.connection.now c.analyze.new.connection
+    (rw c.between.ensures at c.in-Some.ensures.value))
+
+pub returns-in-Some-clause-logged : goal.returns-in-Some-clause-logged
+returns-in-Some-clause-logged g c =
     rw c.between.ensures
     (heard_by_open c.args.segment.now c.args.self.now.connections c.in-Some.connection.now
     c.accept.new.self
     c.analyze.new.connection (rw c.between.ensures at c.in-Some.ensures.value)
     c.in_ok-accept.ensures.taken c.in_ok-analyze.ensures)
+
+pub returns-in-Some-clause-belongs : goal.returns-in-Some-clause-belongs
+returns-in-Some-clause-belongs g c =
+    sym (is_belonging c.args.segment.now c.args.self.now.connections _
+    (sym (rw c.between.ensures at c.in-Some.ensures.value)) refl)
+
+pub returns-in-Some-clause-closed : goal.returns-in-Some-clause-closed
+returns-in-Some-clause-closed g c =
+    let s = c.args.segment.now in let old = c.args.self.now.connections in
+    let its = c.analyze.new.connection in
+    rw c.between.ensures
+    (c.is_closed.ensures
+    ∙ closes s (with_first (five_tuple_of s) its old) its (others (five_tuple_of s) old.live)
+    (stands_first (five_tuple_of s) old c.in-Some.connection.now its
+    (rw c.between.ensures at c.in-Some.ensures.value)))
+
+pub returns-in-Some-clause-others : goal.returns-in-Some-clause-others
+returns-in-Some-clause-others g c =
+    rw c.between.ensures
+    (keeps_first (five_tuple_of c.args.segment.now) c.args.self.now.connections
+    c.in-Some.connection.now c.analyze.new.connection
+    (rw c.between.ensures at c.in-Some.ensures.value))

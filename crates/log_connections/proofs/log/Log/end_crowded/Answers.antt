@@ -1,11 +1,11 @@
 use Rattle.std.proofs.Common.{refl, ◌∙◌}
-use Rattle.log_connections.proofs.SinkLemmas.{none_ended, one_more_ended}
-use Rattle.log_connections.specs.Sink.{IsOpen}
+use Rattle.log_connections.proofs.SinkLemmas.{crowded_by, none_ended, one_more_ended}
+use Rattle.log_connections.specs.Sink.{IsCrowded}
 use Rattle.log_connections.proofs.log.Log.end_crowded.Goals as goal
 
 pub loop-over-init : goal.loop-over-init
 loop-over-init g c = record {
-  ended = none_ended IsOpen c.args.self.now.connections.live (g.S.Sink.received c.args.sink.now);
+  ended = none_ended (IsCrowded c.args.self.now.connections c.args.self.now.memory) c.args.self.now.connections.live (g.S.Sink.received c.args.sink.now);
   accounted = λ h. h;
   memory = refl;
   sound = λ h. h;
@@ -17,10 +17,13 @@ loop-over-preserved g c =
     rw c.in_ok-end_connection.ensures.same
     (record {
       ended =
-          one_more_ended IsOpen c.args.self.now.connections.live c.loop-over.self.connections.live
+          one_more_ended (IsCrowded c.args.self.now.connections c.args.self.now.memory) c.args.self.now.connections.live c.loop-over.self.connections.live
           c.take_crowded.new.self.connections.live last.0 c.in-Some.over.value
           (g.S.Sink.received c.args.sink.now) (g.S.Sink.received c.loop-over.sink)
-          (g.S.Sink.received c.end_connection.new.sink) c.loop-over.invariant.ended tt last.1
+          (g.S.Sink.received c.end_connection.new.sink) c.loop-over.invariant.ended
+          (crowded_by c.args.self.now.connections c.loop-over.self.connections
+          c.loop-over.self.memory c.args.self.now.memory last.0 c.loop-over.invariant.memory
+          c.loop-over.invariant.accounted last.2) last.1
           c.in_ok-end_connection.ensures.received;
       accounted = λ h. c.in_ok-over.ensures.accounted (c.loop-over.invariant.accounted h);
       memory = c.in_ok-over.ensures.memory ∙ c.loop-over.invariant.memory;

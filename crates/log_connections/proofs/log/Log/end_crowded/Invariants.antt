@@ -1,12 +1,12 @@
 use Rattle.std.specs.Prelude.{◌≡◌, true, length}
 use Rattle.connections.specs.Memory.{IsAccounted}
-use Rattle.log_connections.specs.Sink.{IsOpen, PassesEnded}
+use Rattle.log_connections.specs.Sink.{IsCrowded, PassesEnded}
 use Rattle.log_connections.proofs.log.Log.end_crowded.Given as goal
 
 -- The sink received those that ended so far, and is sound.
 abbrev pub invariant-loop-over : goal.invariant-loop-over
 invariant-loop-over g l = record {
-  ended : PassesEnded IsOpen l.initial.self.connections.live l.self.connections.live
+  ended : PassesEnded (IsCrowded l.initial.self.connections l.initial.self.memory) l.initial.self.connections.live l.self.connections.live
       (g.S.Sink.received l.initial.sink) (g.S.Sink.received l.sink);
   accounted : IsAccounted l.initial.self.connections → IsAccounted l.self.connections;
   memory : l.self.memory ≡ l.initial.self.memory;

@@ -1,3 +1,4 @@
+use Rattle.std.proofs.Common.{refl, ◌∙◌}
 use Rattle.log_connections.proofs.SinkLemmas.{none_ended, one_more_ended}
 use Rattle.log_connections.specs.Sink.{IsIdle}
 use Rattle.log_connections.proofs.log.Log.end_idle.Goals as goal
@@ -5,6 +6,7 @@ use Rattle.log_connections.proofs.log.Log.end_idle.Goals as goal
 pub loop-over-init : goal.loop-over-init
 loop-over-init g c = record {
   ended = none_ended (IsIdle c.args.time) c.args.self.now.connections.live (g.S.Sink.received c.args.sink.now);
+  memory = refl;
   sound = λ h. h;
 }
 
@@ -19,5 +21,6 @@ loop-over-preserved g c =
           (g.S.Sink.received c.args.sink.now) (g.S.Sink.received c.loop-over.sink)
           (g.S.Sink.received c.end_connection.new.sink) c.loop-over.invariant.ended last.2 last.1
           c.in_ok-end_connection.ensures.received;
+      memory = c.in_ok-over.ensures.memory ∙ c.loop-over.invariant.memory;
       sound = λ h. c.in_ok-end_connection.ensures.sound (c.loop-over.invariant.sound h);
     })

@@ -7,6 +7,7 @@ abbrev pub invariant-loop-over : goal.invariant-loop-over
 invariant-loop-over g l = record {
   ended : PassesEnded (IsIdle l.fn.time) l.initial.self.connections.live l.self.connections.live
       (g.S.Sink.received l.initial.sink) (g.S.Sink.received l.sink);
+  memory : l.self.memory ≡ l.initial.self.memory;
   sound : g.S.Sink.is_sound l.initial.sink ≡ true → g.S.Sink.is_sound l.sink ≡ true;
 }
 

@@ -1,0 +1,28 @@
+use Rattle.std.proofs.Common.{refl}
+use Rattle.arrivals.specs.Arrival.{five_tuple_in}
+use Rattle.connections.specs.Table.{at}
+use Rattle.log_connections.proofs.PacketLemmas.{lent_none, lent_same, lent_to}
+use Rattle.log_connections.proofs.SinkLemmas.{adds_none}
+use Rattle.log_connections.proofs.log.Log.pass_pieces.Goals as goal
+
+pub returns-then-not-passes_pieces-clause-received : goal.returns-then-not-passes_pieces-clause-received
+returns-then-not-passes_pieces-clause-received g c = adds_none (g.S.Sink.received c.args.sink.now)
+
+pub returns-then-not-passes_pieces-clause-lent : goal.returns-then-not-passes_pieces-clause-lent
+returns-then-not-passes_pieces-clause-lent g c =
+    let e = five_tuple_in c.args.arrival.now in
+    lent_same e (at e c.args.self.now.connections.live) c.args.self.now.connections refl
+
+pub returns-in-Some-clause-lent : goal.returns-in-Some-clause-lent
+returns-in-Some-clause-lent g c =
+    rw c.between.ensures
+    (lent_to (five_tuple_in c.args.arrival.now) c.args.self.now.connections c.in-Some.open.now
+    c.hand_pieces.new.open (rw c.between.ensures at c.in-Some.ensures.value))
+
+pub returns-in-None-clause-received : goal.returns-in-None-clause-received
+returns-in-None-clause-received g c = adds_none (g.S.Sink.received c.args.sink.now)
+
+pub returns-in-None-clause-lent : goal.returns-in-None-clause-lent
+returns-in-None-clause-lent g c =
+    lent_none (five_tuple_in c.args.arrival.now) c.args.self.now.connections
+    c.args.self.now.connections (rw c.between.ensures at c.in-None.ensures.value) refl

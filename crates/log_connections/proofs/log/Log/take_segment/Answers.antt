@@ -1,0 +1,19 @@
+use Rattle.std.proofs.lemmas.Result.{IfOk-weaker}
+use Rattle.connections.specs.Segment.{five_tuple_of}
+use Rattle.log_connections.proofs.LogLemmas.{takes_in}
+use Rattle.log_connections.proofs.OtherLemmas.{keeps_then}
+use Rattle.log_connections.proofs.log.Log.take_segment.Goals as goal
+
+pub returns-clause-taken : goal.returns-clause-taken
+returns-clause-taken g c =
+    IfOk-weaker c.end_analyzed.result _ _
+    (λ over ends. takes_in c.in_ok-heard.heard c.args.segment.now c.args.self.now.connections
+    c.analyze_segment.new.self.connections c.end_analyzed.new.self.connections _
+    c.in_ok-heard.ensures.belongs c.in_ok-heard.ensures.logged c.in_ok-heard.ensures.closed ends)
+    c.end_analyzed.ensures.ended
+
+pub returns-clause-others : goal.returns-clause-others
+returns-clause-others g c =
+    keeps_then (five_tuple_of c.args.segment.now) c.args.self.now.connections.live
+    c.analyze_segment.new.self.connections.live c.end_analyzed.new.self.connections.live
+    c.analyze_segment.ensures.others c.end_analyzed.ensures.others

@@ -1,0 +1,53 @@
+-- How a connection that is over counts.
+use Rattle.std.specs.Prelude.{◌≡◌, Bool, true, false, ◌||◌}
+use Rattle.arrivals.specs.Counts.{one_more}
+use Rattle.arrivals.specs.declared.counts.Counts.{Counts}
+use Rattle.connections.specs.Stream.{lacks}
+use Rattle.connections.specs.declared.connection.Connection.{Connection}
+use Rattle.connections.specs.declared.connection.Side.TheVariants.{Originator, Responder}
+use Rattle.connections.specs.declared.five_tuple.Protocol.{Protocol}
+use Rattle.connections.specs.declared.five_tuple.Protocol.TheVariants.{Tcp, Udp}
+use Rattle.tls_flow.specs.declared.state.Outcome.{Outcome}
+use Rattle.tls_flow.specs.declared.state.Outcome.TheVariants as outcome
+use Rattle.log_connections.specs.Accessors.{HasOutcome, LacksFront}
+use Rattle.log_connections.specs.Analysis.{IsSpokenBy, direction_of}
+use Rattle.log_connections.specs.declared.analysis.TlsAnalysis.{TlsAnalysis}
+
+abbrev pub with_protocol : Protocol → Counts → Counts
+with_protocol Tcp c = record c { tls = one_more c.tls }
+with_protocol Udp c = record c { dtls = one_more c.dtls }
+
+-- A handshake that isn't successful counts by its outcome.
+abbrev pub with_outcome : Outcome → Counts → Counts
+with_outcome outcome.BrokenOff c = record c { broken_off = one_more c.broken_off }
+with_outcome outcome.Waiting c = record c { waiting = one_more c.waiting }
+with_outcome outcome.Unknown c = record c { unknown = one_more c.unknown }
+with_outcome outcome.NoHandshake c = record c { no_handshake = one_more c.no_handshake }
+with_outcome _ c = c
+
+abbrev pub with_gap : Bool → Counts → Counts
+with_gap true c = record c { gaps = one_more c.gaps }
+with_gap false c = c
+
+module _ {K : Type 0} where
+  -- Bytes of one of its streams are missing, or the first messages of a side.
+  pub record HasGap (b : Bool) (c : Connection (TlsAnalysis K)) : Type 0 where
+    pub one : Bool
+    pub other : Bool
+    pub of_originator :
+        LacksFront one (direction_of c.attachment.is_turned Originator) c.attachment.said
+    pub of_responder :
+        LacksFront other (direction_of c.attachment.is_turned Responder) c.attachment.said
+    pub is : b ≡ (lacks c.from_originator c.from_originator.reading
+        || (lacks c.from_responder c.from_responder.reading || (one || other)))
+
+  -- It counts by its protocol, its outcome and its gaps, or as one that speaks neither TLS nor DTLS.
+  pub data IsCounted (c : Connection (TlsAnalysis K)) (old new : Counts) : Type 0 where
+    speaks :
+        (o : Outcome) (gap : Bool) → IsSpokenBy true c.attachment.is_turned c.attachment.said
+        → HasOutcome o c.attachment.said → HasGap gap c
+        → new ≡ with_gap gap (with_outcome o (with_protocol c.protocol old)) → IsCounted c old new
+    speaks_none :
+        IsSpokenBy false c.attachment.is_turned c.attachment.said
+        → new ≡ record old { other_connections = one_more old.other_connections }
+        → IsCounted c old new
