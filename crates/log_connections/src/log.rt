@@ -267,19 +267,20 @@ impl<K: PieceCollector> Log<K> {
     {
         self.is_unsettled = false;
         let over = self.analyze_arrival(arrival)?;
-        self.settle(&arrival.between());
+        self.settle(arrival);
         Ok(over)
     }
 
-    /// Updates the memory that is accounted for a connection, if that may have changed.
-    fn settle(&mut self, five_tuple: &FiveTuple)
-        ensures settled { Settles five_tuple.now self.old.connections self.new.connections }
+    /// Updates the memory that is accounted for an arrival's connection, if that may have changed.
+    fn settle(&mut self, arrival: &Arrival<'_>)
+        ensures settled { Settles (five_tuple_in arrival.now) self.old.connections
+            self.new.connections }
         ensures memory { self.new.memory ≡ self.old.memory }
     {
         if !self.is_unsettled {
             return;
         }
-        self.connections.settle(five_tuple);
+        self.connections.settle(&arrival.between());
     }
 
     /// Adds an arrival to its connection and analyzes it, and notes whether the accounted memory

@@ -6,7 +6,7 @@ pub returns-clause-accepted : goal.returns-clause-accepted
 returns-clause-accepted g c = record {
   mid = c.analyze_arrival.new.self.connections;
   takes = c.in_ok-over.ensures.taken;
-  settles = rw c.between.ensures at c.settle.ensures.settled;
+  settles = c.settle.ensures.settled;
 }
 
 pub returns-clause-others : goal.returns-clause-others
@@ -15,5 +15,4 @@ returns-clause-others g c =
     let mid = c.analyze_arrival.new.self.connections in
     keeps_then e c.args.self.now.connections.live mid.live c.settle.new.self.connections.live
     c.analyze_arrival.ensures.others
-    (keeps_settled e mid c.settle.new.self.connections
-    (rw c.between.ensures at c.settle.ensures.settled))
+    (keeps_settled e mid c.settle.new.self.connections c.settle.ensures.settled)
