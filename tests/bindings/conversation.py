@@ -2,8 +2,8 @@
 rows, however the bytes are cut. And conversations that follow handshakes of OpenSSL's between two
 sockets: conversation.py [PROGRAM..]
 
-Each PROGRAM takes the numbers of two sockets, and prints what it made of the conversation: those of
-tests/bindings/relay.c and relay.rs."""
+Each PROGRAM relays two sockets, whose file descriptors are its arguments, and prints the outcome:
+bindings/c/relay.c and bindings/rust/examples/relay.rs."""
 
 import doctest
 import functools

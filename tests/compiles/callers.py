@@ -15,7 +15,7 @@ from tests.support import kept
 TOP = kept.TOP
 STANDS_ON = (
     "layouts tls_ext tls_parser tls_flow tls_places tls_stream dtls_stream x509 wispuddera"
-    " tls_analyzer hex"
+    " tls_observer dtls_analyzer hex"
 )
 
 

@@ -1,9 +1,16 @@
 #!/usr/bin/env -S python3 -B
 """Lines of logs for the tests of the report: stored, made and hostile ones.
 
-tests/report/report_lines.py COUNT           prints COUNT made lines: three days of a fictional network
-tests/report/report_lines.py COUNT distinct  with another name, address and certificate in
-each second line
+    tests/report/report_lines.py COUNT            prints COUNT made lines: three days of a
+                                                  fictional network
+    tests/report/report_lines.py COUNT distinct   with another name, address and certificate in
+                                                  each second line
+
+docs/report.png is made by these commands, with the options of `Browser` in tests/report/run:
+
+    tests/report/report_lines.py 20000 | ./tlslog-report --capture office.pcap - > page.html
+    chromium --headless --window-size=1280,2200 --screenshot=page.png page.html
+    pngquant --speed 1 --strip --nofs --output docs/report.png 256 page.png
 """
 
 from __future__ import annotations

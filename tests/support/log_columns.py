@@ -99,7 +99,8 @@ def fields(blocks: str) -> list[Column]:
 
 
 def tables() -> dict[str, list[Column]]:
-    """FIELDS of a connection, PARTS of a message, DETAILS of a certificate, each by its name."""
+    """The tables by name: FIELDS of a connection, MESSAGE_FIELDS of a message, and
+    CERTIFICATE_FIELDS of a certificate."""
     found = {"FIELDS": fields(BLOCKS.findall(FIELDS.read_text())[0])}
     found |= {name: columns(body) for name, body in TABLE.findall(COLUMNS.read_text())}
     for table in found.values():

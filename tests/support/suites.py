@@ -20,14 +20,14 @@ TOP = kept.TOP
 TESTS = TOP / "tests"
 # The crates that the suites use.
 PROGRAMS_STAND_ON = (
-    "layouts tls_base tls_ext tls_hs raw_records dtls_records tls_records tls_parser tls_states"
+    "layouts tls_base tls_key_exchange tls_ext tls_hs tls_hs_writer raw_records dtls_records tls_records tls_parser tls_states"
     " tls_stream tls_flow dtls_stream wispuddera hex memchr"
 )
 TESTS_STAND_ON = (
-    "segments layouts tls_base tls_ext tls_hs raw_records dtls_records tls_records tls_parser"
+    "segments layouts tls_base tls_key_exchange tls_ext tls_hs tls_hs_writer raw_records dtls_records tls_records tls_parser"
     " tls_flow tls_detection tls_stream ssl2_hello capture tunnels ip_fragments der x509 x509_text x509_places dtls_stream"
-    " packets connections connection_ids tls_summary tls_fingerprints tls_analyzer tls_json"
-    " wispuddera hex sha2 serde_json tls_states tls_places memchr"
+    " packets connections connection_ids tls_summary tls_fingerprints tls_observer dtls_analyzer tls_analyzer tls_json"
+    " wispuddera hex sha2 serde_json tls_states tls_places memchr arrivals log_connections log_runs"
 )
 # The most calls that a reader of `view` gets, and one less; and in their place so many as are made
 # in a test's time where nothing is proved.

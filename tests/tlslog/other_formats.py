@@ -413,9 +413,9 @@ def suricata(ask: Ask, files: list[Path]) -> int:
             wanted,
         )
     for words, told in [
-        (["--fields", "ts"], "--fields doesn't go with"),
-        (["--messages"], "neither --messages"),
-        (["--certificates"], "nor --certificates"),
+        (["--fields", "ts"], "--fields can't be combined with"),
+        (["--messages"], "it can't be combined with --messages"),
+        (["--certificates"], "it can't be combined with --messages or --certificates"),
     ]:
         status, text, error = ask(["--format", "suricata", *words, *files])
         want((status, text) == (2, "") and told in error, "suricata", *words, status, error)

@@ -178,9 +178,9 @@ def cases(some: bytes, file: Path) -> Iterator[Case]:
     for option, tip in OTHERS_OPTIONS.items():
         yield Case(f"the option {option}", [option, file], 2, f"tip: {tip}")
     suricata = ["--format", "suricata"]
-    message = "--fields doesn't go with --format suricata"
+    message = "--fields can't be combined with --format suricata"
     yield Case("fields for Suricata", [*suricata, "--fields", "ts"], 2, message)
-    message = "neither --messages nor --certificates"
+    message = "prints connections: it can't be combined with --messages or --certificates"
     yield Case("messages for Suricata", [*suricata, "--messages"], 2, message)
     for text in NO_PARTS:
         yield Case(f"part {text}", ["--part", text, file], 2, f"--part {text}: expected K/N")
@@ -189,7 +189,7 @@ def cases(some: bytes, file: Path) -> Iterator[Case]:
         yield Case(f"memory {text}", ["--memory", text, file], 2, message)
     for text in SIZES:
         yield Case(f"memory {text}", ["--memory", text, file], 0, "")
-    message = "--messages and --certificates don't go together"
+    message = "--messages and --certificates can't be combined"
     yield Case("messages and certificates", ["--messages", "--certificates"], 2, message)
     yield Case("help", ["--help"], 0, "")
     for name, (by, start) in COMPRESSED.items():

@@ -105,9 +105,9 @@ def check(ask: Ask, files: list[Path]) -> int:
 def refused(ask: Ask, name: str, files: list[Path]) -> None:
     """A format with fixed fields can't be combined with these options."""
     for words, told in [
-        (["--fields", "ts"], f"--fields doesn't go with --format {name}"),
-        (["--messages"], "neither --messages"),
-        (["--certificates"], "nor --certificates"),
+        (["--fields", "ts"], f"--fields can't be combined with --format {name}"),
+        (["--messages"], "it can't be combined with --messages"),
+        (["--certificates"], "it can't be combined with --messages or --certificates"),
     ]:
         status, text, error = ask(["--format", name, *words, *files])
         want((status, text) == (2, "") and told in error, name, *words, status, error)

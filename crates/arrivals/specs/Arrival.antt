@@ -104,7 +104,7 @@ counted_as checksums.Auto sum.Right = checksum.Right
 counted_as checksums.Auto sum.Partial = checksum.Partial
 counted_as checksums.Auto sum.Wrong = checksum.Wrong
 
--- Without a part, all connections are logged.
+-- Whether the connection between these ends is logged: it falls to the part, or no part was chosen.
 abbrev pub is_logged : Option Part → Protocol → End → End → Bool
 is_logged None protocol one other = true
 is_logged (Some part) protocol one other = falls_to protocol one other part

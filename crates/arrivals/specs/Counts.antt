@@ -1,5 +1,6 @@
 -- What is counted.
-use Rattle.std.specs.Prelude.{◌≡◌, ℕ, ◌+◌, ◌-◌, ◌^◌, ◌||◌, Bool, true, false, not, nat_lt, min, if◌then◌else◌, Ok, Err, [], replicate}
+use Rattle.std.specs.Prelude.{ℕ, ◌+◌, ◌-◌, ◌^◌, ◌==◌, ◌||◌, Bool, true, false, not, nat_lt, min, if◌then◌else◌, Option, Some, None, Ok, Err, [], get_or, replicate, set}
+use Rattle.std.specs.List.{position_from}
 use Rattle.layouts.specs.Meaning.{Answer, Broken, Lacks}
 use Rattle.layouts.specs.Reading.{reading}
 use Rattle.layouts.specs.contracts.result.ErrorKindPartialEq.TheImpl as kind_eq
@@ -28,6 +29,23 @@ is_unknown (Ok x) = false
 
 abbrev pub is_supported : ℕ → Bool
 is_supported link_type = not (is_unknown (reading (carried link_type) []))
+
+-- A row counts the packets of this link type, or is unused.
+abbrev pub is_row_for : ℕ → ℕ × ℕ → Bool
+is_row_for link_type row = row.1 == 0 || row.0 == link_type
+
+abbrev pub row_of : ℕ → OtherLinks → Option ℕ
+row_of link_type l = position_from (is_row_for link_type) 0 l.rows
+
+-- The row that counts a packet of this link type: none if it is supported, or if the rows are used
+-- for others.
+abbrev pub row_for : ℕ → OtherLinks → Option ℕ
+row_for link_type l = if is_supported link_type then None else row_of link_type l
+
+abbrev pub with_link_at : Option ℕ → ℕ → OtherLinks → OtherLinks
+with_link_at None link_type l = l
+with_link_at (Some i) link_type l =
+    record l { rows = set l.rows i (link_type, one_more (get_or l.rows i (0, 0)).1) }
 
 -- Nothing was read.
 abbrev pub nothing_counted : Counts
@@ -73,10 +91,15 @@ with_deeper c = record c { in_too_many_tunnels = one_more c.in_too_many_tunnels 
 abbrev pub with_other_part : Counts → Counts
 with_other_part c = record c { other_parts = one_more c.other_parts }
 
--- A packet that can't be parsed is counted as such, or by its link type if that isn't supported.
-pub record CountsUnread (link_type : ℕ) (old new : Counts) : Type 0 where
-  pub same : new ≡ record old { other_links = new.other_links; unread = new.unread }
-  pub unread : is_supported link_type ≡ true → new ≡ with_unread old
+-- A packet that can't be parsed is counted in its link type's row, or without one as unread.
+abbrev pub with_unread_at : Option ℕ → ℕ → Counts → Counts
+with_unread_at None link_type c = with_unread c
+with_unread_at (Some i) link_type c =
+    record c { other_links = with_link_at (Some i) link_type c.other_links }
+
+abbrev pub with_unread_packet : ℕ → Counts → Counts
+with_unread_packet link_type c =
+    with_unread_at (row_for link_type c.other_links) link_type c
 
 -- A refused fragment is counted by the reason.
 abbrev pub with_refusal : FragmentRefusal → Counts → Counts

@@ -36,7 +36,7 @@ pub record JoinsOne (time : ℕ) (tunnels : Tunnels) (f : IpFragment) (old new :
     counts = with_refused said old.counts;
   }
 
--- Without memory it is left out.
+-- A fragment for which there is no memory is dropped.
 pub record LeavesOutOne (time : ℕ) (f : IpFragment) (old new : ArrivalReader) : Type 0 where
   pub leaves : LeavesOut time f old.fragments new.fragments
   pub same : new ≡ record old { fragments = new.fragments }
@@ -49,16 +49,18 @@ JoinsFound time None old new whole =
 JoinsFound time (Some x) old new whole =
     (f : IpFragment) × (view_fragment f ≡ x) × JoinsOne time old.tunnels f old new whole
 
--- It is, if the last content was a fragment. That is no longer noted then.
+-- The last packet's fragment is joined, if it had one. `is_cut` is false afterwards.
 abbrev pub Joins : Bool → ℕ → Option Fragment → ArrivalReader → ArrivalReader
     → Option CompletedDatagram → Type 0
 Joins false time found old new whole = (whole ≡ None) × (new ≡ record old { is_cut = false })
-Joins true time found old new whole = JoinsFound time found (record old { is_cut = false }) new whole
+Joins true time found old new whole =
+    JoinsFound time found (record old { is_cut = false }) new whole
 
 abbrev pub LeavesOutFound : ℕ → Option Fragment → ArrivalReader → ArrivalReader → Type 0
 LeavesOutFound time None old new = ⊥
 LeavesOutFound time (Some x) old new =
-    (f : IpFragment) × (view_fragment f ≡ x) × LeavesOutOne time f (record old { is_cut = false }) new
+    (f : IpFragment) × (view_fragment f ≡ x)
+    × LeavesOutOne time f (record old { is_cut = false }) new
 
 -- A reassembled datagram; none if its content is malformed.
 abbrev pub datagram_by : Answer Datagram → Option Datagram

@@ -18,7 +18,7 @@ use Rattle.tunnels.specs.Tunnel.{listed}
 use Rattle.tunnels.specs.Walk.{Deeper, Held, Inside, Other, Unread, Unwrapped, unwrapped}
 use Rattle.tunnels.specs.declared.tunnel.Tunnels.{Tunnels}
 use Rattle.arrivals.specs.Arrival.{IsAddress, counted_as, is_logged, is_syn, options_in}
-use Rattle.arrivals.specs.Counts.{nothing_counted, CountsUnread, with_deeper, with_other_part, with_other_protocol, with_packet_counted}
+use Rattle.arrivals.specs.Counts.{nothing_counted, with_deeper, with_other_part, with_other_protocol, with_packet_counted, with_unread_packet}
 use Rattle.arrivals.specs.declared.arrival.Arrival.{Arrival}
 use Rattle.arrivals.specs.declared.arrival.Arrival.TheVariants as arrival
 use Rattle.arrivals.specs.declared.arrival.Checksums.{Checksums}
@@ -55,7 +55,7 @@ pub record IsSegment (checked : Checksums) (at : ℕ) (d : Datagram) (t : TcpHea
   pub checksum : s.checksum ≡ counted_as checked (checksum_of d)
   pub payload : s.payload.now ≡ t.payload
 
--- So has a UDP datagram.
+-- A datagram of UDP: its time, ends, checksum and payload are the packet's.
 pub record IsDatagram (checked : Checksums) (at : ℕ) (d : Datagram) (u : UserDatagram)
     (g : UdpArrival) : Type 0 where
   pub time : g.time ≡ at
@@ -117,8 +117,7 @@ ReadsInside p (Held d) old new a = ReadsContent p d d.content old new a
 ReadsInside p Other old new a =
     (a ≡ None) × (new ≡ record old { counts = with_other_protocol old.counts })
 ReadsInside p Unread old new a =
-    (a ≡ None) × (CountsUnread p.link_type old.counts new.counts
-    × (new ≡ record old { counts = new.counts }))
+    (a ≡ None) × (new ≡ record old { counts = with_unread_packet p.link_type old.counts })
 ReadsInside p Deeper old new a =
     (a ≡ None) × (new ≡ record old { counts = with_deeper old.counts })
 

@@ -1,6 +1,6 @@
 //! Counts of what was read and found, and of what was left out.
 ghost use Rattle.std.specs.Prelude.{◌≡◌, ◌∷◌, [], map};
-ghost use Rattle.arrivals.specs.Counts.{nothing_counted, one_more, unexplained as unexplained_in, with_refusal, CountsUnread};
+ghost use Rattle.arrivals.specs.Counts.{nothing_counted, one_more, unexplained as unexplained_in, with_refusal, with_unread_packet};
 
 use crate::links::{LinkName, OtherLinks};
 use ip_fragments::FragmentRefusal;
@@ -151,7 +151,7 @@ impl Counts {
 
     /// Counts a packet that can't be parsed, by its link type if that is unsupported.
     pub(crate) fn add_unread(&mut self, link_type: u16)
-        ensures { CountsUnread link_type self.old self.new }
+        ensures { self.new ≡ with_unread_packet link_type self.old }
     {
         if !self.other_links.add(link_type) {
             add_one(&mut self.unread);

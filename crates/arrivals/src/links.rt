@@ -1,8 +1,7 @@
 //! Unsupported link types in a capture.
-ghost use Rattle.std.specs.Prelude.{◌≡◌, true, false};
-ghost use Rattle.arrivals.specs.Counts.{is_supported, no_links};
+ghost use Rattle.std.specs.Prelude.{◌≡◌, ◌<◌, length, is_some, IfSome};
+ghost use Rattle.arrivals.specs.Counts.{is_supported, no_links, row_for, row_of as row_in, with_link_at};
 
-use crate::counts::add_one;
 use capture::parse_link;
 use layouts::{Err, ErrorKind};
 use std::fmt::{self, Display, Formatter};
@@ -87,22 +86,37 @@ impl OtherLinks {
         }
     }
 
+    /// Returns the row of a link type, or else the first unused one; `None` if all are used.
+    fn row_of(&self, link_type: u16) -> Option<usize>
+        ensures is { result ≡ row_in link_type self.now }
+        ensures within { IfSome result (λ place. place < length self.now.rows) }
+    {
+        for place in 0..MOST {
+            let (kind, count) = self.rows[place];
+            if count == 0 || kind == link_type {
+                return Some(place);
+            }
+        }
+        None
+    }
+
     /// Counts a packet of this link type. Returns false if the type is supported, or there is no
     /// room for another one.
     pub(crate) fn add(&mut self, link_type: u16) -> bool
-        ensures { is_supported link_type ≡ true → (result ≡ false) × (self.new ≡ self.old) }
+        ensures added { result ≡ is_some (row_for link_type self.old) }
+        ensures rows { self.new ≡ with_link_at (row_for link_type self.old) link_type self.old }
     {
         if is_read(link_type) {
             return false;
         }
-        for row in self.rows.iter_mut() {
-            if row.1 == 0 || row.0 == link_type {
-                row.0 = link_type;
-                add_one(&mut row.1);
-                return true;
+        match self.row_of(link_type) {
+            Some(place) => {
+                let (_, count) = self.rows[place];
+                self.rows[place] = (link_type, count.saturating_add(1));
+                true
             }
+            None => false,
         }
-        false
     }
 
     /// Returns each link type with its packet count. A row without packets is unused.

@@ -24,7 +24,7 @@ ordered_bytes p first second =
     ++ port_bytes first.port
     ++ port_bytes second.port
 
--- It is the same for both directions.
+-- The hashed bytes, the same for both directions.
 abbrev pub community_bytes : Protocol → End → End → List ℕ
 community_bytes p a b = if is_first a b then ordered_bytes p a b else ordered_bytes p b a
 

@@ -44,8 +44,8 @@ originator_of s = if answers s then s.destination else s.source
 abbrev pub responder_of : Segment → End
 responder_of s = if answers s then s.source else s.destination
 
--- Where the stream of a segment's sender begins if nothing of it came before: behind the SYN, or
--- else at the later of the receiver y's acknowledgement and the segment's first number.
+-- The first number of the sender's stream, if nothing of it came before: after the SYN, or else the
+-- later of the acknowledgement of the receiver y and the segment's first number.
 abbrev pub start_without_syn : Option ℕ → Segment → Option ℕ
 start_without_syn None s = if begins_stream s then Some (first_of s) else None
 start_without_syn (Some n) s = Some (later (Some n) (first_of s))
@@ -53,8 +53,8 @@ start_without_syn (Some n) s = Some (later (Some n) (first_of s))
 abbrev pub start_of : Host → Segment → Option ℕ
 start_of y s = if begins s then Some (first_of s) else start_without_syn y.acknowledged s
 
--- The stream when a segment is added: it has begun, and bytes that its receiver y acknowledged
--- aren't kept any longer.
+-- The stream to which a segment is added: it has begun, and no longer has the bytes that the
+-- receiver y acknowledged.
 abbrev pub begun_for : Host → Segment → Stream → Stream
 begun_for y s t = forgetting y.acknowledged (begun_at (start_of y s) t)
 
@@ -82,7 +82,7 @@ adds_nothing judgement.Taken s = false
 adds_nothing (judgement.Waiting r) s = false
 adds_nothing (judgement.Dropped r) s = false
 
--- Its receiver takes it or already has it.
+-- The receiver accepts the segment or already has it.
 abbrev pub IsKept : Judgement → Type 0
 IsKept judgement.Taken = ⊤
 IsKept judgement.Again = ⊤
@@ -107,7 +107,7 @@ abbrev pub last_of : Segment → Option Segment → Segment
 last_of first None = first
 last_of first (Some answer) = answer
 
--- It shows that a connection began with these segments.
+-- A segment shows that a connection began with these segments: it follows the SYN, or the SYN-ACK.
 abbrev pub Shows : Segment → Beginning → Type 0
 Shows s b =
     (confirms s (header_of (last_of b.first b.answer)) ≡ true)
@@ -156,14 +156,14 @@ is_news judgement.Again x y s = not (begins s) && not (is_known x y s)
 is_news (judgement.Waiting r) x y s = false
 is_news (judgement.Dropped r) x y s = false
 
--- The receiver takes the segment or already has it, and nothing has to be done first.
+-- The receiver accepts the segment or already has it.
 abbrev pub is_kept : Judgement → Bool
 is_kept judgement.Taken = true
 is_kept judgement.Again = true
 is_kept (judgement.Waiting r) = false
 is_kept (judgement.Dropped r) = false
 
--- The receiver takes it.
+-- The receiver accepts the segment.
 abbrev pub is_taken : Judgement → Bool
 is_taken judgement.Taken = true
 is_taken judgement.Again = false
@@ -186,7 +186,7 @@ abbrev pub lets_in : Verdict → Bool
 lets_in v =
     is_kept v.judgement && (not v.begins_another && (not v.tells && not v.shows_damage))
 
--- What becomes of a pending segment that was taken out, if bytes of it are missing and if not.
+-- The outcome for a removed pending segment, if bytes of it are missing and if not.
 abbrev pub outcome_if : Bool → Kept → PendingOutcome
 outcome_if true k = outcome.Taken k
 outcome_if false k = outcome.Had
@@ -228,7 +228,7 @@ module _ {T : Type 0} where
   sent_by Originator c = c.originator_sent
   sent_by Responder c = c.responder_sent
 
-  -- A SYN of it was captured.
+  -- A SYN of the connection was captured.
   abbrev pub has_opening : Connection T → Bool
   has_opening c = is_some c.originator_host.first || is_some c.responder_host.first
 
@@ -250,7 +250,7 @@ module _ {T : Type 0} where
   abbrev pub judgement_of : Segment → Connection T → Judgement
   judgement_of s c = judgement_from (side_of c s.source) s c
 
-  -- Its numbers are far from this connection's, so that it may be another's.
+  -- The segment's numbers are far from this connection's, so it may belong to another.
   abbrev pub is_apart : Segment → Connection T → Bool
   is_apart s c =
       is_far (hosts_of s c).0.next s.sequence || is_far (hosts_of s c).1.next s.acknowledgment
@@ -385,7 +385,7 @@ module _ {T : Type 0} where
   abbrev pub belying : Segment → Connection T → Connection T
   belying s c = belying_from (side_of c s.source) (reached_at s c) s c
 
-  -- A segment that its receiver takes does so.
+  -- If its receiver accepts a segment, the pending ones that it shows to be forged are removed.
   abbrev pub heeding_if : Bool → Segment → Connection T → Connection T
   heeding_if true s c = belying s c
   heeding_if false s c = c
@@ -452,7 +452,7 @@ module _ {T : Type 0} where
   abbrev pub noting : Judgement → Segment → Connection T → Connection T
   noting j s c = noting_from (side_of c s.source) j s c
 
-  -- Its bytes are added to its sender's stream. Nothing else changes.
+  -- A segment's bytes are added to its sender's stream. Nothing else changes.
   abbrev pub PutsFrom : Side → Segment → Connection T → Connection T → Type 0
   PutsFrom Originator s old new =
       HasTaken s (begun_for old.responder_host s old.from_originator) new.from_originator
@@ -464,7 +464,7 @@ module _ {T : Type 0} where
   abbrev pub Puts : Segment → Connection T → Connection T → Type 0
   Puts s old new = PutsFrom (side_of old s.source) s old new
 
-  -- If its bytes are left out, its numbers are noted.
+  -- A segment's numbers are noted without its bytes.
   abbrev pub left_out_from : Side → Segment → Connection T → Connection T
   left_out_from Originator s c =
       record c { from_originator = noted s (begun_for c.responder_host s c.from_originator) }
@@ -474,7 +474,7 @@ module _ {T : Type 0} where
   abbrev pub without_bytes : Segment → Connection T → Connection T
   without_bytes s c = left_out_from (side_of c s.source) s c
 
-  -- It is counted, and its time noted.
+  -- A segment is counted, and its time noted.
   abbrev pub counted_from : Side → Segment → Connection T → Connection T
   counted_from Originator s c = record c {
     last_time = s.time;
@@ -515,7 +515,7 @@ module _ {T : Type 0} where
   Accepts s old new =
       PutsPart (begins s) (judgement_of s old) s (noting (judgement_of s old) s (counted s old)) new
 
-  -- Without memory its bytes are left out, and its numbers noted.
+  -- Without memory, a segment's bytes are dropped, and its numbers noted.
   abbrev pub LeavesOutPart : Bool → Judgement → Segment → Connection T → Connection T → Type 0
   LeavesOutPart true j s old new = LeavesOutSyn j s old new
   LeavesOutPart false j s old new = new ≡ without_bytes (part_by j s) old
@@ -593,7 +593,7 @@ module _ {T : Type 0} where
   abbrev pub held_by : Connection T → ℕ
   held_by c = held_in c.from_originator.reading + held_in c.from_responder.reading
 
-  -- How many packets of a side nobody took, if all of them were damaged.
+  -- How many packets of a side were damaged, if all of them were.
   abbrev pub damaged_of : Side → Connection T → ℕ
   damaged_of Originator c = plus c.originator_host.unchecked (dropped_by Originator c).packets
   damaged_of Responder c = plus c.responder_host.unchecked (dropped_by Responder c).packets

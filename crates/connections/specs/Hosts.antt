@@ -74,8 +74,8 @@ clock_behind x y s =
     || (is_ahead (first_of s) y.acknowledged || is_clock_behind 0 x.clock s.options.clock)
     then x.clock else s.options.clock
 
--- What an end's checksums are like, by its first packets. One among them that isn't wrong shows
--- that wrong ones are really wrong.
+-- Whether an end's checksums can be trusted, by its first packets: one right checksum among them
+-- shows that wrong ones mean damage.
 abbrev pub checksums_by : Option Checksum → Bool → Checksum → Checksum
 checksums_by None few c = c
 checksums_by (Some Wrong) few c = if few then c else Wrong
@@ -86,7 +86,7 @@ checksums_by (Some Refused) few c = Refused
 abbrev pub checksums_behind : Host → Checksum → Checksum
 checksums_behind x c = checksums_by x.checksums (nat_lt x.unchecked FIRST_PACKETS) c
 
--- How many of its packets had a wrong checksum, with no other among them.
+-- How many packets of an end had a wrong checksum, if all had.
 abbrev pub unchecked_by : Checksum → ℕ → ℕ
 unchecked_by Wrong n = plus_up_to 255 n 1
 unchecked_by Right n = 0
@@ -123,8 +123,8 @@ is_known_wrong (Some c) = is_wrong c
 abbrev pub may_be_damaged : Host → Bool
 may_be_damaged x = is_known_wrong x.checksums && nat_lt x.unchecked FIRST_PACKETS
 
--- Its window before a segment. Its SYN is the first that gives the window's scale (RFC 7323,
--- section 2.2).
+-- The end of a host's window before a segment. A SYN starts anew, since it sets the window's scale
+-- (RFC 7323, section 2.2).
 abbrev pub edge_before : Host → Segment → Option ℕ
 edge_before x s = if begins s then None else x.edge
 

@@ -53,8 +53,8 @@ module _ {T : Type 0} where
   is_crowded limit t = nat_lt (open_part limit) t.held
       || nat_lt (closed_count limit) (length t.closed)
 
-  -- The most memory that is accounted for a connection whose attachment takes at most M, by what was
-  -- captured of both sides and what is pending.
+  -- The most memory that is accounted for a connection whose attachment takes at most M, by what
+  -- was captured of both sides and what is pending.
   abbrev pub most_weight : (T → ℕ) → Connection T → ℕ
   most_weight M c =
       max (most_of c.originator_sent) (held_in c.from_originator.reading)

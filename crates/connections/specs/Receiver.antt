@@ -45,7 +45,7 @@ is_damaged_by Refused known y len = true
 abbrev pub is_damaged : Host → Host → Checksum → ℕ → Bool
 is_damaged x y c len = is_damaged_by c x.checksums y len
 
--- It is signed, and its sender's SYN isn't (RFC 2385, section 2).
+-- The segment is signed, and its sender's SYN isn't (RFC 2385, section 2).
 abbrev pub is_signed_apart : Host → Segment → Bool
 is_signed_apart x s = s.options.is_signed && (is_some x.first && not x.offers.is_signed)
 
@@ -81,8 +81,8 @@ is_beyond None s = false
 is_beyond (Some edge) s = if has_data s then
     not (is_behind edge (first_of s)) else is_behind (first_of s) edge
 
--- It ends beyond the window. If no window or no scale is known, it ends too far behind the in-order
--- data to be stored.
+-- The segment ends beyond the window. If no window or no scale is known: it ends too far after the
+-- in-order data to be stored.
 abbrev pub is_too_far : Option ℕ → Bool → Segment → Bool
 is_too_far None r s = false
 is_too_far (Some reached) r s = r && nat_lt HELD_LIMIT (advance (end_with_fin s) reached)
@@ -96,27 +96,27 @@ is_past None y e f s = is_too_far f.reached f.is_read s
 abbrev pub is_past_edge : Host → Host → Front → Segment → Bool
 is_past_edge x y f s = is_past x.first y.first (edge_of x y) f s
 
--- It ends before the receiver's last acknowledgement by more than a window.
+-- The segment ends more than a window before the receiver's last acknowledgement.
 abbrev pub is_far_before : Host → Host → Segment → Bool
 is_far_before x y s = is_ahead_by (max y.widest 65535) (awaited x y) (end_with_fin s)
 
--- It ends before the receiver's last acknowledgement, so the receiver has these bytes.
+-- The segment ends before the receiver's last acknowledgement, so the receiver has these bytes.
 abbrev pub is_known : Host → Host → Segment → Bool
 is_known x y s = is_ahead_by 0 (awaited x y) (end_with_fin s)
 
--- It has data after its sender's FIN, or a FIN at a later number.
+-- The segment has data after its sender's FIN, or a FIN at a later number.
 abbrev pub is_behind_fin : Option ℕ → Segment → Bool
 is_behind_fin None s = false
 is_behind_fin (Some fin) s = if has_data s then not (is_behind fin (first_of s)) else ends s
     && is_behind (behind_of s) fin
 
--- It acknowledges less than its receiver's SYN, or less than its sender acknowledged before by more
--- than a window (RFC 5961, section 5.2).
+-- The acknowledgement is below the receiver's SYN, or more than a window below the sender's earlier
+-- ones (RFC 5961, section 5.2).
 abbrev pub is_stale : Host → Host → Segment → Bool
 is_stale x y s = is_ahead_by 0 y.first s.acknowledgment
     || is_ahead_by (max x.widest 65535) x.acknowledged s.acknowledgment
 
--- It acknowledges what its receiver isn't known to have sent.
+-- The segment acknowledges bytes that the receiver isn't known to have sent.
 abbrev pub is_of_unsent : Host → Segment → Bool
 is_of_unsent y s = is_ahead s.acknowledgment y.next
 

@@ -25,11 +25,11 @@ breaks = has_flag 4
 abbrev pub acknowledges : Segment → Bool
 acknowledges = has_flag 16
 
--- It asks for a connection: SYN without ACK.
+-- A SYN without ACK, which asks for a connection.
 abbrev pub asks : Segment → Bool
 asks s = begins s && not (acknowledges s)
 
--- It is a SYN-ACK.
+-- A SYN-ACK.
 abbrev pub answers : Segment → Bool
 answers s = begins s && acknowledges s
 
@@ -38,7 +38,7 @@ answers s = begins s && acknowledges s
 abbrev pub begins_stream : Segment → Bool
 begins_stream s = begins s || nat_lt 1 (length s.payload.now)
 
--- With this checksum no receiver takes it.
+-- A checksum with which every receiver drops the packet.
 abbrev pub is_refused : Checksum → Bool
 is_refused Refused = true
 is_refused Right = false

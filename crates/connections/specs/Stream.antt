@@ -15,7 +15,7 @@ use Rattle.connections.specs.declared.stream.Reading.TheVariants.{Unbegun, Open,
 abbrev pub empty_from : ℕ → ℕ → Held
 empty_from limit first = record { first = first; limit = limit; taken = 0; cells = [] }
 
--- It begins with its first segment.
+-- A stream begins with its first segment.
 abbrev pub begun : ℕ → ℕ → Reading → Reading
 begun limit first Unbegun = Open (empty_from limit first)
 begun limit first (Open h) = Open h
@@ -77,7 +77,7 @@ next_bytes t (Open h) = up_to_urgent t.urgent (unheard_from t) (drop t.heard (ru
 next_bytes t Unbegun = []
 next_bytes t Over = []
 
--- This many more bytes are read, or all if there are fewer.
+-- How many bytes were read after n more, or after all if there are fewer.
 abbrev pub handed_on : ℕ → Stream → ℕ
 handed_on n t = plus t.heard (length (take n (next_bytes t t.reading)))
 
@@ -168,7 +168,7 @@ with_disagreeing next s Over r count = count
 abbrev pub with_more_disagreeing : ℕ → Stream → Stream
 with_more_disagreeing n t = record t { disagreeing = plus t.disagreeing n }
 
--- It is read no further. If it was read, its next byte is the next to pass on.
+-- The stream isn't read further. The next byte that it would have read is the next to skip.
 abbrev pub stopped : Stream → Reading → Stream
 stopped t (Open h) = record t { reading = Over; passing = Some (unheard_from t) }
 stopped t Unbegun = record t { reading = Over }
@@ -221,8 +221,8 @@ with_numbers s t = record t {
   fin = if ends s then Some (behind_of s) else t.fin;
 }
 
--- Its bytes are added. Those that were there already, and those that differ, are counted. The bytes
--- of a segment that ends too far behind the first missing byte are left out.
+-- A segment's bytes are added, unless it ends too far after the first missing byte. Retransmitted
+-- and differing bytes are counted.
 abbrev pub with_bytes : Segment → Reading → Stream → Stream
 with_bytes s r t = record t {
   reading = r;
@@ -290,7 +290,7 @@ abbrev pub has_come_to : Option ℕ → ℕ → Reading → Bool
 has_come_to None next r = false
 has_come_to (Some fin) next r = is_read_to fin next r
 
--- It is closed: its sender sent RST, or all bytes before its FIN came.
+-- The stream is closed: its sender sent RST, or all bytes before its FIN came.
 abbrev pub is_over : Stream → Bool
 is_over s = s.is_broken || has_come_to s.fin s.next s.reading
 

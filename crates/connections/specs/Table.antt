@@ -97,8 +97,8 @@ module _ {T : Type 0} where
       → List (FiveTuple × Connection T) → Type 0
   HasBegun IsBegun p e xs = IfSome (at e xs) (λ c. IsBegun p c.attachment)
 
-  -- So it is in an exchange that a datagram begins, or restarts: it shows that everything before it
-  -- was damaged.
+  -- The same for an exchange that a datagram begins, or restarts because it shows that everything
+  -- before it was damaged.
   abbrev pub HasBegunBy : (Protocol → T → Type 0) → Datagram → Option (Connection T)
       → List (FiveTuple × Connection T) → Type 0
   HasBegunBy IsBegun d None xs = HasBegun IsBegun Udp (five_tuple_of_datagram d) xs
@@ -110,7 +110,7 @@ module _ {T : Type 0} where
   abbrev pub with_other : FiveTuple → Connection T → Table T → Table T
   with_other e c t = record t { live = set_value (is_five_tuple e) t.live c }
 
-  -- It comes first.
+  -- The connection of this five-tuple becomes the most recently used.
   abbrev pub promoting : FiveTuple → Table T → Table T
   promoting e t = record t { live = promoted (is_five_tuple e) t.live }
 
@@ -186,7 +186,7 @@ module _ {T : Type 0} where
   abbrev pub NoneIsOver : ℕ → List (FiveTuple × Connection T) → Type 0
   NoneIsOver time xs = IfSome (last_entry xs) (λ e. ¬ IsOver time xs e.1.last_time)
 
-  -- Without memory the bytes are left out of an existing connection, and no connection begins.
+  -- Without memory, an existing connection drops the segment's bytes, and no connection begins.
   abbrev pub LeavesOutAt : Segment → Option (Connection T) → List (FiveTuple × Connection T)
       → List (FiveTuple × Connection T) → Type 0
   LeavesOutAt s None xs ys = ys ≡ xs
@@ -237,7 +237,7 @@ module _ {T : Type 0} where
   BeginsAfter d (Some c) old new = (c' : Connection T) × IsAfter d c c'
       × (new ≡ record (with_other (five_tuple_of_datagram d) c' old) { held = old.held - c.weight })
 
-  -- It counts as closed from then on.
+  -- A connection that both sides closed is removed, and remembered as closed.
   abbrev pub weight_of : Option (Connection T) → ℕ
   weight_of None = 0
   weight_of (Some c) = c.weight

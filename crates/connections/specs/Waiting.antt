@@ -93,7 +93,8 @@ taken_syn answers ks = kept_at (place_of_syn answers ks) ks
 abbrev pub without_syn : Bool → List Kept → List Kept
 without_syn answers ks = without_at (place_of_syn answers ks) ks
 
--- It counts for its reason, if it is to be counted. The data of a SYN was counted with the SYN.
+-- A removed segment counts for its reason, if it has one: the data of a SYN was counted with the
+-- SYN.
 abbrev pub counted_if : Bool → Option DropReason → Dropped → Dropped
 counted_if true (Some r) d = with_dropped r d
 counted_if true None d = d
@@ -119,8 +120,8 @@ abbrev pub with_bytes_of : List Kept → ℕ → ℕ
 with_bytes_of [] n = n
 with_bytes_of (k ∷ ks) n = with_bytes_of ks (plus n (length k.bytes))
 
--- It acknowledges what isn't known to be sent, or begins beyond the window. Part of the room is
--- reserved for others.
+-- The pending segment acknowledges what isn't known to be sent, or begins beyond the window. Part
+-- of the room is reserved for others.
 abbrev pub is_for_unsent : Option DropReason → Bool
 is_for_unsent None = false
 is_for_unsent (Some Acknowledgment) = true
@@ -164,8 +165,8 @@ covers_up_to (Some next) s = not (is_behind s.acknowledgment next)
 abbrev pub covers : AckContext → Segment → Bool
 covers known s = covers_up_to known.sent s
 
--- It acknowledges all of the pending segment, or no more than is known to be sent; or as much as
--- the receiver's window had room for, if the pending segment is sure.
+-- An acknowledgement fits a pending segment: it covers all of it, or no more than is known to be
+-- sent; or, if the segment is sure, as much as the receiver's window had room for.
 abbrev pub fits_to : Segment → AckContext → Kept → Bool
 fits_to s known k =
     covers known s
@@ -191,7 +192,7 @@ abbrev pub is_acknowledged_by : Segment → AckContext → Kept → Bool
 is_acknowledged_by s known k =
     is_within s known k && (is_of_syn k || (fits_to s known k && stands s known k))
 
--- It is adjacent to another one of the same sender.
+-- A pending segment is adjacent to another of the same sender.
 abbrev pub is_beside : Kept → Kept → Bool
 is_beside k other =
     is_end k.header.source other.header.source
@@ -215,7 +216,7 @@ is_taken_by ks s known k = is_acknowledged_by s known k && is_in_row ks s known 
 abbrev pub place_taken : Segment → AckContext → List Kept → Option ℕ
 place_taken s known ks = place_from (is_taken_by ks s known) 0 ks
 
--- It is truncated at a number, with its FIN.
+-- A pending segment, truncated at a number, without its FIN.
 abbrev pub cut_at : ℕ → Kept → Kept
 cut_at n k = if is_behind (end_of_kept k) n then record k {
   header = without_fin k.header;
@@ -229,7 +230,8 @@ cut_at_fin (Some n) k = cut_at n k
 abbrev pub cut_by : Segment → AckContext → Kept → Kept
 cut_by s known k = cut_at_fin known.fin (cut_at s.acknowledgment k)
 
--- It is taken out, truncated at the acknowledged bytes and at the other end's FIN.
+-- The pending segment that a segment acknowledges, truncated at the acknowledged bytes and at its
+-- sender's FIN.
 abbrev pub taken_out : Segment → AckContext → List Kept → Option Kept
 taken_out s known ks = option_map (cut_by s known) (kept_at (place_taken s known ks) ks)
 
@@ -267,13 +269,13 @@ is_data_of_syn_to receiver k = is_of_syn k && is_end k.header.destination receiv
 abbrev pub is_any_syn : Kept → Bool
 is_any_syn k = begins_in k.header
 
--- It is behind its sender's FIN, as far as that is known.
+-- The pending segment lies after its sender's FIN, if that is known.
 abbrev pub is_behind_fin_in : Option ℕ → Kept → Bool
 is_behind_fin_in None k = false
 is_behind_fin_in (Some fin) k = if not (length k.bytes == 0)
     then not (is_behind fin (first_of_kept k))
     else ends_in k.header && is_behind (behind_kept k) fin
 
--- Its five-tuple.
+-- The five-tuple of a pending segment.
 abbrev pub five_tuple_of_kept : Kept → FiveTuple
 five_tuple_of_kept k = five_tuple_between k.header.network Tcp k.header.source k.header.destination

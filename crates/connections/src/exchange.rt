@@ -91,7 +91,8 @@ impl<T: Attachment> Connection<T> {
         ensures taken { TakesDatagramIn datagram.now self.old self.new }
         ensures weight { self.new.weight ≡ self.old.weight }
         ensures attached { is_shown_damaged (side_of self.old datagram.now.source)
-            datagram.now.checksum self.old ≡ true → T.IsBegun self.old.protocol self.new.attachment }
+            datagram.now.checksum self.old ≡ true
+            → T.IsBegun self.old.protocol self.new.attachment }
     {
         if self.shows_damage(self.side_of(datagram.source), datagram.checksum) {
             self.restart(alloc, datagram.time);

@@ -35,7 +35,7 @@ pub struct Host {
     pub(crate) clock: Option<u32>,
     /// The sequence number of its FIN.
     pub(crate) fin: Option<u32>,
-    /// What its checksums are like: those of its first packets, or correct if one of these was.
+    /// Whether its checksums are right, by its first packets: correct if one of these was.
     pub(crate) checksums: Option<Checksum>,
     /// How many of its first packets had a wrong checksum, with no correct one among them.
     pub(crate) unchecked: u8,

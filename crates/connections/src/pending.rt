@@ -291,12 +291,12 @@ impl AckContext {
     }
 }
 
-/// What became of a pending segment.
+/// The outcome for a pending segment.
 #[derive(Drop)]
 pub enum PendingOutcome {
-    /// Its receiver took it.
+    /// The receiver accepted it.
     Taken(PendingSegment),
-    /// Its receiver got the bytes otherwise.
+    /// The receiver already had its bytes.
     Had,
 }
 

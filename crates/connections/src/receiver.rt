@@ -21,12 +21,12 @@ pub enum DropReason {
     Checksum,
     /// The segment has no ACK (RFC 9293, section 3.10.7.4, fifth).
     NoAck,
-    /// It acknowledges what was acknowledged long before (RFC 5961, section 5.2), or what the
-    /// receiver never sent.
+    /// The acknowledgement is old (RFC 5961, section 5.2), or of bytes that the receiver never
+    /// sent.
     Acknowledgment,
-    /// It is outside the receiver's window (RFC 9293, section 3.10.7.4, first).
+    /// The segment is outside the receiver's window (RFC 9293, section 3.10.7.4, first).
     Window,
-    /// Its timestamp is older than one that the receiver took (RFC 7323, section 5).
+    /// The timestamp is older than an accepted one (RFC 7323, section 5).
     Clock,
     /// It is signed, and its sender's SYN wasn't (RFC 2385, section 2).
     Signature,
@@ -41,14 +41,14 @@ pub enum DropReason {
 /// What a receiver does with a segment.
 #[derive(Clone, Copy, Debug, PartialEq, Eq)]
 pub enum Judgement {
-    /// It takes the segment.
+    /// The receiver accepts the segment.
     Taken,
     /// The segment is a retransmission or has no bytes, and the receiver takes nothing of it.
     Again,
-    /// It takes the segment if it knows more than was captured, and else drops it for this reason.
-    /// Its next acknowledgement shows which.
+    /// The receiver accepts the segment if it knows more than was captured, and else drops it for
+    /// this reason. Its next acknowledgement shows which.
     Waiting(DropReason),
-    /// It drops the segment.
+    /// The receiver drops the segment.
     Dropped(DropReason),
 }
 

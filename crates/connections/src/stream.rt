@@ -20,9 +20,9 @@ pub const KEPT_LIMIT: usize = 16_384;
 enum Reading {
     /// No segment of it came.
     Unbegun,
-    /// Its bytes are reassembled here.
+    /// The bytes are reassembled here.
     Open(TcpReassembler),
-    /// It isn't read any more.
+    /// The stream isn't read further.
     Over,
 }
 
@@ -83,8 +83,8 @@ fn count_unlike(bytes: &[u8], others: &[u8]) -> usize
     count
 }
 
-/// Returns at how many numbers a segment's byte differs from the in-order bytes in `standing`, whose
-/// first has the number `next`.
+/// Returns at how many numbers a segment's byte differs from the in-order bytes in `standing`,
+/// whose first has the number `next`.
 fn count_differing(next: u32, standing: &[u8], segment: &Segment<'_>) -> usize
     ensures { result ≡ differing_in_order next standing.now segment.now }
 {

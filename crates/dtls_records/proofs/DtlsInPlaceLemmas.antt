@@ -99,7 +99,8 @@ module _ (kind length seq offset n : ℕ) where
   by_body bytes r (Err e) = refl
 
   by_window : (a : Answer Bytes)
-      → ((a and_then in_window) and_then read_last) ≡ ((a and_then raw_last) and_then with_body_read)
+      → ((a and_then in_window) and_then read_last)
+      ≡ ((a and_then raw_last) and_then with_body_read)
   by_window (Ok w) = by_body w.0 w.1 (reading (body kind length (part length offset n)) w.0)
   by_window (Err e) = refl
 

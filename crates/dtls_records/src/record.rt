@@ -79,8 +79,8 @@ pub fn parse_dtls_record_with_header<'a>(
     i: &'a [u8],
     hdr: &DTLSRecordHeader,
 ) -> IResult<&'a [u8], Vec<DTLSMessage<'a>>>
-    ensures gives { GivesOrMemory (λ v. map view_message v.items) (record_content (view_header hdr.now))
-        i.now result }
+    ensures gives { GivesOrMemory (λ v. map view_message v.items)
+        (record_content (view_header hdr.now)) i.now result }
     ensures never_incomplete { AsksNoMore result }
 {
     match hdr.content_type {
@@ -96,7 +96,8 @@ pub fn parse_dtls_record_with_header<'a>(
 #[inline(never)]
 fn record_with_messages(alloc: Global, i: &[u8]) -> IResult<&[u8], DTLSPlaintext>
     ensures gives { GivesOrMemory view_plaintext plaintext i.now result }
-    ensures never_out_of_memory_without_raw_record { IsErr (reading raw_record i.now) → MemorySufficed result }
+    ensures never_out_of_memory_without_raw_record { IsErr (reading raw_record i.now)
+        → MemorySufficed result }
 {
     let (i, DTLSRawRecord { header, fragment }) = parse_dtls_raw_record(i)?;
     let (_, messages) = parse_dtls_record_with_header(alloc, fragment, &header)?;

@@ -245,7 +245,7 @@ abbrev pub slot_judged : Option Held → Fragment → Result Unit FragmentError
 slot_judged None f = inside f
 slot_judged (Some h) f = judged h f
 
--- It is added to the slot.
+-- A fragment is added to the slot.
 abbrev pub IsSlotAdded : Option Held → Fragment → Option Held → Type 0
 IsSlotAdded None f None = ⊥
 IsSlotAdded None f (Some n) = IsHeld f [] n

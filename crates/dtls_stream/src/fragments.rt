@@ -22,14 +22,14 @@ pub enum FragmentError {
     TooFarAhead,
     /// The whole message is longer than the limit allows.
     TooLarge,
-    /// Its message's number is another.
+    /// The fragment belongs to another message.
     OtherMessage,
     /// Its message's type differs from the first fragment's. No call returns this: the first type
     /// is kept, and the bytes are added.
     OtherType,
     /// Its message's length differs from the first fragment's.
     OtherLength,
-    /// It reaches past the end of its message.
+    /// The fragment ends after its message.
     Outside,
     /// There is no memory for its bytes.
     OutOfMemory,

@@ -39,7 +39,8 @@ impl Model for Messages {
 
     ghost view = { λ s. record { limits = s.limits; next = s.next; slots = s.slots.items } };
 
-    ghost invariant = { λ s. (length s.slots.items ≤ s.limits.ahead) × (s.next + length s.slots.items ≤ 65536) };
+    ghost invariant = { λ s. (length s.slots.items ≤ s.limits.ahead)
+        × (s.next + length s.slots.items ≤ 65536) };
 }
 
 /// Appends empty slots, up to n of them.
@@ -132,7 +133,8 @@ impl Messages {
     fn add_at(&mut self, index: usize, fragment: &Fragment) -> Result<(), FragmentError>
         requires near { index < self.old.limits.ahead }
         requires number { self.old.next + index < 65536 }
-        ensures answer { IsOrMemory result (slot_judged (slot self.old index) (view_fragment fragment.now)) }
+        ensures answer { IsOrMemory result
+            (slot_judged (slot self.old index) (view_fragment fragment.now)) }
         ensures added { OnOk result
             (IsSlotAdded (slot self.old index) (view_fragment fragment.now) (slot self.new index)) }
         ensures changed { OnOk result (IsChangedAt self.old index self.new) }
@@ -183,7 +185,8 @@ impl Messages {
 
     /// Removes and returns the next message, if it is whole. It doesn't allocate.
     pub fn take_front(&mut self) -> Option<Message>
-        ensures places { length self.new.slots + (if is_some result then 1 else 0) ≡ length self.old.slots }
+        ensures places { length self.new.slots + (if is_some result then 1 else 0)
+            ≡ length self.old.slots }
         ensures message { (l : Allowed) (h : Heard) → Stands l h self.old
             → option_map view_message result ≡ message_of (of_message h.next h.taken) }
         ensures stands { (l : Allowed) (h : Heard) → Stands l h self.old

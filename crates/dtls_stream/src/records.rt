@@ -99,7 +99,8 @@ fn tell_messages<'a>(
     ensures told { OnOk result
         (view_events events.new.items ≡ view_events events.old.items ++ map
         (λ m. event_of (view_content m)) messages.now) }
-    ensures stopped { OnErr result (AreToldInPart (map (λ m. event_of (view_content m)) messages.now)
+    ensures stopped { OnErr result
+        (AreToldInPart (map (λ m. event_of (view_content m)) messages.now)
         (view_events events.old.items) (view_events events.new.items)) }
 {
     for message in messages {

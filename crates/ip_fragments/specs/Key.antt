@@ -17,7 +17,8 @@ abbrev pub protocol_in : Address → ℕ → ℕ
 protocol_in (V4 n) protocol = protocol
 protocol_in (V6 upper lower) protocol = 0
 
--- Source, destination, identification and protocol (RFC 791, section 3.2; RFC 8200, section 4.5).
+-- A datagram's key: source, destination, identification and protocol (RFC 791, section 3.2; RFC
+-- 8200, section 4.5).
 abbrev pub key_of : IpFragment → Key
 key_of f = record {
   source = f.source;

@@ -39,7 +39,8 @@ abbrev pub weight : Table → ℕ
 weight [] = 0
 weight (e ∷ t) = e.1.weight + weight t
 
--- The table, and how many datagrams were dropped: late ones, and others for the memory of all.
+-- The table, and how many datagrams were dropped: late ones, and those evicted over the memory
+-- limit.
 pub record Reassembly : Type 0 where
   pub waiting : Table
   pub late : ℕ
@@ -50,7 +51,8 @@ pub record Reassembly : Type 0 where
 abbrev pub is_late : ℕ → Waiting → Bool
 is_late time w = nat_lt WAIT_LIMIT (time - w.since)
 
--- It is late, or all datagrams, which count `held` bytes, exceed their memory with `more` bytes.
+-- A datagram is dropped: it is late, or all of them, which hold `held` bytes, exceed their memory
+-- with `more` bytes.
 abbrev pub is_over : ℕ → ℕ → ℕ → Waiting → Bool
 is_over time more held w = is_late time w || nat_lt HELD_LIMIT (held + more)
 

@@ -47,7 +47,7 @@ weight_of f = length f.payload.now * 2 + 5120
 abbrev pub is_too_long : IpFragment → Bool
 is_too_long f = nat_lt 65535 (f.in_front + end_of f)
 
--- It isn't the last fragment, and its length isn't a multiple of 8.
+-- A fragment isn't the last, and its length isn't a multiple of 8.
 abbrev pub is_uneven : IpFragment → Bool
 is_uneven f = f.has_more && not (length f.payload.now % 8 == 0)
 

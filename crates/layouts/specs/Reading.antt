@@ -72,7 +72,7 @@ with_items (Err e) more b = ([], b)
 with_items (Ok x) more b = if nat_lt (length x.1) (length b) then
     (x.0 ∷ (more x.1).0, (more x.1).1) else ([], b)
 
--- Items up to the first that can't be read, at most n.
+-- The items of a list up to the first that can't be read, at most n.
 unfoldable pub items_at : {A : Type 0} → (Bytes → Answer A) → ℕ → Bytes → List A × Bytes
 items_at f zero b = ([], b)
 items_at f (suc n) b = with_items (f b) (items_at f n) b

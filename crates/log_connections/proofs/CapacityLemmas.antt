@@ -1,6 +1,6 @@
 -- Sums of memory are monotone.
 use Rattle.std.proofs.Common.{ℕ, ◌≤◌, arith}
-use Rattle.tls_analyzer.specs.Capacity.{plus}
+use Rattle.tls_observer.specs.Capacity.{plus}
 
 plus_more : (a b c d : ℕ) → a ≤ b → c ≤ d → plus a c ≤ plus b d
 plus_more a b c d h k = omega (arith, h, k)

@@ -7,10 +7,10 @@ use Rattle.tls_flow.specs.Table.{outcome_at}
 use Rattle.tls_flow.specs.declared.symbol.Direction.{Direction}
 use Rattle.tls_summary.specs.HandshakeSummary.{HandshakeSummary}
 use Rattle.tls_summary.specs.Told.{connection_id_length}
-use Rattle.tls_analyzer.specs.Datagrams as datagrams
-use Rattle.tls_analyzer.specs.Datagrams.{IsKnown, heard}
-use Rattle.tls_analyzer.specs.Ends.{is_13}
-use Rattle.tls_analyzer.specs.declared.datagram_analyzer.DatagramAnalyzer.{DatagramAnalyzer}
+use Rattle.dtls_analyzer.specs.Datagrams as datagrams
+use Rattle.dtls_analyzer.specs.Datagrams.{IsKnown, heard}
+use Rattle.tls_observer.specs.Ends.{is_13}
+use Rattle.dtls_analyzer.specs.declared.datagram_analyzer.DatagramAnalyzer.{DatagramAnalyzer}
 use Rattle.log_connections.specs.Analysis.{HearsDatagram, HearsDatagramIn, counted}
 use Rattle.log_connections.specs.declared.analysis.TlsAnalysis.{TlsAnalysis}
 use Rattle.log_connections.specs.declared.analysis.TransportAnalyzer.TheVariants as said

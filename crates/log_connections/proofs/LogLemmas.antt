@@ -10,7 +10,7 @@ use Rattle.connections.specs.Datagram.{five_tuple_of_datagram}
 use Rattle.connections.specs.FiveTuple.{is_five_tuple}
 use Rattle.connections.specs.Lends.{with_first}
 use Rattle.connections.specs.Segment.{begins, begins_one, five_tuple_of, header_of}
-use Rattle.connections.specs.Table.{ComesFirst, IsPut, Puts, Table, TakesDatagram, TakesSegment, at, belongs, closed_behind, ended, others, promoting, weight_of, with_other, without_if}
+use Rattle.connections.specs.Table.{IsPut, Puts, Table, TakesDatagram, TakesSegment, at, belongs, closed_behind, ended, others, promoting, weight_of, with_other, without_if}
 use Rattle.connections.specs.Waiting.{Kept}
 use Rattle.connections.specs.declared.connection.Connection.{Connection}
 use Rattle.connections.specs.declared.datagram.Datagram.{Datagram}
@@ -23,7 +23,7 @@ use Rattle.connections.specs.declared.segment.Segment.{Segment}
 use Rattle.tls_detection.specs.Front.{held_datagram}
 use Rattle.log_connections.specs.Accessors.{BeginsAnother}
 use Rattle.log_connections.specs.Analysis.{direction_of}
-use Rattle.log_connections.specs.Log.{AcceptsAt, AcceptsIf, AcceptsSegment, BeginsAnotherIn, EndsAfter, EndsClosed, HearsFrom, HearsKept, HearsPending, HearsSegment, HearsSide, Logs, LogsDatagram, TakesIf, TakesIn, is_closed_in, is_damaged_in, verdict_in}
+use Rattle.log_connections.specs.Log.{AcceptsAt, AcceptsIf, AcceptsSegment, BeginsAnotherIn, EndsAfter, EndsClosed, HearsFrom, HearsKept, HearsPending, HearsSegment, HearsSide, Logs, LogsDatagram, RefusesAt, RefusesIf, RefusesSegment, TakesIf, TakesIn, is_closed_in, is_damaged_in, verdict_in}
 use Rattle.log_connections.specs.Sink.{EndsAs}
 use Rattle.log_connections.specs.declared.analysis.TlsAnalysis.{TlsAnalysis}
 
@@ -315,6 +315,39 @@ module _ {K : Type 0} where
   accepts_told s old mid new v over is same accepts =
       subst (λ w. AcceptsAt w s old new over) (sym is)
       (subst (λ t. AcceptsAt v s t new over) same accepts)
+
+  -- Memory is refused for a segment that no other connection begins with.
+  refuses_let_in : (j : Judgement) (another tells damage : Bool) (s : Segment)
+      (old new : Table (TlsAnalysis K))
+      → (is_kept j && (not another && (not tells && not damage))) ≡ true
+      → RefusesIf damage another s old new None
+  refuses_let_in j another tells true s old new h = refl
+  refuses_let_in j false tells false s old new h = refl
+  refuses_let_in judgement.Taken true tells false s old new h = cc
+  refuses_let_in judgement.Again true tells false s old new h = cc
+  refuses_let_in (judgement.Waiting r) true tells false s old new h = cc
+  refuses_let_in (judgement.Dropped r) true tells false s old new h = cc
+
+  refuses_in : (v : Option Verdict) (s : Segment) (old new : Table (TlsAnalysis K))
+      → option_map lets_in v ≡ Some true → RefusesAt v s old new None
+  refuses_in None s old new h = refl
+  refuses_in (Some v) s old new h =
+      let is : lets_in v ≡ true = cc in
+      refuses_let_in v.judgement v.begins_another v.tells v.shows_damage s old new is
+
+  pub refuses_open : (s : Segment) (old new : Table (TlsAnalysis K))
+      (over : Option (Connection (TlsAnalysis K)))
+      → option_map lets_in (verdict_in s old) ≡ Some true → over ≡ None
+      → RefusesSegment s old new over
+  refuses_open s old new over is none =
+      subst (RefusesSegment s old new) (sym none) (refuses_in (verdict_in s old) s old new is)
+
+  pub refuses_told : (s : Segment) (old mid new : Table (TlsAnalysis K)) (v : Option Verdict)
+      (over : Option (Connection (TlsAnalysis K))) → verdict_in s old ≡ v → mid ≡ old
+      → RefusesAt v s mid new over → RefusesSegment s old new over
+  refuses_told s old mid new v over is same refuses =
+      subst (λ w. RefusesAt w s old new over) (sym is)
+      (subst (λ t. RefusesAt v s t new over) same refuses)
 
   -- A pending segment is heard.
   pub pending_heard : (e : FiveTuple) (k : Kept) (old : Table (TlsAnalysis K))

@@ -1,5 +1,5 @@
 -- Which connections stay.
-use Rattle.std.proofs.Common.{◌≡◌, refl, sym, ap, ◌∙◌, subst, Option, Some, None, List, [], ◌∷◌, Bool, true, false, ℕ, ◌+◌, ◌-◌}
+use Rattle.std.proofs.Common.{◌≡◌, refl, sym, ap, ◌∙◌, subst, Option, Some, None, List, [], ◌∷◌, Bool, true, false, ℕ, ◌-◌}
 use Rattle.std.specs.Prelude.{if◌then◌else◌, is_some, OnErr, OnOk, Result, Ok, Err}
 use Rattle.std.specs.Map.{set_value}
 use Rattle.connections.proofs.TableLemmas.{at-others, others-first, written, written_promoted}
@@ -8,12 +8,13 @@ use Rattle.connections.specs.FiveTuple.{is_five_tuple}
 use Rattle.connections.specs.Lends.{with_first}
 use Rattle.connections.specs.Memory.{IsSettled}
 use Rattle.connections.specs.Segment.{five_tuple_of}
-use Rattle.connections.specs.Table.{BeginsAfter, IsAnewAt, Replaced, Table, at, changing, changing_at, ended, others, promoting, weight_of, with_other, without_ended}
+use Rattle.connections.specs.Table.{BeginsAfter, IsAnewAt, Replaced, Table, at, changing_at, ended, others, promoting, weight_of, with_other, without_ended}
 use Rattle.connections.specs.declared.connection.Connection.{Connection}
 use Rattle.connections.specs.declared.datagram.Datagram.{Datagram}
 use Rattle.connections.specs.declared.five_tuple.FiveTuple.{FiveTuple}
 use Rattle.connections.specs.declared.segment.Segment.{Segment}
-use Rattle.log_connections.specs.Log.{KeepsOthers, Settles, settles, stays}
+use Rattle.log_connections.specs.Capacity.{most_bytes_of}
+use Rattle.log_connections.specs.Log.{KeepsOthers, Settles}
 use Rattle.log_connections.specs.declared.analysis.TlsAnalysis.{TlsAnalysis}
 
 module _ {X : Type 0} (e : FiveTuple) where
@@ -101,22 +102,18 @@ module _ {K : Type 0} (e : FiveTuple) where
   keeps_anew time (Some c) old new anew =
       subst (λ t. KeepsOthers e old.live t.live) (sym anew.2) (keeps_written e old.live anew.0)
 
-  pub keeps_settled : (old new : Table (TlsAnalysis K)) → Settles e old new
-      → KeepsOthers e old.live new.live
-  keeps_settled old new (stays same) = keeps_same e old.live new.live (ap (λ t. t.live) same)
-  keeps_settled old new (settles c weight found same) =
-      subst (λ t. KeepsOthers e old.live t.live) (sym same)
-      (keeps_written e old.live (record c { weight = weight }))
+module _ {K : Type 0} (M : K → ℕ) (e : FiveTuple) where
+  keeps_updated : (o : Option (Connection (TlsAnalysis K))) (old new : Table (TlsAnalysis K))
+      → IsSettled (most_bytes_of M) e o old new → KeepsOthers e old.live new.live
+  keeps_updated None old new same = keeps_same e old.live new.live (ap (λ t. t.live) same)
+  keeps_updated (Some c) old new is =
+      subst (λ t. KeepsOthers e old.live t.live) (sym is.1.stands)
+      (keeps_written e old.live is.0)
 
-  pub settled_as : (M : TlsAnalysis K → ℕ) (o : Option (Connection (TlsAnalysis K)))
-      (old new : Table (TlsAnalysis K)) → at e old.live ≡ o → IsSettled M e o old new
-      → Settles e old new
-  settled_as M None old new found same = stays same
-  settled_as M (Some c) old new found is =
-      settles c is.0.weight found
-      (is.1.stands ∙ ap (λ x. record (with_other e x old) {
-        held = (old.held - c.weight) + is.0.weight;
-      }) is.1.same)
+  pub keeps_settled : (due : Bool) (old new : Table (TlsAnalysis K)) → Settles M due e old new
+      → KeepsOthers e old.live new.live
+  keeps_settled false old new same = keeps_same e old.live new.live (ap (λ t. t.live) same)
+  keeps_settled true old new is = keeps_updated (at e old.live) old new is
 
 -- What a call did, whether it failed or not.
 module _ {K A E : Type 0} (e : FiveTuple) (r : Result A E)

@@ -1,16 +1,26 @@
 -- What a packet does to a log.
-use Rattle.std.proofs.Common.{◌≡◌, ◌⊎◌, inl, inr, refl, sym, subst, Option, Some, None, List, [], ◌∷◌, ◌++◌, Bool, true, false, ℕ}
+use Rattle.std.proofs.Common.{◌≡◌, ◌⊎◌, inl, inr, refl, sym, ap, subst, Option, Some, None, List, [], Bool, true, false, ℕ}
+use Rattle.std.specs.Prelude.{Result, Ok, Err, IfErr, IsErrAnd, OnErr, OnOk, is_some, not, ◌&&◌, ◌||◌}
+use Rattle.packets.specs.Section.{Packet}
+use Rattle.tunnels.specs.Walk.{unwrapped}
+use Rattle.arrivals.specs.Counts.{with_packet_counted}
+use Rattle.arrivals.specs.Fragments.{Joins, LeavesOutFound}
+use Rattle.arrivals.specs.Reader.{Reads, ReadsInside}
 use Rattle.arrivals.specs.declared.arrival.Arrival.{Arrival}
-use Rattle.std.specs.Prelude.{Result, Ok, Err, OnOk, is_some, not, ◌&&◌, ◌||◌}
+use Rattle.arrivals.specs.declared.fragments.CompletedDatagram.{CompletedDatagram}
+use Rattle.arrivals.specs.declared.reader.ArrivalReader.{ArrivalReader}
 use Rattle.std.specs.Option.{option_map}
-use Rattle.connections.specs.Table.{Table, at, changing_at, others, with_other}
+use Rattle.connections.specs.Table.{Table, at, others, with_other}
 use Rattle.connections.specs.declared.connection.Connection.{Connection}
 use Rattle.connections.specs.declared.five_tuple.FiveTuple.{FiveTuple}
 use Rattle.log_connections.proofs.LogLemmas.{lent_unchanged}
-use Rattle.log_connections.proofs.SinkLemmas.{adds_then}
-use Rattle.log_connections.specs.Packet.{Handles, IsLent, ProcessesInside, in_fragments}
-use Rattle.log_connections.specs.Sink.{Adds, AreEarly, EndsAs, EndsLast, EndsRefused, as_list}
+use Rattle.log_connections.proofs.SinkLemmas.{adds_none, adds_still, adds_then}
+use Rattle.log_connections.specs.Packet.{HandlesBy, IsLent, StopsBy, at_content, at_reader}
+use Rattle.log_connections.specs.Reading.{Content, Holds, NeedsMemory, Nothing, joined, one}
+use Rattle.log_connections.specs.Sink.{Adds, AreEarly, EndsAs, EndsLast, EndsRefused, IsOfSink, Receives, StaysSound, StopsRefused, as_list, at_oldest, at_own}
 use Rattle.log_connections.specs.declared.analysis.TlsAnalysis.{TlsAnalysis}
+use Rattle.log_connections.specs.declared.sink.LogError.{LogError}
+use Rattle.log_connections.specs.declared.sink.LogError.TheVariants.{OutOfMemory, Sink}
 
 module _ {K : Type 0} (e : FiveTuple) where
   -- A sink changes at most the connection that it is lent.
@@ -57,6 +67,31 @@ module _ {K B : Type 0} (value : B → Connection (TlsAnalysis K)) where
             received received_too;
       }
 
+-- A sink refused one of those that end without memory.
+module _ {K B E : Type 0} (value : B → Connection (TlsAnalysis K)) (e : FiveTuple)
+    (error : LogError E) where
+  pub stops_own : (t u : Table (TlsAnalysis K)) (own : Option B)
+      (r q : Option (List (Connection (TlsAnalysis K))))
+      → EndsAs (at e t.live) (option_map value own) → u.live ≡ others e t.live
+      → AreEarly (option_map value own) → is_some own ≡ true → Adds r q [] → IsOfSink error
+      → StopsRefused e t.live u.live r q error
+  stops_own t u None r q ends same early is received of_sink = cc
+  stops_own t u (Some b) r q ends same early is received of_sink =
+      at_own (value b) of_sink ends early same received
+
+  pub stops_oldest : (t u w : Table (TlsAnalysis K)) (own oldest : Option B)
+      (r s q : Option (List (Connection (TlsAnalysis K))))
+      → EndsAs (at e t.live) (option_map value own) → u.live ≡ others e t.live
+      → EndsLast u.live w.live (option_map value oldest) → AreEarly (option_map value own)
+      → AreEarly (option_map value oldest) → is_some oldest ≡ true
+      → Adds r s (as_list (option_map value own)) → Adds s q [] → IsOfSink error
+      → StopsRefused e t.live w.live r q error
+  stops_oldest t u w own None r s q ends same last early early_too is received none of_sink = cc
+  stops_oldest t u w own (Some b) r s q ends same last early early_too is received none of_sink =
+      at_oldest (option_map value own) (value b) of_sink ends early
+      (subst (λ l. EndsLast l w.live (Some (value b))) same last) early_too
+      (adds_still r s q (as_list (option_map value own)) received none)
+
 -- What holds whether a call fails or not.
 pub on_any : {A E P : Type 0} (r : Result A E) → P → OnOk r P
 on_any (Ok x) p = p
@@ -76,13 +111,133 @@ not_neither false true h = refl
 not_neither false false (inl h) = sym h.1
 not_neither false false (inr h) = sym h
 
-module _ {K : Type 0} where
-  -- Nothing changed before.
-  pub handled_in : (a : Arrival) (n m limit : ℕ) (old mid new : Table (TlsAnalysis K))
-      (r s q : Option (List (Connection (TlsAnalysis K)))) → m ≡ limit → mid ≡ old → s ≡ r
-      → ProcessesInside a n m mid new s q → Handles limit old new r q
-  handled_in a n m limit old mid new r s q memory connections received processes =
-      in_fragments a n
-      (subst (λ l. ProcessesInside a n l old new r q) memory
-      (subst (λ t. ProcessesInside a n m t new r q) connections
-      (subst (λ x. ProcessesInside a n m mid new x q) received processes)))
+-- What follows where a call failed.
+pub err_weaker : {A E : Type 0} (r : Result A E) (P Q : Type 0) → (P → Q) → OnErr r P → OnErr r Q
+err_weaker (Ok x) P Q f p = tt
+err_weaker (Err e) P Q f p = f p
+
+pub both_err : {A E : Type 0} (r : Result A E) (P Q R : Type 0) → (P → Q → R) → OnErr r P
+    → OnErr r Q → OnErr r R
+both_err (Ok x) P Q R f p q = tt
+both_err (Err e) P Q R f p q = f p q
+
+pub any_err : {A E : Type 0} (r : Result A E) (Q R : E → Type 0) (P : Type 0)
+    → ((e : E) → P → Q e → R e) → P → IfErr r Q → IfErr r R
+any_err (Ok x) Q R P f p q = tt
+any_err (Err e) Q R P f p q = f e p q
+
+pub with_err : {A E : Type 0} (r : Result A E) (P : Type 0) (Q R : E → Type 0)
+    → ((e : E) → P → Q e → R e) → OnErr r P → IfErr r Q → IfErr r R
+with_err (Ok x) P Q R f p q = tt
+with_err (Err e) P Q R f p q = f e p q
+
+-- What holds of the error that `?` returns.
+pub given : {A F : Type 0} (r : Result A F) (f : F) (R : F → Type 0) → IsErrAnd r (λ x. x ≡ f) → R f
+    → IfErr r R
+given (Ok x) f R is p = tt
+given (Err e) f R is p = subst R (sym is) p
+
+-- A sink that was sound before the call that failed.
+pub sound_before : {A E : Type 0} (B : Type 0) (r : Result A (LogError E)) (a b c : Bool)
+    (e : LogError E) → (a ≡ true → b ≡ true) → StaysSound {A = B} b c (Err e)
+    → IsErrAnd r (λ x. x ≡ e) → StaysSound a c r
+sound_before B (Ok x) a b c e f h is = absurd is
+sound_before B (Err OutOfMemory) a b c e f h is =
+    λ k. subst (λ y. StaysSound {A = B} b c (Err y)) (sym is) h (f k)
+sound_before B (Err (Sink x)) a b c e f h is = tt
+
+-- What a sink failed to receive.
+pub refused_then : {X E : Type 0} (r : Result Unit E) (a b : Option (List X)) (x : X)
+    → Receives a b r x → OnErr r (Adds a b [])
+refused_then (Ok u) a b x h = tt
+refused_then (Err e) a b x h = h
+
+-- A fragment that completed a datagram was found.
+pub joins_found : (cut : Bool) (time : ℕ) (found : _) (old new : ArrivalReader)
+    (whole : Option CompletedDatagram) → Joins cut time found old new whole → is_some whole ≡ true
+    → is_some found ≡ true
+joins_found false time found old new whole joins is = let none = rw joins.0 at is in cc
+joins_found true time None old new whole joins is = let none = rw joins.0 at is in cc
+joins_found true time (Some f) old new whole joins is = refl
+
+pub leaves_found : (time : ℕ) (found : _) (old new : ArrivalReader)
+    → LeavesOutFound time found old new → is_some found ≡ true
+leaves_found time None old new leaves = absurd leaves
+leaves_found time (Some f) old new leaves = refl
+
+module _ {K : Type 0} (M : K → ℕ) (limit : ℕ) where
+  -- What is found in a step is found in all.
+  pub handled_by : (P Q : ArrivalReader → Content → Type 0) (reader : ArrivalReader)
+      (old new : Table (TlsAnalysis K)) (r s : Option (List (Connection (TlsAnalysis K))))
+      → ((read : ArrivalReader) (c : Content) → P read c → Q read c)
+      → HandlesBy M P limit reader old new r s → HandlesBy M Q limit reader old new r s
+  handled_by P Q reader old new r s f h = record {
+    content = h.content;
+    read = h.read;
+    finds = f h.read h.content h.finds;
+    is_read = h.is_read;
+    handles = h.handles;
+  }
+
+  pub handled_none : (Q : ArrivalReader → Content → Type 0) (reader : ArrivalReader)
+      (old new : Table (TlsAnalysis K)) (r s : Option (List (Connection (TlsAnalysis K))))
+      → Q reader Nothing → new ≡ old → s ≡ r → HandlesBy M Q limit reader old new r s
+  handled_none Q reader old new r s finds same received = record {
+    content = Nothing;
+    read = reader;
+    finds = finds;
+    is_read = refl;
+    handles = (same, subst (λ x. Adds r x []) (sym received) (adds_none r));
+  }
+
+  pub stopped_by : {E : Type 0} (P Q : ArrivalReader → Content → Type 0) (N O : Type 0)
+      (error : LogError E) (old new : Table (TlsAnalysis K))
+      (r s : Option (List (Connection (TlsAnalysis K))))
+      → ((read : ArrivalReader) (c : Content) → P read c → Q read c) → (N → O)
+      → StopsBy M P N limit error old new r s → StopsBy M Q O limit error old new r s
+  stopped_by P Q N O error old new r s f n (at_reader memory needs same received) =
+      at_reader memory (n needs) same received
+  stopped_by P Q N O error old new r s f n (at_content c read finds stops) =
+      at_content c read (f read c finds) stops
+
+-- Nothing changed before.
+module _ {K : Type 0} (M : K → ℕ) (Q : ArrivalReader → Content → Type 0) where
+  pub handled_in : (n m : ℕ) (reader : ArrivalReader) (old mid new : Table (TlsAnalysis K))
+      (r s q : Option (List (Connection (TlsAnalysis K)))) → m ≡ n → mid ≡ old → s ≡ r
+      → HandlesBy M Q m reader mid new s q → HandlesBy M Q n reader old new r q
+  handled_in n m reader old mid new r s q memory connections received handles =
+      subst (λ l. HandlesBy M Q l reader old new r q) memory
+      (subst (λ t. HandlesBy M Q m reader t new r q) connections
+      (subst (λ x. HandlesBy M Q m reader mid new x q) received handles))
+
+  pub stopped_in : {E : Type 0} (N : Type 0) (error : LogError E) (n m : ℕ)
+      (old mid new : Table (TlsAnalysis K)) (r s q : Option (List (Connection (TlsAnalysis K))))
+      → m ≡ n → mid ≡ old → s ≡ r → StopsBy M Q N m error mid new s q
+      → StopsBy M Q N n error old new r q
+  stopped_in N error n m old mid new r s q memory connections received stops =
+      subst (λ l. StopsBy M Q N l error old new r q) memory
+      (subst (λ t. StopsBy M Q N m error t new r q) connections
+      (subst (λ x. StopsBy M Q N m error mid new x q) received stops))
+
+-- The tunnels of an earlier packet make no difference.
+reads_behind : (p : Packet) (old mid new : ArrivalReader) (a : Option Arrival)
+    → mid ≡ record old { tunnels = mid.tunnels } → Reads p mid new a → Reads p old new a
+reads_behind p old mid new a is reads = record {
+  tunnels = reads.tunnels;
+  reads = subst (λ r. ReadsInside p (unwrapped p.link_type p.bytes).inside r new a)
+      (ap {A = ArrivalReader}
+      (λ r. record r { counts = with_packet_counted r.counts; tunnels = new.tunnels }) is)
+      reads.reads;
+}
+
+pub holds_behind : (p : Packet) (old mid new : ArrivalReader) (c : Content)
+    → mid ≡ record old { tunnels = mid.tunnels } → Holds p mid new c → Holds p old new c
+holds_behind p old mid new c is (one a reads whole) =
+    one a (reads_behind p old mid new (Some a) is reads) whole
+holds_behind p old mid new c is (joined m reads finds) =
+    joined m (reads_behind p old mid m None is reads) finds
+
+pub needs_behind : (p : Packet) (old mid : ArrivalReader)
+    → mid ≡ record old { tunnels = mid.tunnels } → NeedsMemory p mid → NeedsMemory p old
+needs_behind p old mid is (inl h) = inl (subst (λ r. is_some r.networks ≡ true) is h)
+needs_behind p old mid is (inr h) = inr h

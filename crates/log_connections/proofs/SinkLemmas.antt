@@ -1,5 +1,5 @@
 -- What a sink received of the connections that ended.
-use Rattle.std.proofs.Common.{◌≡◌, List, [], ◌∷◌, ◌++◌, Option, Some, None, true, sym, subst, ◌∙◌, ap, append_assoc}
+use Rattle.std.proofs.Common.{◌≡◌, List, [], ◌∷◌, ◌++◌, Option, Some, None, Bool, true, sym, subst, ◌∙◌, ap, append_assoc}
 use Rattle.std.proofs.lemmas.List.{append-nil}
 use Rattle.std.specs.Prelude.{IfSome, IfNone, OnOk, Result, Ok, Err, ℕ, ◌<◌, ◌≤◌}
 use Rattle.std.specs.Option.{option_map}
@@ -7,7 +7,7 @@ use Rattle.connections.specs.Memory.{IsAccounted, IsTakenOut, open_part, total}
 use Rattle.connections.specs.Table.{IsOver, NoneIsOver, Table, WasLast}
 use Rattle.connections.specs.declared.five_tuple.FiveTuple.{FiveTuple}
 use Rattle.connections.specs.declared.connection.Connection.{Connection}
-use Rattle.log_connections.specs.Sink.{Adds, EndsAs, EndsCrowded, EndsIdle, EndsLast, IsCrowded, IsEnded, IsLastEnded, PassesEnded, Receives, none, one}
+use Rattle.log_connections.specs.Sink.{Adds, EndsAs, EndsCrowded, EndsIdle, EndsLast, HearsLast, IsCrowded, IsCutOff, IsEnded, IsLastEnded, PassesAllButLast, PassesEnded, Receives, at_originator, at_responder, cut_off, marked_early, none, one, wholly}
 use Rattle.log_connections.specs.declared.analysis.TlsAnalysis.{TlsAnalysis}
 
 module _ {X : Type 0} where
@@ -22,6 +22,11 @@ module _ {X : Type 0} where
   adds_then (Some before) (Some mid) None xs ys h k = absurd k
   adds_then (Some before) (Some mid) (Some after) xs ys h k =
       k ∙ ap (λ t. t ++ ys) h ∙ append_assoc before xs ys
+
+  -- Nothing more was received.
+  pub adds_still : (a b c : Option (List X)) (xs : List X) → Adds a b xs → Adds b c []
+      → Adds a c xs
+  adds_still a b c xs h k = subst (Adds a c) (append-nil xs) (adds_then a b c xs [] h k)
 
   -- What follows from what a sink received.
   pub received_then : {E P : Type 0} (r : Result Unit E) (a b : Option (List X)) (x : X)
@@ -45,22 +50,58 @@ module _ {K : Type 0}
     received = adds_then r s t before.outs (c' ∷ []) before.received received;
   }
 
+  pub all_but_last : (xs ys zs : List (FiveTuple × Connection (TlsAnalysis K)))
+      (c c' : Connection (TlsAnalysis K)) (r s t : Option (List (Connection (TlsAnalysis K))))
+      → PassesEnded Is xs ys r s → Is ys c → IsLastEnded ys zs c c' → Adds s t []
+      → PassesAllButLast Is xs zs r t
+  all_but_last xs ys zs c c' r s t before is last received = record {
+    outs = before.outs;
+    refused = c';
+    ended = one ys zs before.outs c c' before.ended is last;
+    received = adds_still r s t before.outs before.received received;
+  }
+
 -- A connection that ended, and is marked.
 module _ {K : Type 0} where
-  pub marked : (c d e : Connection (TlsAnalysis K)) → IsEnded c d
-      → e ≡ record d { attachment = record d.attachment { is_ended_early = true } } → IsEnded c e
-  marked c d e ends is = subst (IsEnded c) (sym is) (record {
-    between = ends.between;
-    last = ends.last;
-    originator = ends.originator;
-    responder = ends.responder;
-    same = ap {A = Connection (TlsAnalysis K)} (λ x. record x { attachment = record x.attachment { is_ended_early = true } }) ends.same;
+  pub is_marked : (c : Connection (TlsAnalysis K)) → c.attachment.is_ended_early ≡ true
+      → c ≡ marked_early c
+  is_marked c is = ap {A = Bool} (λ b. record c {
+    attachment = record c.attachment { is_ended_early = b };
+  }) is
+
+  heard_marked : (c d e : Connection (TlsAnalysis K)) → HearsLast c d → e ≡ marked_early d
+      → HearsLast c e
+  heard_marked c d e hears is = subst (HearsLast c) (sym is) (record {
+    between = hears.between;
+    last = hears.last;
+    originator = hears.originator;
+    responder = hears.responder;
+    same = ap {A = Connection (TlsAnalysis K)} marked_early hears.same;
   })
+
+  cut_marked : (c d e : Connection (TlsAnalysis K)) → IsCutOff c d → e ≡ marked_early d
+      → IsCutOff c e
+  cut_marked c d e (at_originator last undone cut same) is =
+      subst (IsCutOff c) (sym is)
+      (at_originator last undone cut (ap {A = Connection (TlsAnalysis K)} marked_early same))
+  cut_marked c d e (at_responder between last hears undone cut same) is =
+      subst (IsCutOff c) (sym is)
+      (at_responder between last hears undone cut
+      (ap {A = Connection (TlsAnalysis K)} marked_early same))
+
+  pub ended_cut : (c d e : Connection (TlsAnalysis K)) → IsCutOff c d → e ≡ marked_early d
+      → IsEnded c e
+  ended_cut c d e cut is =
+      cut_off (cut_marked c d e cut is) (ap (λ x. x.attachment.is_ended_early) is)
+
+  pub marked : (c d e : Connection (TlsAnalysis K)) → IsEnded c d → e ≡ marked_early d
+      → IsEnded c e
+  marked c d e (wholly hears) is = wholly (heard_marked c d e hears is)
+  marked c d e (cut_off cut early) is = ended_cut c d e cut is
 
   pub marked_as : {B : Type 0} (value : B → Connection (TlsAnalysis K)) (taken : Option B)
       (d e : Connection (TlsAnalysis K)) → EndsAs (option_map value taken) (Some d)
-      → e ≡ record d { attachment = record d.attachment { is_ended_early = true } }
-      → EndsAs (option_map value taken) (Some e)
+      → e ≡ marked_early d → EndsAs (option_map value taken) (Some e)
   marked_as value None d e ends is = ends
   marked_as value (Some b) d e ends is = marked (value b) d e ends is
 

@@ -12,10 +12,10 @@ use Rattle.tls_flow.specs.declared.symbol.Direction.TheVariants.{ToServer, FromS
 use Rattle.tls_flow.specs.declared.state.Outcome.{Outcome}
 use Rattle.tls_flow.specs.declared.flow.Stop.{Stop}
 use Rattle.tls_summary.specs.HandshakeSummary.{HandshakeSummary, view_summary}
-use Rattle.tls_analyzer.specs.Another.{begins_another}
-use Rattle.tls_analyzer.specs.Datagrams.{IsKnown, spoken}
-use Rattle.tls_analyzer.specs.Datagrams as datagrams
-use Rattle.tls_analyzer.specs.Ends.{is_established, is_resumed}
+use Rattle.dtls_analyzer.specs.Another.{begins_another}
+use Rattle.dtls_analyzer.specs.Datagrams.{IsKnown, spoken}
+use Rattle.dtls_analyzer.specs.Datagrams as datagrams
+use Rattle.tls_observer.specs.Ends.{is_established, is_resumed}
 use Rattle.log_connections.specs.declared.analysis.TlsAnalysis.{TlsAnalysis}
 use Rattle.log_connections.specs.declared.analysis.TransportAnalyzer.{TransportAnalyzer}
 use Rattle.log_connections.specs.declared.analysis.TransportAnalyzer.TheVariants as said

@@ -18,10 +18,10 @@ use Rattle.tls_flow.specs.Table.{outcome_at}
 use Rattle.tls_flow.specs.declared.symbol.Direction.{Direction}
 use Rattle.tls_flow.specs.declared.symbol.Direction.TheVariants.{ToServer, FromServer}
 use Rattle.tls_analyzer.specs.Analyzers.{IsHeardAsNone, IsHeardInSsl2, IsHeardOn, IsNew, is_over, is_tls_on, is_unknown}
-use Rattle.tls_analyzer.specs.DatagramRecords.{no_datagrams, with_datagram}
-use Rattle.tls_analyzer.specs.Datagrams.{IsKnown, heard, untold}
-use Rattle.tls_analyzer.specs.Datagrams as datagrams
-use Rattle.tls_analyzer.specs.Ends.{is_13}
+use Rattle.dtls_analyzer.specs.DatagramRecords.{no_datagrams, with_datagram}
+use Rattle.dtls_analyzer.specs.Datagrams.{IsKnown, heard, untold}
+use Rattle.dtls_analyzer.specs.Datagrams as datagrams
+use Rattle.tls_observer.specs.Ends.{is_13}
 use Rattle.tls_analyzer.specs.Records.{no_records, with_bytes}
 use Rattle.tls_summary.specs.Told.{connection_id_length}
 use Rattle.tunnels.specs.Tunnel.{listed}
@@ -129,7 +129,7 @@ tunnels_in None = []
 tunnels_in (Some b) = listed b.value
 
 module _ {K : Type 0} where
-  -- It begins with the client as originator, no bytes, no records, and nothing that is kept.
+  -- A new analysis: the originator counts as client, and no byte or record was read.
   abbrev pub IsBegun : Protocol → TlsAnalysis K → Type 0
   IsBegun protocol a = IsSilent protocol a.said
       × (a ≡ record {
@@ -255,8 +255,21 @@ module _ {K : Type 0} where
       → TlsAnalysis K → Type 0
   HearsStream s opened last t u a b = HearsUnless (is_done s t a) s opened last t u a b
 
-  -- The next bytes were analyzed on both sides of an urgent byte, if one comes next behind them.
-  -- The bytes before it are the last that may show where TLS begins.
+  -- Memory was refused while a side's bytes were analyzed. What was analyzed before counts, and
+  -- everything else stays, the bytes included.
+  abbrev pub IsCutIn : TlsAnalysis K → TlsAnalysis K → Type 0
+  IsCutIn a b = b ≡ record a {
+    said = b.said;
+    is_turned = b.is_turned;
+    heard = b.heard;
+    collector = b.collector;
+  }
+
+  abbrev pub IsCut : Stream → Stream → TlsAnalysis K → TlsAnalysis K → Type 0
+  IsCut t u a b = (u ≡ t) × IsCutIn a b
+
+  -- The next bytes were analyzed, up to and after an urgent byte, if one follows them. Only bytes
+  -- before it may show where TLS begins.
   pub data HearsNext (side : Side) (opened : Bool) (t u : Stream) (a b : TlsAnalysis K)
       : Type 0 where
     all :
@@ -301,7 +314,7 @@ module _ {K : Type 0} where
         if is_client d then a.by_responder else with_datagram d13 id_length b a.by_responder;
   }
 
-  -- What is known behind it shows how they are written.
+  -- How the records are written follows from the state after the datagram.
   abbrev pub counting_datagram : Direction → Bytes → datagrams.Analyzer → TlsAnalysis K
       → TlsAnalysis K
   counting_datagram d b k a = counted d b (is_13 (outcome_at k.flow.state))

@@ -1,7 +1,8 @@
 -- How much memory is accounted for the analysis of a connection, in bytes.
 use Rattle.std.specs.Prelude.{ℕ, ◌*◌, ◌-◌, ◌^◌, min, Option, Some, None}
 use Rattle.std.specs.Global.{Box}
-use Rattle.tls_analyzer.specs.Capacity.{capacity_of, plus}
+use Rattle.tls_observer.specs.Capacity.{plus}
+use Rattle.tls_analyzer.specs.Capacity.{capacity_of}
 use Rattle.tunnels.specs.declared.tunnel.Tunnels.{Tunnels}
 use Rattle.log_connections.specs.declared.analysis.TheConstants.{ANALYSIS_COST, COLLECTOR_COST, MAX_BUFFERS, TUNNELS_COST}
 use Rattle.log_connections.specs.declared.analysis.TlsAnalysis.{TlsAnalysis}
@@ -13,7 +14,7 @@ use Rattle.log_connections.specs.declared.analysis.TransportAnalyzer.TheVariants
 abbrev pub buffers_of : ℕ → ℕ
 buffers_of heard = min (min (heard * 2) (2 ^ 64 - 1)) MAX_BUFFERS
 
--- Over TCP, what the analyzer keeps, and its buffers. Over UDP no clause tells.
+-- Over TCP, what the analyzer keeps, and its buffers. Over UDP no clause bounds it.
 abbrev pub least_of_transport : TransportAnalyzer → ℕ → ℕ
 least_of_transport (said.Stream x f) heard = plus (capacity_of x) (buffers_of heard)
 least_of_transport (said.Datagrams t) heard = 0

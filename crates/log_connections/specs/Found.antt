@@ -41,7 +41,8 @@ module _ {K : Type 0} where
     pub is : b ≡ (lacks c.from_originator c.from_originator.reading
         || (lacks c.from_responder c.from_responder.reading || (one || other)))
 
-  -- It counts by its protocol, its outcome and its gaps, or as one that speaks neither TLS nor DTLS.
+  -- A connection counts by its protocol, its outcome and its gaps, or as one that is neither TLS
+  -- nor DTLS.
   pub data IsCounted (c : Connection (TlsAnalysis K)) (old new : Counts) : Type 0 where
     speaks :
         (o : Outcome) (gap : Bool) → IsSpokenBy true c.attachment.is_turned c.attachment.said

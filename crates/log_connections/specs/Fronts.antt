@@ -13,8 +13,8 @@ use Rattle.log_connections.specs.declared.fronts.Preambles.{Preambles}
 use Rattle.log_connections.specs.declared.fronts.Beginning.{Beginning}
 use Rattle.log_connections.specs.declared.fronts.Beginning.TheVariants as beginnings
 
--- Where TLS begins on a side: too few bytes came to decide, not in this many bytes, behind this
--- many, at once with an SSL 2.0 ClientHello in a record of this many, or nowhere.
+-- Where TLS begins on a side: undecided (too few bytes), not within this many bytes, after this
+-- many, with an SSL 2.0 ClientHello in a record of this many bytes, or nowhere.
 pub data Start : Type 0 where
   Waits : Start
   PassesOver : ℕ → Start
@@ -33,9 +33,9 @@ view_beginning beginnings.Nowhere = Nowhere
 abbrev pub behind : ℕ → ℕ → ℕ
 behind skipped n = min (skipped + n) (2 ^ 64 - 1)
 
--- It begins at the first position with a hello, or in an answer an alert, if that is one of the
--- first 65,536 of the side. If there is none in these bytes, it may still begin in the last 10 of
--- them, unless no more come.
+-- TLS begins at the first hello (on a side that answers, at the first hello or alert) within the
+-- side's first 65,536 bytes. Without one, the last 10 of these bytes are searched again when more
+-- come.
 abbrev pub found : Option ℕ → Bool → ℕ → ℕ → Start
 found (Some n) last skipped count =
     if nat_lt (behind skipped n) 65536 then At n else Nowhere
@@ -43,29 +43,28 @@ found None last skipped count =
     if last || nat_le 65536 (behind skipped (count - 10)) then Nowhere
     else PassesOver (count - 10)
 
--- It begins with the first byte of the side, by a record header (RFC 8446, section 5.1). The byte
--- behind that tells whether the side is the client or the server.
+-- TLS begins with the side's first byte, a record header's (RFC 8446, section 5.1). The byte after
+-- the header shows whether the side is the client or the server.
 abbrev pub begins_there : Bytes → Bool → Bool
 begins_there b last = (nat_lt 5 (length b) || last) && begins_tls b
 
--- It may begin at the first of these bytes once more come. Fewer than 11 don't tell, and an SSL 2.0
--- ClientHello, with which a side may begin (RFC 5246, appendix E.2), has to be complete.
+-- TLS may begin at the first of these bytes, once more come: there are fewer than 11, or they begin
+-- an SSL 2.0 ClientHello, which has to be complete (RFC 5246, appendix E.2).
 abbrev pub may_begin : ℕ → Bytes → Bool
 may_begin skipped b = nat_lt (length b) 11 || (skipped == 0 && begins_ssl2_hello_in b)
 
--- It is too early to tell if a side sent less than a record header, or more bytes may come that
--- tell.
+-- More bytes are needed to decide: the side sent less than a record header, or TLS may begin here.
 abbrev pub is_waiting : ℕ → Bytes → Bool → Bool
 is_waiting skipped b last =
     (skipped == 0 && nat_lt (length b) 5) || (not last && may_begin skipped b)
 
--- Behind the side's first bytes.
+-- Where TLS begins, if not with the side's first byte.
 abbrev pub beginning_behind : Bool → Bool → ℕ → Bytes → Start
 beginning_behind answers last skipped b =
     if is_waiting skipped b last then Waits
     else found (place_behind answers b) last skipped (length b)
 
--- With its first byte, if none was skipped: by a record header or an SSL 2.0 ClientHello.
+-- Where TLS begins, by the answer of parsing an SSL 2.0 ClientHello at the front.
 abbrev pub beginning_by : Answer ClientHello → Bool → Bool → ℕ → Bytes → Start
 beginning_by (Ok h) answers last skipped b = InSsl2 h.0 (length b - length h.1)
 beginning_by (Err e) answers last skipped b = beginning_behind answers last skipped b
@@ -75,9 +74,9 @@ beginning_at_once answers last skipped b =
     if begins_there b last then At 0
     else beginning_by (reading client_hello b) answers last skipped b
 
--- Where it begins on a side of which it is sought, by the side's next bytes, which are its last or
--- not, behind those that were skipped. A side answers if the other's TLS began. On any other side it
--- began before.
+-- Where TLS begins on a side, if it is sought there: by the side's next bytes after those that were
+-- skipped, which may be its last. A side answers if the other side's TLS began. If it isn't sought,
+-- it began before.
 abbrev pub beginning : Bool → Bool → Bool → ℕ → Bytes → Start
 beginning sought answers last skipped b =
     if not sought then At 0
@@ -100,7 +99,7 @@ no_preambles = record { originator = 0; responder = 0 }
 abbrev pub passing : Side → ℕ → Preambles → Preambles
 passing s n f = with_preamble s (behind (preamble s f) n) f
 
--- A side's TLS begins behind these bytes, unless it began before.
+-- A side's TLS begins after these bytes, unless it began before.
 abbrev pub begun_behind : Bool → Side → ℕ → Preambles → Preambles
 begun_behind true s n f = passing s n f
 begun_behind false s n f = f

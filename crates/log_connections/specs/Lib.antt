@@ -5,4 +5,5 @@ pub mod Capacity
 pub mod Found
 pub mod Sink
 pub mod Log
+pub mod Reading
 pub mod Packet

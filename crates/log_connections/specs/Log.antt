@@ -1,17 +1,19 @@
--- What an arrival does to the log: its connection takes it, and that connection's analysis processes
--- it.
-use Rattle.std.specs.Prelude.{◌≡◌, ⊤, ℕ, ◌+◌, ◌-◌, Bool, true, false, if◌then◌else◌, Option, Some, None, is_some, List, ◌∷◌}
+-- What an arrival does to the log: its connection accepts it, and that connection's analysis
+-- processes it.
+use Rattle.std.specs.Prelude.{◌≡◌, ⊤, ℕ, ◌+◌, Bool, true, false, if◌then◌else◌, Option, Some, None, is_some, List, ◌∷◌}
 use Rattle.std.specs.Option.{option_map}
 use Rattle.arrivals.specs.Arrival.{five_tuple_in, source_of}
-use Rattle.arrivals.specs.Counts.{one_more}
+use Rattle.arrivals.specs.Counts.{nothing_counted, one_more}
 use Rattle.arrivals.specs.declared.arrival.Arrival.{Arrival}
 use Rattle.arrivals.specs.declared.arrival.Arrival.TheVariants as arrival
 use Rattle.arrivals.specs.declared.counts.Counts.{Counts}
+use Rattle.arrivals.specs.declared.reader.ArrivalReader.{ArrivalReader}
 use Rattle.connections.specs.Connection.{AcceptsKept, has_opening, is_datagram_damaged, lets_in, side_of, verdict_of}
 use Rattle.connections.specs.Datagram.{five_tuple_of_datagram}
+use Rattle.connections.specs.Memory.{IsSettled}
 use Rattle.connections.specs.Segment.{five_tuple_of, has_data, header_of, is_refused}
 use Rattle.connections.specs.Stream.{with_more_disagreeing}
-use Rattle.connections.specs.Table.{BeginsAfter, ComesFirst, DropsDatagram, Replaced, Restarts, Table, TakesDatagram, TakesSegment, at, belongs, changing, closed_behind, ended, others, pending_outcome_in, with_dropped_segment, with_other, with_waiting_segment, without_ended, without_pending_segment}
+use Rattle.connections.specs.Table.{BeginsAfter, ComesFirst, DropsDatagram, Replaced, Restarts, Table, TakesDatagram, TakesSegment, at, belongs, changing, closed_behind, ended, others, pending_outcome_in, with_dropped_segment, with_waiting_segment, without_ended, without_pending_segment}
 use Rattle.connections.specs.Waiting.{Kept}
 use Rattle.connections.specs.declared.connection.Connection.{Connection}
 use Rattle.connections.specs.declared.connection.Side.{Side}
@@ -27,17 +29,22 @@ use Rattle.connections.specs.declared.segment.Segment.{Segment}
 use Rattle.tls_detection.specs.Front.{held_datagram}
 use Rattle.log_connections.specs.Accessors.{BeginsAnother}
 use Rattle.log_connections.specs.Analysis.{HearsDatagram, HearsOn, direction_of}
+use Rattle.log_connections.specs.Capacity.{most_bytes_of}
 use Rattle.log_connections.specs.Sink.{EndsAs}
 use Rattle.log_connections.specs.declared.analysis.TlsAnalysis.{TlsAnalysis}
-use Rattle.log_connections.specs.declared.log.Delivery.{Delivery}
-use Rattle.log_connections.specs.declared.log.Delivery.TheVariants as delivery
+use Rattle.log_connections.specs.declared.exchanges.Delivery.{Delivery}
+use Rattle.log_connections.specs.declared.exchanges.Delivery.TheVariants as delivery
 use Rattle.log_connections.specs.declared.log.Reception.{Reception}
 use Rattle.log_connections.specs.declared.log.Reception.TheVariants as reception
 
--- What the connections of all other five-tuples are stays.
+-- The connections of all other five-tuples stay.
 module _ {X : Type 0} where
   pub record KeepsOthers (e : FiveTuple) (xs ys : List (FiveTuple × X)) : Type 0 where
     pub same : (f : FiveTuple) → (e ≡ f → ⊥) → at f ys ≡ at f xs
+
+-- The reader of packets, but for its counts.
+abbrev pub uncounted : ArrivalReader → ArrivalReader
+uncounted r = record r { counts = nothing_counted }
 
 -- A segment is analyzed at once exactly if its connection is open, and the receiver's verdict lets
 -- it in.
@@ -162,7 +169,7 @@ module _ {K : Type 0} where
         → HearsPending (five_tuple_of s) k (without_pending_segment s old) new
         → HearsOne s old new true
 
-  -- So they are one by one, at most this many.
+  -- The pending segments that a segment acknowledges are analyzed one by one, at most this many.
   pub data HearsAcknowledged (s : Segment)
       : ℕ → Table (TlsAnalysis K) → Table (TlsAnalysis K) → Type 0 where
     enough : (t : Table (TlsAnalysis K)) → HearsAcknowledged s 0 t t
@@ -198,6 +205,16 @@ module _ {K : Type 0} where
     pub logs : Logs (belongs s mid) s mid new
     pub ends : EndsAs was over
 
+  -- Memory was refused for a segment that begins another connection, before or behind the moment
+  -- when that took the place of the open one, which ended then.
+  pub data RefusesInAnother (s : Segment) (old new : Table (TlsAnalysis K))
+      : Option (Connection (TlsAnalysis K)) → Type 0 where
+    before_another : new ≡ old → RefusesInAnother s old new None
+    behind_another :
+        (was over : Option (Connection (TlsAnalysis K))) (mid : Table (TlsAnalysis K))
+        → Replaced s old mid was → EndsAs was over
+        → KeepsOthers (five_tuple_of s) mid.live new.live → RefusesInAnother s old new over
+
   abbrev pub AcceptsJudged : Judgement → Bool → Segment → Table (TlsAnalysis K)
       → Table (TlsAnalysis K) → Option (Connection (TlsAnalysis K)) → Type 0
   AcceptsJudged judgement.Taken tells s old new over = TakesBehind tells s old new over
@@ -207,7 +224,7 @@ module _ {K : Type 0} where
   AcceptsJudged (judgement.Dropped r) tells s old new over =
       (new ≡ with_dropped_segment r s old) × (over ≡ None)
 
-  -- A verdict is obeyed.
+  -- The log does what the verdict requires.
   abbrev pub AcceptsIf : Bool → Bool → Judgement → Bool → Segment → Table (TlsAnalysis K)
       → Table (TlsAnalysis K) → Option (Connection (TlsAnalysis K)) → Type 0
   AcceptsIf true begins_another j tells s old new over = TakesAnew s old new over
@@ -228,6 +245,22 @@ module _ {K : Type 0} where
   abbrev pub AcceptsSegment : Segment → Table (TlsAnalysis K) → Table (TlsAnalysis K)
       → Option (Connection (TlsAnalysis K)) → Type 0
   AcceptsSegment s old new over = AcceptsAt (verdict_in s old) s old new over
+
+  -- Memory was refused for a segment. A connection is over by it only if another one took its place.
+  abbrev pub RefusesIf : Bool → Bool → Segment → Table (TlsAnalysis K) → Table (TlsAnalysis K)
+      → Option (Connection (TlsAnalysis K)) → Type 0
+  RefusesIf true begins_another s old new over = over ≡ None
+  RefusesIf false true s old new over = RefusesInAnother s old new over
+  RefusesIf false false s old new over = over ≡ None
+
+  abbrev pub RefusesAt : Option Verdict → Segment → Table (TlsAnalysis K) → Table (TlsAnalysis K)
+      → Option (Connection (TlsAnalysis K)) → Type 0
+  RefusesAt (Some v) s old new over = RefusesIf v.shows_damage v.begins_another s old new over
+  RefusesAt None s old new over = over ≡ None
+
+  abbrev pub RefusesSegment : Segment → Table (TlsAnalysis K) → Table (TlsAnalysis K)
+      → Option (Connection (TlsAnalysis K)) → Type 0
+  RefusesSegment s old new over = RefusesAt (verdict_in s old) s old new over
 
   -- A datagram, or the DTLS datagram inside it, is analyzed. Everything else in the exchange stays.
   abbrev pub HearsFrom : Datagram → Connection (TlsAnalysis K) → Connection (TlsAnalysis K) → Type 0
@@ -258,7 +291,8 @@ module _ {K : Type 0} where
       BeginsAnother begins (direction_of c.attachment.is_turned (side_of c d.source))
       (held_datagram d.payload.now) c.attachment.said
 
-  -- Which of these it is.
+  -- How a datagram is delivered: analyzed, damaged, beginning another association, or without an
+  -- open exchange.
   abbrev pub IsDelivered : Delivery → Datagram → Table (TlsAnalysis K) → Type 0
   IsDelivered delivery.Heard d t = (is_damaged_in d t ≡ Some false)
       × BeginsAnotherIn false d (at (five_tuple_of_datagram d) t.live)
@@ -304,28 +338,39 @@ module _ {K : Type 0} where
     pub is : IsDelivered way d old
     pub accepts : AcceptsDelivered way d old new over
 
+  -- Memory was refused for a datagram that begins another association, before or behind the moment
+  -- when its exchange took the place of the open one, which is over then.
+  pub data RefusesInNext (d : Datagram) (old new : Table (TlsAnalysis K))
+      : Option (Connection (TlsAnalysis K)) → Type 0 where
+    before_next : new ≡ old → RefusesInNext d old new None
+    behind_next :
+        (mid : Table (TlsAnalysis K)) → BeginsAfter d (at (five_tuple_of_datagram d) old.live) old mid
+        → KeepsOthers (five_tuple_of_datagram d) mid.live new.live
+        → RefusesInNext d old new (at (five_tuple_of_datagram d) old.live)
+
+  -- Memory was refused for a datagram. An exchange is over by it only if another one took its place.
+  abbrev pub RefusesDelivered : Delivery → Datagram → Table (TlsAnalysis K) → Table (TlsAnalysis K)
+      → Option (Connection (TlsAnalysis K)) → Type 0
+  RefusesDelivered delivery.Heard d old new over = over ≡ None
+  RefusesDelivered delivery.Damaged d old new over = over ≡ None
+  RefusesDelivered delivery.BeginsAnother d old new over = RefusesInNext d old new over
+  RefusesDelivered delivery.NoneOpen d old new over = over ≡ None
+
+  pub record RefusesDatagram (d : Datagram) (old new : Table (TlsAnalysis K))
+      (over : Option (Connection (TlsAnalysis K))) : Type 0 where
+    pub way : Delivery
+    pub is : IsDelivered way d old
+    pub refuses : RefusesDelivered way d old new over
+
+  abbrev pub Refuses : Arrival → Table (TlsAnalysis K) → Table (TlsAnalysis K)
+      → Option (Connection (TlsAnalysis K)) → Type 0
+  Refuses (arrival.Segment s) old new over = RefusesSegment s old new over
+  Refuses (arrival.Datagram d) old new over = RefusesDatagram d old new over
+
   abbrev pub Takes : Arrival → Table (TlsAnalysis K) → Table (TlsAnalysis K)
       → Option (Connection (TlsAnalysis K)) → Type 0
   Takes (arrival.Segment s) old new over = AcceptsSegment s old new over
   Takes (arrival.Datagram d) old new over = AcceptsDatagram d old new over
-
-  -- The accounted memory of this five-tuple's connection may change, and nothing else.
-  pub data Settles (e : FiveTuple) (old new : Table (TlsAnalysis K)) : Type 0 where
-    stays : new ≡ old → Settles e old new
-    settles :
-        (c : Connection (TlsAnalysis K)) (weight : ℕ) → at e old.live ≡ Some c
-        → new ≡ record (with_other e (record c { weight = weight }) old) {
-          held = (old.held - c.weight) + weight;
-        }
-        → Settles e old new
-
-  -- An arrival is added to its connection and analyzed. The connection that is over by it was
-  -- removed.
-  pub record Accepts (a : Arrival) (old new : Table (TlsAnalysis K))
-      (over : Option (Connection (TlsAnalysis K))) : Type 0 where
-    pub mid : Table (TlsAnalysis K)
-    pub takes : Takes a old mid over
-    pub settles : Settles (five_tuple_in a) mid new
 
   -- Bytes that disagreed in a datagram's fragments are counted for the sender of the arrival inside.
   abbrev pub disagreeing_from : Side → ℕ → Connection (TlsAnalysis K) → Connection (TlsAnalysis K)
@@ -339,3 +384,18 @@ module _ {K : Type 0} where
 
   abbrev pub with_disagreeing : Arrival → ℕ → Table (TlsAnalysis K) → Table (TlsAnalysis K)
   with_disagreeing a n t = changing (five_tuple_in a) (disagreeing_of a n) t
+
+module _ {K : Type 0} (M : K → ℕ) where
+  -- The accounted memory of this five-tuple's connection is updated, if that is due. M is the most
+  -- that its collector takes.
+  abbrev pub Settles : Bool → FiveTuple → Table (TlsAnalysis K) → Table (TlsAnalysis K) → Type 0
+  Settles true e old new = IsSettled (most_bytes_of M) e (at e old.live) old new
+  Settles false e old new = new ≡ old
+
+  -- An arrival is added to its connection and analyzed. The connection that it ended was removed.
+  pub record Accepts (a : Arrival) (old new : Table (TlsAnalysis K))
+      (over : Option (Connection (TlsAnalysis K))) : Type 0 where
+    pub mid : Table (TlsAnalysis K)
+    pub takes : Takes a old mid over
+    pub is_due : Bool
+    pub settles : Settles is_due (five_tuple_in a) mid new

@@ -1,14 +1,20 @@
 -- What a packet does to a log, and what its sink receives then.
 use Rattle.std.specs.Prelude.{◌≡◌, ℕ, ◌≤◌, Bool, true, false, is_some, List, [], ◌∷◌, Option, Some, None}
 use Rattle.arrivals.specs.Arrival.{five_tuple_in, time_of}
+use Rattle.arrivals.specs.Fragments.{ReadsWhole, datagram_of}
 use Rattle.arrivals.specs.declared.arrival.Arrival.{Arrival}
+use Rattle.arrivals.specs.declared.fragments.CompletedDatagram.{CompletedDatagram}
+use Rattle.arrivals.specs.declared.reader.ArrivalReader.{ArrivalReader}
 use Rattle.connections.specs.Memory.{IsAccounted, open_part, total}
 use Rattle.connections.specs.Table.{NoneIsOver, Table, at, with_other}
 use Rattle.connections.specs.declared.five_tuple.FiveTuple.{FiveTuple}
 use Rattle.connections.specs.declared.connection.Connection.{Connection}
-use Rattle.log_connections.specs.Log.{Accepts, KeepsOthers, with_disagreeing}
-use Rattle.log_connections.specs.Sink.{Adds, EndsRefused, IsCrowded, IsIdle, PassesEnded}
+use Rattle.packets.specs.Section.{Packet}
+use Rattle.log_connections.specs.Log.{Accepts, KeepsOthers, Refuses, uncounted, with_disagreeing}
+use Rattle.log_connections.specs.Reading.{Content, Holds, HoldsInside, InFragments, NeedsMemory, Nothing, Whole}
+use Rattle.log_connections.specs.Sink.{Adds, EndsAfterRefusal, IsCrowded, IsIdle, IsOfMemory, IsOfSink, PassesAllButLast, PassesEnded, StopsAfterRefusal}
 use Rattle.log_connections.specs.declared.analysis.TlsAnalysis.{TlsAnalysis}
+use Rattle.log_connections.specs.declared.sink.LogError.{LogError}
 
 module _ {K : Type 0} where
   -- The sink was lent an open connection, to take its pieces. All others stay.
@@ -17,21 +23,54 @@ module _ {K : Type 0} where
   IsLent e None old new = new ≡ old
   IsLent e (Some c) old new = (c' : Connection (TlsAnalysis K)) × (new ≡ with_other e c' old)
 
+  -- Bytes that disagreed are counted in the arrival's connection, unless they were.
+  abbrev pub noted_if : Bool → Arrival → ℕ → Table (TlsAnalysis K) → Table (TlsAnalysis K)
+  noted_if true a n t = t
+  noted_if false a n t = with_disagreeing a n t
+
+-- Of the reader, processing changes counts only. Without an arrival it changes nothing.
+abbrev pub IsReadBehind : Content → ArrivalReader → ArrivalReader → Type 0
+IsReadBehind Nothing read reader = reader ≡ read
+IsReadBehind (Whole a) read reader = uncounted reader ≡ uncounted read
+IsReadBehind (InFragments a n) read reader = uncounted reader ≡ uncounted read
+
+-- M is the most memory that a connection's collector takes.
+module _ {K : Type 0} (M : K → ℕ) where
   -- An arrival is accepted. The sink receives the connection that is over by it. Without memory for
-  -- the arrival, it receives the arrival's connection, and the longest-idle one.
+  -- the arrival, it receives the connection that another one replaced, the arrival's connection, and
+  -- the longest-idle one.
   pub data Arrives (a : Arrival) (old new : Table (TlsAnalysis K))
       (before after : Option (List (Connection (TlsAnalysis K)))) : Type 0 where
     ends :
-        (over : Connection (TlsAnalysis K)) → Accepts a old new (Some over)
+        (over : Connection (TlsAnalysis K)) → Accepts M a old new (Some over)
         → Adds before after (over ∷ []) → Arrives a old new before after
     goes_on :
-        (mid : Table (TlsAnalysis K)) → Accepts a old mid None
+        (mid : Table (TlsAnalysis K)) → Accepts M a old mid None
         → IsLent (five_tuple_in a) (at (five_tuple_in a) mid.live) mid new → Adds before after []
         → Arrives a old new before after
     is_refused :
-        (mid : Table (TlsAnalysis K)) → KeepsOthers (five_tuple_in a) old.live mid.live
-        → EndsRefused (five_tuple_in a) mid.live new.live before after
+        (mid : Table (TlsAnalysis K)) (over : Option (Connection (TlsAnalysis K)))
+        → Refuses a old mid over → KeepsOthers (five_tuple_in a) old.live mid.live
+        → EndsAfterRefusal (five_tuple_in a) over mid.live new.live before after
         → Arrives a old new before after
+
+  -- The sink refused the connection that is over by an arrival, its pieces, or one of those that end
+  -- without memory for the arrival; or there was none to end. All others stay.
+  pub data StopsArriving {E : Type 0} (a : Arrival) (error : LogError E)
+      (old new : Table (TlsAnalysis K))
+      (before after : Option (List (Connection (TlsAnalysis K)))) : Type 0 where
+    at_over :
+        (over : Connection (TlsAnalysis K)) → IsOfSink error → Accepts M a old new (Some over)
+        → Adds before after [] → StopsArriving a error old new before after
+    at_pieces :
+        (mid : Table (TlsAnalysis K)) → IsOfSink error → Accepts M a old mid None
+        → IsLent (five_tuple_in a) (at (five_tuple_in a) mid.live) mid new → Adds before after []
+        → StopsArriving a error old new before after
+    at_refused :
+        (mid : Table (TlsAnalysis K)) (over : Option (Connection (TlsAnalysis K)))
+        → Refuses a old mid over → KeepsOthers (five_tuple_in a) old.live mid.live
+        → StopsAfterRefusal (five_tuple_in a) over mid new before after error
+        → StopsArriving a error old new before after
 
   -- First the connections end that timed out before the arrival, then it is accepted, and then the
   -- longest-idle ones end that exceed the memory limit.
@@ -47,30 +86,92 @@ module _ {K : Type 0} where
     pub crowded : PassesEnded (IsCrowded full limit) full.live new.live second after
     pub within : IsAccounted full → total new.live ≤ open_part limit
 
-  -- So does the arrival in a reassembled datagram. Bytes that disagreed in its fragments are counted
-  -- in the arrival's connection, before or after.
-  abbrev pub noted_if : Bool → Arrival → ℕ → Table (TlsAnalysis K) → Table (TlsAnalysis K)
-  noted_if true a n t = t
-  noted_if false a n t = with_disagreeing a n t
+  -- The sink refused one of the connections that timed out, or of those that exceed the limit, or
+  -- processing stopped at the arrival. No connection is lost but the one that the sink refused.
+  pub data Stops {E : Type 0} (a : Arrival) (limit : ℕ) (error : LogError E)
+      (old new : Table (TlsAnalysis K))
+      (before after : Option (List (Connection (TlsAnalysis K)))) : Type 0 where
+    at_idle : IsOfSink error → PassesAllButLast (IsIdle (time_of a)) old.live new.live before after
+        → Stops a limit error old new before after
+    at_arrival :
+        (awake : Table (TlsAnalysis K)) (first : Option (List (Connection (TlsAnalysis K))))
+        → PassesEnded (IsIdle (time_of a)) old.live awake.live before first
+        → NoneIsOver (time_of a) awake.live → StopsArriving a error awake new first after
+        → Stops a limit error old new before after
+    at_crowded :
+        (awake full : Table (TlsAnalysis K))
+        (first second : Option (List (Connection (TlsAnalysis K))))
+        → PassesEnded (IsIdle (time_of a)) old.live awake.live before first
+        → NoneIsOver (time_of a) awake.live → Arrives a awake full first second → IsOfSink error
+        → PassesAllButLast (IsCrowded full limit) full.live new.live second after
+        → Stops a limit error old new before after
 
+  -- The same for the arrival in a reassembled datagram. Bytes that differed in its fragments are
+  -- counted in the arrival's connection, before or after.
   pub record ProcessesInside (a : Arrival) (n limit : ℕ) (old new : Table (TlsAnalysis K))
       (before after : Option (List (Connection (TlsAnalysis K)))) : Type 0 where
     pub processed : Table (TlsAnalysis K)
     pub processes : Processes a limit (with_disagreeing a n old) processed before after
     pub noted : new ≡ noted_if (is_some (at (five_tuple_in a) old.live)) a n processed
 
-  abbrev pub ProcessesIf : Bool → ℕ → Table (TlsAnalysis K) → Table (TlsAnalysis K)
+  -- A packet's content is processed. Without any, no connection changes.
+  abbrev pub HandlesContent : Content → ℕ → Table (TlsAnalysis K) → Table (TlsAnalysis K)
       → Option (List (Connection (TlsAnalysis K))) → Option (List (Connection (TlsAnalysis K)))
       → Type 0
-  ProcessesIf true limit old new before after =
-      (a : Arrival) × (n : ℕ) × ProcessesInside a n limit old new before after
-  ProcessesIf false limit old new before after = (new ≡ old) × (after ≡ before)
+  HandlesContent Nothing limit old new before after = (new ≡ old) × Adds before after []
+  HandlesContent (Whole a) limit old new before after = Processes a limit old new before after
+  HandlesContent (InFragments a n) limit old new before after =
+      ProcessesInside a n limit old new before after
 
-  -- A packet holds nothing of a connection; or a segment or datagram; or the last fragment of one.
-  pub data Handles (limit : ℕ) (old new : Table (TlsAnalysis K))
+  -- What the reader finds, for this relation of the reader behind it and the content, is processed.
+  pub record HandlesBy (Finds : ArrivalReader → Content → Type 0) (limit : ℕ)
+      (reader : ArrivalReader) (old new : Table (TlsAnalysis K))
       (before after : Option (List (Connection (TlsAnalysis K)))) : Type 0 where
-    nothing : new ≡ old → Adds before after [] → Handles limit old new before after
-    whole : (a : Arrival) → Processes a limit old new before after
-        → Handles limit old new before after
-    in_fragments : (a : Arrival) (n : ℕ) → ProcessesInside a n limit old new before after
-        → Handles limit old new before after
+    pub content : Content
+    pub read : ArrivalReader
+    pub finds : Finds read content
+    pub is_read : IsReadBehind content read reader
+    pub handles : HandlesContent content limit old new before after
+
+  -- What the reader finds in a packet is processed.
+  abbrev pub Handles : Packet → ℕ → ArrivalReader → ArrivalReader → Table (TlsAnalysis K)
+      → Table (TlsAnalysis K) → Option (List (Connection (TlsAnalysis K)))
+      → Option (List (Connection (TlsAnalysis K))) → Type 0
+  Handles p limit reader reader' old new before after =
+      HandlesBy (Holds p reader) limit reader' old new before after
+
+  abbrev pub HandlesInside : Bool → Packet → CompletedDatagram → ℕ → ArrivalReader → ArrivalReader
+      → Table (TlsAnalysis K) → Table (TlsAnalysis K) → Option (List (Connection (TlsAnalysis K)))
+      → Option (List (Connection (TlsAnalysis K))) → Type 0
+  HandlesInside true p d limit reader reader' old new before after =
+      HandlesBy (HoldsInside p d reader) limit reader' old new before after
+  HandlesInside false p d limit reader reader' old new before after =
+      ReadsWhole p d.tunnels (datagram_of d) reader reader' None × (new ≡ old) × (after ≡ before)
+
+  abbrev pub StopsContent : {E : Type 0} → Content → ℕ → LogError E → Table (TlsAnalysis K)
+      → Table (TlsAnalysis K) → Option (List (Connection (TlsAnalysis K)))
+      → Option (List (Connection (TlsAnalysis K))) → Type 0
+  StopsContent Nothing limit error old new before after = ⊥
+  StopsContent (Whole a) limit error old new before after =
+      Stops a limit error old new before after
+  StopsContent (InFragments a n) limit error old new before after =
+      Stops a limit error (with_disagreeing a n old) new before after
+
+  -- Memory was refused to the reader, which needed some, and no connection changed; or processing
+  -- stopped.
+  pub data StopsBy {E : Type 0} (Finds : ArrivalReader → Content → Type 0) (Needs : Type 0)
+      (limit : ℕ) (error : LogError E) (old new : Table (TlsAnalysis K))
+      (before after : Option (List (Connection (TlsAnalysis K)))) : Type 0 where
+    at_reader :
+        IsOfMemory error → Needs → new ≡ old → Adds before after []
+        → StopsBy Finds Needs limit error old new before after
+    at_content :
+        (content : Content) (read : ArrivalReader) → Finds read content
+        → StopsContent content limit error old new before after
+        → StopsBy Finds Needs limit error old new before after
+
+  abbrev pub StopsHandling : {E : Type 0} → Packet → ℕ → ArrivalReader → LogError E
+      → Table (TlsAnalysis K) → Table (TlsAnalysis K) → Option (List (Connection (TlsAnalysis K)))
+      → Option (List (Connection (TlsAnalysis K))) → Type 0
+  StopsHandling p limit reader error old new before after =
+      StopsBy (Holds p reader) (NeedsMemory p reader) limit error old new before after

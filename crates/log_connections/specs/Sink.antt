@@ -1,12 +1,12 @@
 -- The connections that a log passes to its sink.
-use Rattle.std.specs.Prelude.{◌≡◌, ⊤, ℕ, ◌<◌, ◌≤◌, IfSome, Bool, true, ◌||◌, is_some, Result, Ok, Err, List, [], ◌∷◌, ◌++◌, Option, Some, None}
+use Rattle.std.specs.Prelude.{◌≡◌, ⊤, ℕ, ◌<◌, ◌≤◌, IfSome, Bool, true, false, ◌||◌, is_some, Result, Ok, Err, List, [], ◌∷◌, ◌++◌, Option, Some, None}
 use Rattle.connections.specs.Connection.{has_opening}
 use Rattle.connections.specs.Memory.{IsAccounted, open_part, total}
 use Rattle.connections.specs.Table.{IsOver, NoneIsOver, Table, at, others}
 use Rattle.connections.specs.declared.five_tuple.FiveTuple.{FiveTuple}
 use Rattle.connections.specs.declared.connection.Connection.{Connection}
 use Rattle.connections.specs.declared.connection.Side.TheVariants.{Originator, Responder}
-use Rattle.log_connections.specs.Analysis.{HearsStream}
+use Rattle.log_connections.specs.Analysis.{HearsStream, IsCutIn, is_done}
 use Rattle.log_connections.specs.declared.analysis.TlsAnalysis.{TlsAnalysis}
 use Rattle.log_connections.specs.declared.sink.LogError.{LogError}
 use Rattle.log_connections.specs.declared.sink.LogError.TheVariants.{OutOfMemory, Sink}
@@ -17,14 +17,23 @@ StaysSound old new (Ok a) = old ≡ true → new ≡ true
 StaysSound old new (Err OutOfMemory) = old ≡ true → new ≡ true
 StaysSound old new (Err (Sink e)) = ⊤
 
+-- The sink failed, or memory ran out.
+abbrev pub IsOfSink : {E : Type 0} → LogError E → Type 0
+IsOfSink OutOfMemory = ⊥
+IsOfSink (Sink e) = ⊤
+
+abbrev pub IsOfMemory : {E : Type 0} → LogError E → Type 0
+IsOfMemory OutOfMemory = ⊤
+IsOfMemory (Sink e) = ⊥
+
 module _ {X : Type 0} where
-  -- What is known of a sink grows by these.
+  -- The values known to have reached the sink grow by these.
   abbrev pub Adds : Option (List X) → Option (List X) → List X → Type 0
   Adds None new xs = ⊤
   Adds (Some before) None xs = ⊥
   Adds (Some before) (Some after) xs = after ≡ before ++ xs
 
-  -- None, or one.
+  -- The list of the value, or the empty list.
   abbrev pub as_list : Option X → List X
   as_list None = []
   as_list (Some x) = x ∷ []
@@ -37,7 +46,7 @@ module _ {X : Type 0} where
 module _ {K : Type 0} where
   -- The last bytes of both streams, which were held back, were analyzed, and it may be marked as
   -- ended early. All else stays.
-  pub record IsEnded (c c' : Connection (TlsAnalysis K)) : Type 0 where
+  pub record HearsLast (c c' : Connection (TlsAnalysis K)) : Type 0 where
     pub between : TlsAnalysis K
     pub last : TlsAnalysis K
     pub originator :
@@ -51,6 +60,33 @@ module _ {K : Type 0} where
           from_responder = c'.from_responder;
           attachment = record last { is_ended_early = c'.attachment.is_ended_early };
         }
+
+  -- Memory was refused for the last bytes of one of its streams, which weren't all analyzed before.
+  -- All else stays.
+  pub data IsCutOff (c c' : Connection (TlsAnalysis K)) : Type 0 where
+    at_originator :
+        (last : TlsAnalysis K) → is_done Originator c.from_originator c.attachment ≡ false
+        → IsCutIn c.attachment last
+        → c' ≡ record c {
+          attachment = record last { is_ended_early = c'.attachment.is_ended_early };
+        }
+        → IsCutOff c c'
+    at_responder :
+        (between last : TlsAnalysis K)
+        → HearsStream Originator (has_opening c) true c.from_originator c'.from_originator
+        c.attachment between
+        → is_done Responder c.from_responder between ≡ false → IsCutIn between last
+        → c' ≡ record c {
+          from_originator = c'.from_originator;
+          attachment = record last { is_ended_early = c'.attachment.is_ended_early };
+        }
+        → IsCutOff c c'
+
+  -- A connection ended: its last bytes were analyzed, or it ended early, since memory was refused
+  -- for them.
+  pub data IsEnded (c c' : Connection (TlsAnalysis K)) : Type 0 where
+    wholly : HearsLast c c' → IsEnded c c'
+    cut_off : IsCutOff c c' → c'.attachment.is_ended_early ≡ true → IsEnded c c'
 
   abbrev pub EndsAs : Option (Connection (TlsAnalysis K)) → Option (Connection (TlsAnalysis K))
       → Type 0
@@ -71,15 +107,16 @@ module _ {K : Type 0} where
   EndsLast xs ys None = (xs ≡ []) × (ys ≡ [])
   EndsLast xs ys (Some c') = (c : Connection (TlsAnalysis K)) × IsLastEnded xs ys c c'
 
-  -- It ended if it was idle for longer than the limit, or there are too many. Else none did.
+  -- The longest-idle connection ended if it was idle for longer than the limit, or there are too
+  -- many; else none ended.
   abbrev pub EndsIdle : ℕ → List (FiveTuple × Connection (TlsAnalysis K))
       → List (FiveTuple × Connection (TlsAnalysis K)) → Option (Connection (TlsAnalysis K)) → Type 0
   EndsIdle time xs ys None = (ys ≡ xs) × NoneIsOver time xs
   EndsIdle time xs ys (Some c') = (c : Connection (TlsAnalysis K)) × IsLastEnded xs ys c c'
       × IsOver time xs c.last_time
 
-  -- It ended if the open connections exceed their part of the memory limit. Else none did, and they
-  -- are within it.
+  -- The longest-idle connection ended if the open ones exceed their part of the memory limit; else
+  -- none ended, and they are within it.
   abbrev pub EndsCrowded : ℕ → Table (TlsAnalysis K) → Table (TlsAnalysis K)
       → Option (Connection (TlsAnalysis K)) → Type 0
   EndsCrowded limit t u None = (u.live ≡ t.live)
@@ -87,7 +124,11 @@ module _ {K : Type 0} where
   EndsCrowded limit t u (Some c') = (c : Connection (TlsAnalysis K)) × IsLastEnded t.live u.live c c'
       × (open_part limit < t.held)
 
-  -- A connection that memory ran short for ended early.
+  -- It is marked as ended early.
+  abbrev pub marked_early : Connection (TlsAnalysis K) → Connection (TlsAnalysis K)
+  marked_early c = record c { attachment = record c.attachment { is_ended_early = true } }
+
+  -- A connection that was closed for lack of memory is marked as ended early.
   abbrev pub AreEarly : Option (Connection (TlsAnalysis K)) → Type 0
   AreEarly o = IfSome o (λ c. c.attachment.is_ended_early ≡ true)
 
@@ -111,6 +152,16 @@ module _ {K : Type 0} where
       (old new : Option (List (Connection (TlsAnalysis K)))) : Type 0 where
     pub outs : List (Connection (TlsAnalysis K))
     pub ended : EndInTurn Is xs ys outs
+    pub received : Adds old new outs
+
+  -- The sink received those that ended, but for the last one, which it refused. All others stay.
+  pub record PassesAllButLast
+      (Is : List (FiveTuple × Connection (TlsAnalysis K)) → Connection (TlsAnalysis K) → Type 0)
+      (xs ys : List (FiveTuple × Connection (TlsAnalysis K)))
+      (old new : Option (List (Connection (TlsAnalysis K)))) : Type 0 where
+    pub outs : List (Connection (TlsAnalysis K))
+    pub refused : Connection (TlsAnalysis K)
+    pub ended : EndInTurn Is xs ys (outs ++ refused ∷ [])
     pub received : Adds old new outs
 
   -- All connections end with the capture.
@@ -141,3 +192,41 @@ module _ {K : Type 0} where
     pub oldest_is_early : AreEarly oldest
     pub are_some : (is_some own || is_some oldest) ≡ true
     pub received : Adds old new (as_list own ++ as_list oldest)
+
+  -- Of these two, the sink refused one, and received the one before. Without either, memory ran
+  -- out.
+  pub data StopsRefused {E : Type 0} (e : FiveTuple)
+      (xs ys : List (FiveTuple × Connection (TlsAnalysis K)))
+      (old new : Option (List (Connection (TlsAnalysis K)))) (error : LogError E) : Type 0 where
+    at_own :
+        (own : Connection (TlsAnalysis K)) → IsOfSink error → EndsAs (at e xs) (Some own)
+        → AreEarly (Some own) → ys ≡ others e xs → Adds old new []
+        → StopsRefused e xs ys old new error
+    at_oldest :
+        (own : Option (Connection (TlsAnalysis K))) (oldest : Connection (TlsAnalysis K))
+        → IsOfSink error → EndsAs (at e xs) own → AreEarly own
+        → EndsLast (others e xs) ys (Some oldest) → AreEarly (Some oldest)
+        → Adds old new (as_list own) → StopsRefused e xs ys old new error
+    without_any :
+        IsOfMemory error → at e xs ≡ None → others e xs ≡ [] → ys ≡ [] → Adds old new []
+        → StopsRefused e xs ys old new error
+
+  -- The sink receives the connection that another one replaced before, if there is one, and then
+  -- these two.
+  abbrev pub EndsAfterRefusal : FiveTuple → Option (Connection (TlsAnalysis K))
+      → List (FiveTuple × Connection (TlsAnalysis K))
+      → List (FiveTuple × Connection (TlsAnalysis K)) → Option (List (Connection (TlsAnalysis K)))
+      → Option (List (Connection (TlsAnalysis K))) → Type 0
+  EndsAfterRefusal e over xs ys old new = (between : Option (List (Connection (TlsAnalysis K))))
+      × Adds old between (as_list over) × EndsRefused e xs ys between new
+
+  -- Or it refused that one, and no other ended; or one of the two.
+  pub data StopsAfterRefusal {E : Type 0} (e : FiveTuple) (over : Option (Connection (TlsAnalysis K)))
+      (t u : Table (TlsAnalysis K)) (old new : Option (List (Connection (TlsAnalysis K))))
+      (error : LogError E) : Type 0 where
+    at_replaced : IsOfSink error → is_some over ≡ true → u ≡ t → Adds old new []
+        → StopsAfterRefusal e over t u old new error
+    behind_replaced :
+        (between : Option (List (Connection (TlsAnalysis K)))) → Adds old between (as_list over)
+        → StopsRefused e t.live u.live between new error
+        → StopsAfterRefusal e over t u old new error

@@ -6,19 +6,21 @@ ghost use Rattle.connections.specs.Stream.{is_cut_short};
 ghost use Rattle.ssl2_hello.specs.ClientHello.{view_client_hello as view_ssl2_hello};
 ghost use Rattle.tls_summary.specs.HandshakeSummary.{view_summary};
 ghost use Rattle.log_connections.specs.Accessors.{BeginsAnother, HasHandshake, HasHistory, HasOutcome, HasStop, IsEstablishedBy, IsResumedBy, LacksFront, records_of};
-ghost use Rattle.log_connections.specs.Analysis.{HearsAt, HearsDatagram, HearsFurther, HearsHello, HearsNone, HearsStream, IsBegun as IsBegunAs, IsPrepared, IsSpokenBy, Keeps, PassesOver, are_passed as are_passed_on, begins_in, counted, counting, direction_of as direction_by, is_answered as is_answered_in, is_done as is_done_in, is_over_in, is_responder as is_responder_side, is_silent_in, noted_tunnels, preamble_of, stopped_if, tunnels_in, turned, turned_by as turned_by_message};
+ghost use Rattle.log_connections.specs.Analysis.{HearsAt, HearsDatagram, HearsFurther, HearsHello, HearsNone, HearsStream, IsBegun as IsBegunAs, IsCut, IsCutIn, IsPrepared, IsSpokenBy, Keeps, PassesOver, are_passed as are_passed_on, begins_in, counted, counting, direction_of as direction_by, is_answered as is_answered_in, is_done as is_done_in, is_over_in, is_responder as is_responder_side, is_silent_in, noted_tunnels, preamble_of, stopped_if, tunnels_in, turned, turned_by as turned_by_message};
 ghost use Rattle.log_connections.specs.Capacity.{buffers_of as buffers_by, least_bytes_of, least_of_transport, most_bytes_of, most_of_transport, of_collector as of_collector_in, of_tunnels as of_tunnels_in};
 ghost use Rattle.log_connections.specs.Fronts.{view_beginning};
 
 use crate::audience::Audience;
 use crate::fronts::{Beginning, Preambles, begins_at};
 use connections::{Attachment, Protocol, Side, Stream};
+use dtls_analyzer::{DatagramAnalyzer, DatagramRecordCounter};
 use ssl2_hello::Ssl2ClientHello;
 use std::alloc::{AllocError, Global};
 use std::mem::{self, size_of};
-use tls_analyzer::{Analyzer, DatagramAnalyzer, DatagramRecordCounter, Observer, RecordCounter};
+use tls_analyzer::{Analyzer, RecordCounter};
 use tls_detection::{first_message, held_datagram};
 use tls_flow::{Direction, Outcome, Stop};
+use tls_observer::Observer;
 use tls_summary::{CertificateCache, HandshakeSummary};
 use tunnels::{Tunnel, Tunnels};
 
@@ -522,8 +524,9 @@ impl<K: PieceCollector> TlsAnalysis<K> {
         n: usize,
         known: &mut CertificateCache,
     ) -> Result<(), AllocError>
-        ensures { OnOk result
+        ensures heard { OnOk result
             (HearsAt side is_opened n stream.old stream.new self.old self.new) }
+        ensures cut { OnErr result (IsCut stream.old stream.new self.old self.new) }
     {
         let all = stream.available();
         let bytes = behind(all, n);
@@ -557,7 +560,9 @@ impl<K: PieceCollector> TlsAnalysis<K> {
     /// with the next bytes.
     #[tactic(auto, unfolding(crate::specs::Analysis::HearsHello))]
     fn analyze_ssl2(&mut self, side: Side, hello: &Ssl2ClientHello<'_>) -> Result<(), AllocError>
-        ensures { OnOk result (HearsHello side (view_ssl2_hello hello.now) self.old self.new) }
+        ensures heard { OnOk result
+            (HearsHello side (view_ssl2_hello hello.now) self.old self.new) }
+        ensures cut { OnErr result (IsCutIn self.old self.new) }
     {
         self.see_ssl2_client(side);
         let direction = self.direction(side);
@@ -569,17 +574,16 @@ impl<K: PieceCollector> TlsAnalysis<K> {
 
     /// Analyzes a side as one that doesn't speak TLS, and stops reading its stream.
     #[tactic(auto, unfolding(crate::specs::Analysis::HearsNone))]
-    fn skip_side(&mut self, stream: &mut Stream, side: Side) -> Result<(), AllocError>
-        ensures { OnOk result (HearsNone side stream.old stream.new self.old self.new) }
+    fn skip_side(&mut self, stream: &mut Stream, side: Side)
+        ensures { HearsNone side stream.old stream.new self.old self.new }
     {
         let direction = self.direction(side);
         let TransportAnalyzer::Stream(analyzer, preambles) = &mut self.said else {
-            return Ok(());
+            return;
         };
         preambles.clear(side);
-        analyzer.skip_side(self.alloc, direction)?;
+        analyzer.skip_side(direction);
         stream.stop();
-        Ok(())
     }
 
     /// Skips bytes of a side before its TLS.
@@ -640,9 +644,11 @@ impl<K: PieceCollector> TlsAnalysis<K> {
         are_last: bool,
         known: &mut CertificateCache,
     ) -> Result<(), AllocError>
-        ensures { OnOk result
+        ensures heard { OnOk result
             (HearsStream side is_opened (are_last || is_cut_short stream.old stream.old.reading)
             stream.old stream.new self.old self.new) }
+        ensures cut { OnErr result (IsCut stream.old stream.new self.old self.new) }
+        ensures undone { OnErr result (is_done_in side stream.old self.old ≡ false) }
     {
         // (most packets come after the whole handshake was analyzed)
         if self.is_done(stream, side) {
@@ -662,9 +668,10 @@ impl<K: PieceCollector> TlsAnalysis<K> {
         are_last: bool,
         known: &mut CertificateCache,
     ) -> Result<(), AllocError>
-        ensures { OnOk result
+        ensures heard { OnOk result
             (HearsFurther side is_opened (are_last || is_cut_short stream.old stream.old.reading)
             stream.old stream.new self.old self.new) }
+        ensures cut { OnErr result (IsCut stream.old stream.new self.old self.new) }
     {
         let are_last = are_last || stream.is_cut();
         match self.beginning(stream.available(), side, are_last) {
@@ -679,7 +686,10 @@ impl<K: PieceCollector> TlsAnalysis<K> {
                 stream.take(n);
                 Ok(())
             }
-            Beginning::Nowhere => self.skip_side(stream, side),
+            Beginning::Nowhere => {
+                self.skip_side(stream, side);
+                Ok(())
+            }
         }
     }
 

@@ -1,8 +1,8 @@
 //! The listeners to the events of a connection.
 use crate::analysis::PieceCollector;
 use std::alloc::AllocError;
-use tls_analyzer::Observer;
 use tls_flow::{Direction, HandshakeMessage};
+use tls_observer::Observer;
 use tls_stream::SideEvent;
 use tls_summary::CertificateCache;
 

@@ -1,12 +1,16 @@
 //! What drives a log: [`Log::packet`] for each packet, and [`Log::finish`] at the end.
-ghost use Rattle.std.specs.Prelude.{◌≡◌, ◌≤◌, [], IfOk, OnOk, is_some};
+ghost use Rattle.std.specs.Prelude.{◌≡◌, ◌≤◌, ⊤, true, [], IfErr, IfOk, OnErr, OnOk, is_some};
 ghost use Rattle.std.specs.Option.{option_map};
+ghost use Rattle.packets.specs.Section.{view_packet};
 ghost use Rattle.arrivals.specs.Arrival.{five_tuple_in};
+ghost use Rattle.arrivals.specs.Fragments.{fragment_in};
 ghost use Rattle.connections.specs.Memory.{IsAccounted, open_part, total};
 ghost use Rattle.connections.specs.Table.{NoneIsOver, at};
 ghost use Rattle.log_connections.specs.Found.{IsCounted};
-ghost use Rattle.log_connections.specs.Packet.{Arrives, Handles, IsLent, Processes, ProcessesIf, noted_if};
-ghost use Rattle.log_connections.specs.Sink.{Adds, EndsRefused, IsCrowded, IsIdle, IsOpen, PassesEnded, Receives, StaysSound, as_list};
+ghost use Rattle.log_connections.specs.Log.{uncounted};
+ghost use Rattle.log_connections.specs.Packet.{Arrives, Handles, HandlesBy, HandlesInside, IsLent, Processes, Stops, StopsArriving, StopsBy, StopsHandling, noted_if};
+ghost use Rattle.log_connections.specs.Reading.{HoldsFragment, HoldsInside, HoldsWhole};
+ghost use Rattle.log_connections.specs.Sink.{Adds, EndsAfterRefusal, EndsRefused, IsCrowded, IsIdle, IsOfSink, IsOpen, PassesAllButLast, PassesEnded, Receives, StaysSound, StopsAfterRefusal, StopsRefused, as_list};
 
 use crate::analysis::{PieceCollector, TlsAnalysis};
 use crate::found::add_connection;
@@ -30,8 +34,14 @@ impl<K: PieceCollector> Log<K> {
         sink: &mut S,
     ) -> Result<(), LogError<S::Error>>
         ensures handled { OnOk result
-            (Handles self.old.memory self.old.connections self.new.connections
+            (Handles K.most_bytes (view_packet packet.entry) self.old.memory self.old.arrivals
+            self.new.arrivals self.old.connections self.new.connections (S.received sink.old)
+            (S.received sink.new)) }
+        ensures stopped { IfErr result
+            (λ error. StopsHandling K.most_bytes (view_packet packet.entry) self.old.memory
+            self.old.arrivals error self.old.connections self.new.connections
             (S.received sink.old) (S.received sink.new)) }
+        ensures memory { self.new.memory ≡ self.old.memory }
         ensures sound { StaysSound (S.is_sound sink.old) (S.is_sound sink.new) result }
     {
         if let Some(arrival) = self.arrivals.plain_arrival(packet) {
@@ -49,8 +59,14 @@ impl<K: PieceCollector> Log<K> {
         sink: &mut S,
     ) -> Result<(), LogError<S::Error>>
         ensures handled { OnOk result
-            (Handles self.old.memory self.old.connections self.new.connections
+            (Handles K.most_bytes (view_packet packet.entry) self.old.memory self.old.arrivals
+            self.new.arrivals self.old.connections self.new.connections (S.received sink.old)
+            (S.received sink.new)) }
+        ensures stopped { IfErr result
+            (λ error. StopsHandling K.most_bytes (view_packet packet.entry) self.old.memory
+            self.old.arrivals error self.old.connections self.new.connections
             (S.received sink.old) (S.received sink.new)) }
+        ensures memory { self.new.memory ≡ self.old.memory }
         ensures sound { StaysSound (S.is_sound sink.old) (S.is_sound sink.new) result }
     {
         match self.arrivals.arrival(packet)? {
@@ -59,20 +75,51 @@ impl<K: PieceCollector> Log<K> {
         }
     }
 
-    /// Processes the datagram that a fragment completed, if it did. It may hold another fragment,
-    /// in a tunnel.
+    /// Processes the datagram that a packet's fragment completes, if it does.
     fn join_fragments<S: Sink<K>>(
         &mut self,
         packet: Packet<'_>,
         sink: &mut S,
     ) -> Result<(), LogError<S::Error>>
         ensures handled { OnOk result
-            (Handles self.old.memory self.old.connections self.new.connections
+            (HandlesBy K.most_bytes (HoldsFragment (view_packet packet.entry) self.old.arrivals)
+            self.old.memory self.new.arrivals self.old.connections self.new.connections
             (S.received sink.old) (S.received sink.new)) }
+        ensures stopped { IfErr result
+            (λ error. StopsBy K.most_bytes
+            (HoldsFragment (view_packet packet.entry) self.old.arrivals)
+            (is_some (fragment_in (view_packet packet.entry)) ≡ true) self.old.memory error
+            self.old.connections self.new.connections (S.received sink.old)
+            (S.received sink.new)) }
+        ensures memory { self.new.memory ≡ self.old.memory }
         ensures sound { StaysSound (S.is_sound sink.old) (S.is_sound sink.new) result }
     {
-        let mut whole = self.arrivals.join(packet)?;
-        'inside: for _ in 0..MAX_TUNNELS + 1 {
+        let whole = self.arrivals.join(packet)?;
+        self.process_joined(packet, whole, sink)
+    }
+
+    /// Processes a reassembled datagram. It may hold another fragment, in a tunnel.
+    fn process_joined<S: Sink<K>>(
+        &mut self,
+        packet: Packet<'_>,
+        joined: Option<CompletedDatagram>,
+        sink: &mut S,
+    ) -> Result<(), LogError<S::Error>>
+        ensures handled { OnOk result
+            (HandlesBy K.most_bytes
+            (HoldsWhole (view_packet packet.entry) self.old.arrivals joined) self.old.memory
+            self.new.arrivals self.old.connections self.new.connections (S.received sink.old)
+            (S.received sink.new)) }
+        ensures stopped { IfErr result
+            (λ error. StopsBy K.most_bytes
+            (HoldsWhole (view_packet packet.entry) self.old.arrivals joined)
+            (is_some joined ≡ true) self.old.memory error self.old.connections
+            self.new.connections (S.received sink.old) (S.received sink.new)) }
+        ensures memory { self.new.memory ≡ self.old.memory }
+        ensures sound { StaysSound (S.is_sound sink.old) (S.is_sound sink.new) result }
+    {
+        let mut whole = joined;
+        'inside: for count in 0..MAX_TUNNELS + 1 {
             let Some(joined) = whole else {
                 return Ok(());
             };
@@ -92,9 +139,15 @@ impl<K: PieceCollector> Log<K> {
         sink: &mut S,
     ) -> Result<bool, LogError<S::Error>>
         ensures processed { IfOk result
-            (λ holds_one. ProcessesIf holds_one self.old.memory self.old.connections
+            (λ holds_one. HandlesInside K.most_bytes holds_one (view_packet packet.entry) joined.now
+            self.old.memory self.old.arrivals self.new.arrivals self.old.connections
             self.new.connections (S.received sink.old) (S.received sink.new)) }
-        ensures memory { OnOk result (self.new.memory ≡ self.old.memory) }
+        ensures stopped { IfErr result
+            (λ error. StopsBy K.most_bytes
+            (HoldsInside (view_packet packet.entry) joined.now self.old.arrivals) ⊤
+            self.old.memory error self.old.connections self.new.connections
+            (S.received sink.old) (S.received sink.new)) }
+        ensures memory { self.new.memory ≡ self.old.memory }
         ensures sound { StaysSound (S.is_sound sink.old) (S.is_sound sink.new) result }
     {
         let Some(arrival) = self.arrivals.arrival_in(packet, joined)? else {
@@ -112,6 +165,7 @@ impl<K: PieceCollector> Log<K> {
         ensures noted { self.new.connections
             ≡ noted_if is_noted arrival.now count self.old.connections }
         ensures memory { self.new.memory ≡ self.old.memory }
+        ensures reader { uncounted self.new.arrivals ≡ uncounted self.old.arrivals }
     {
         if !is_noted {
             self.note_disagreeing(arrival, count);
@@ -125,9 +179,13 @@ impl<K: PieceCollector> Log<K> {
         sink: &mut S,
     ) -> Result<(), LogError<S::Error>>
         ensures processed { OnOk result
-            (Processes arrival.now self.old.memory self.old.connections self.new.connections
-            (S.received sink.old) (S.received sink.new)) }
-        ensures memory { OnOk result (self.new.memory ≡ self.old.memory) }
+            (Processes K.most_bytes arrival.now self.old.memory self.old.connections
+            self.new.connections (S.received sink.old) (S.received sink.new)) }
+        ensures stopped { IfErr result
+            (λ error. Stops K.most_bytes arrival.now self.old.memory error self.old.connections
+            self.new.connections (S.received sink.old) (S.received sink.new)) }
+        ensures memory { self.new.memory ≡ self.old.memory }
+        ensures reader { uncounted self.new.arrivals ≡ uncounted self.old.arrivals }
         ensures sound { StaysSound (S.is_sound sink.old) (S.is_sound sink.new) result }
     {
         self.end_idle(arrival.time(), sink)?;
@@ -143,15 +201,19 @@ impl<K: PieceCollector> Log<K> {
         sink: &mut S,
     ) -> Result<(), LogError<S::Error>>
         ensures arrives { OnOk result
-            (Arrives arrival.now self.old.connections self.new.connections
+            (Arrives K.most_bytes arrival.now self.old.connections self.new.connections
             (S.received sink.old) (S.received sink.new)) }
-        ensures memory { OnOk result (self.new.memory ≡ self.old.memory) }
+        ensures stopped { IfErr result
+            (λ error. StopsArriving K.most_bytes arrival.now error self.old.connections
+            self.new.connections (S.received sink.old) (S.received sink.new)) }
+        ensures memory { self.new.memory ≡ self.old.memory }
+        ensures reader { uncounted self.new.arrivals ≡ uncounted self.old.arrivals }
         ensures sound { StaysSound (S.is_sound sink.old) (S.is_sound sink.new) result }
     {
         match self.accept(arrival) {
             Ok(Some(over)) => self.end_connection(over, arrival.time(), sink),
             Ok(None) => self.pass_pieces(arrival, sink),
-            Err(_) => self.end_refused(arrival, sink),
+            Err(refused) => self.end_after(arrival, refused.over, sink),
         }
     }
 
@@ -164,11 +226,16 @@ impl<K: PieceCollector> Log<K> {
     ) -> Result<(), LogError<S::Error>>
         ensures received { Receives (S.received sink.old) (S.received sink.new) result over.value }
         ensures counted { IsCounted over.value self.old.arrivals.counts self.new.arrivals.counts }
-        ensures same { self.new ≡ record self.old { arrivals = self.new.arrivals } }
+        ensures same { self.new ≡ record self.old
+            { arrivals = self.new.arrivals; spare = self.new.spare } }
+        ensures reader { uncounted self.new.arrivals ≡ uncounted self.old.arrivals }
+        ensures failed { IfErr result (λ error. IsOfSink error) }
         ensures sound { StaysSound (S.is_sound sink.old) (S.is_sound sink.new) result }
     {
         add_connection(&mut self.arrivals.counts, &over);
-        hand_over(over, time, sink)
+        hand_over(over, time, sink)?;
+        self.spare();
+        Ok(())
     }
 
     /// Ends the connections that timed out by this time.
@@ -177,10 +244,15 @@ impl<K: PieceCollector> Log<K> {
             (PassesEnded (IsIdle time) self.old.connections.live self.new.connections.live
             (S.received sink.old) (S.received sink.new)) }
         ensures none { OnOk result (NoneIsOver time self.new.connections.live) }
-        ensures memory { OnOk result (self.new.memory ≡ self.old.memory) }
+        ensures stopped { OnErr result
+            (PassesAllButLast (IsIdle time) self.old.connections.live self.new.connections.live
+            (S.received sink.old) (S.received sink.new)) }
+        ensures failed { IfErr result (λ error. IsOfSink error) }
+        ensures memory { self.new.memory ≡ self.old.memory }
+        ensures reader { uncounted self.new.arrivals ≡ uncounted self.old.arrivals }
         ensures sound { StaysSound (S.is_sound sink.old) (S.is_sound sink.new) result }
     {
-        while let Some(over) = self.take_over(time)? {
+        while let Some(over) = self.take_over(time) {
             let last = over.last_time;
             self.end_connection(over, last, sink)?;
         }
@@ -199,6 +271,8 @@ impl<K: PieceCollector> Log<K> {
             (at (five_tuple_in arrival.now) self.old.connections.live) self.old.connections
             self.new.connections }
         ensures memory { self.new.memory ≡ self.old.memory }
+        ensures reader { uncounted self.new.arrivals ≡ uncounted self.old.arrivals }
+        ensures failed { IfErr result (λ error. IsOfSink error) }
         ensures sound { StaysSound (S.is_sound sink.old) (S.is_sound sink.new) result }
     {
         if !self.passes_pieces() {
@@ -216,12 +290,18 @@ impl<K: PieceCollector> Log<K> {
             (PassesEnded (IsCrowded self.old.connections self.old.memory)
             self.old.connections.live self.new.connections.live
             (S.received sink.old) (S.received sink.new)) }
-        ensures memory { OnOk result (self.new.memory ≡ self.old.memory) }
+        ensures stopped { OnErr result
+            (PassesAllButLast (IsCrowded self.old.connections self.old.memory)
+            self.old.connections.live self.new.connections.live
+            (S.received sink.old) (S.received sink.new)) }
+        ensures failed { IfErr result (λ error. IsOfSink error) }
+        ensures memory { self.new.memory ≡ self.old.memory }
+        ensures reader { uncounted self.new.arrivals ≡ uncounted self.old.arrivals }
         ensures within { OnOk result (IsAccounted self.old.connections
             → total self.new.connections.live ≤ open_part self.old.memory) }
         ensures sound { StaysSound (S.is_sound sink.old) (S.is_sound sink.new) result }
     {
-        while let Some(over) = self.take_crowded()? {
+        while let Some(over) = self.take_crowded() {
             self.end_connection(over, time, sink)?;
         }
         Ok(())
@@ -237,7 +317,12 @@ impl<K: PieceCollector> Log<K> {
         ensures received { OnOk result (Adds (S.received sink.old) (S.received sink.new)
             (as_list (option_map (λ b. b.value) removed))) }
         ensures was { IfOk result (λ was_one. was_one ≡ is_some removed) }
-        ensures same { self.new ≡ record self.old { arrivals = self.new.arrivals } }
+        ensures stopped { OnErr result (is_some removed ≡ true
+            × Adds (S.received sink.old) (S.received sink.new) []) }
+        ensures failed { IfErr result (λ error. IsOfSink error) }
+        ensures same { self.new ≡ record self.old
+            { arrivals = self.new.arrivals; spare = self.new.spare } }
+        ensures reader { uncounted self.new.arrivals ≡ uncounted self.old.arrivals }
         ensures sound { StaysSound (S.is_sound sink.old) (S.is_sound sink.new) result }
     {
         match removed {
@@ -247,6 +332,30 @@ impl<K: PieceCollector> Log<K> {
             }
             None => Ok(false),
         }
+    }
+
+    /// Ends the connection that another one replaced before memory was refused for an arrival, and
+    /// those that end then.
+    fn end_after<S: Sink<K>>(
+        &mut self,
+        arrival: &Arrival<'_>,
+        over: Option<Box<Connection<TlsAnalysis<K>>>>,
+        sink: &mut S,
+    ) -> Result<(), LogError<S::Error>>
+        ensures ended { OnOk result
+            (EndsAfterRefusal (five_tuple_in arrival.now) (option_map (λ b. b.value) over)
+            self.old.connections.live self.new.connections.live (S.received sink.old)
+            (S.received sink.new)) }
+        ensures stopped { IfErr result
+            (λ error. StopsAfterRefusal (five_tuple_in arrival.now)
+            (option_map (λ b. b.value) over) self.old.connections self.new.connections
+            (S.received sink.old) (S.received sink.new) error) }
+        ensures memory { self.new.memory ≡ self.old.memory }
+        ensures reader { uncounted self.new.arrivals ≡ uncounted self.old.arrivals }
+        ensures sound { StaysSound (S.is_sound sink.old) (S.is_sound sink.new) result }
+    {
+        self.end_removed(over, arrival.time(), sink)?;
+        self.end_refused(arrival, sink)
     }
 
     /// Ends the connection of an arrival that memory was refused for, and the longest-idle one.
@@ -259,18 +368,21 @@ impl<K: PieceCollector> Log<K> {
         ensures ended { OnOk result
             (EndsRefused (five_tuple_in arrival.now) self.old.connections.live
             self.new.connections.live (S.received sink.old) (S.received sink.new)) }
-        ensures memory { OnOk result (self.new.memory ≡ self.old.memory) }
+        ensures stopped { IfErr result
+            (λ error. StopsRefused (five_tuple_in arrival.now) self.old.connections.live
+            self.new.connections.live (S.received sink.old) (S.received sink.new) error) }
+        ensures memory { self.new.memory ≡ self.old.memory }
+        ensures reader { uncounted self.new.arrivals ≡ uncounted self.old.arrivals }
         ensures sound { StaysSound (S.is_sound sink.old) (S.is_sound sink.new) result }
     {
         let time = arrival.time();
-        let own = self.take_refused(arrival)?;
+        let own = self.take_refused(arrival);
         let has_own = self.end_removed(own, time, sink)?;
-        let oldest = self.take_oldest()?;
+        let oldest = self.take_oldest();
         let has_oldest = self.end_removed(oldest, time, sink)?;
         if !has_own && !has_oldest {
             return Err(LogError::OutOfMemory);
         }
-        self.spare();
         Ok(())
     }
 
@@ -281,10 +393,14 @@ impl<K: PieceCollector> Log<K> {
             (PassesEnded IsOpen self.old.connections.live self.new.connections.live
             (S.received sink.old) (S.received sink.new)) }
         ensures none { OnOk result (self.new.connections.live ≡ []) }
+        ensures stopped { OnErr result
+            (PassesAllButLast IsOpen self.old.connections.live self.new.connections.live
+            (S.received sink.old) (S.received sink.new)) }
+        ensures failed { IfErr result (λ error. IsOfSink error) }
         ensures sound { StaysSound (S.is_sound sink.old) (S.is_sound sink.new) result }
     {
         self.arrivals.count_cut();
-        while let Some(over) = self.take_remaining()? {
+        while let Some(over) = self.take_remaining() {
             let last = over.last_time;
             self.end_connection(over, last, sink)?;
         }

@@ -22,11 +22,11 @@ pub(crate) struct Preambles {
 /// Where TLS begins on a side, by its next bytes.
 #[derive(Clone, Copy)]
 pub(crate) enum Beginning<'a> {
-    /// Too few bytes came to decide.
+    /// Undecided: there are too few bytes.
     Waits,
-    /// Not in this many bytes; those behind them are too few to decide.
+    /// Not within this many bytes; too few follow them to decide.
     PassesOver(usize),
-    /// Behind this many bytes.
+    /// After this many bytes.
     At(usize),
     /// At once, with this ClientHello in the SSL 2.0 format, in a record of this many bytes.
     InSsl2(Ssl2ClientHello<'a>, usize),
@@ -119,7 +119,7 @@ pub(crate) fn begins_at(
 }
 
 impl Preambles {
-    /// Those of a connection before any bytes.
+    /// No bytes are skipped: the state of a connection before any bytes.
     pub(crate) const NONE: Preambles = Preambles {
         originator: 0,
         responder: 0,

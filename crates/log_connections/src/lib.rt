@@ -16,6 +16,8 @@
 mod analysis;
 mod audience;
 mod drive;
+mod ending;
+mod exchanges;
 mod found;
 mod fronts;
 mod log;
@@ -23,5 +25,6 @@ mod memory;
 mod sink;
 
 pub use analysis::{ANALYSIS_COST, PieceCollector, PieceKind, TlsAnalysis};
+pub use exchanges::Delivery;
 pub use log::Log;
 pub use sink::{LogError, Sink};

@@ -1,25 +1,23 @@
 //! What a capture's arrivals add to the log.
-ghost use Rattle.std.specs.Prelude.{◌≡◌, ◌-◌, ◌<◌, ◌^◌, [], IfOk, IfSome, OnOk, is_some, length};
+ghost use Rattle.std.specs.Prelude.{◌≡◌, ◌-◌, ◌^◌, [], IfErr, IfOk, IfSome, OnErr, OnOk, Some, is_some, true};
 ghost use Rattle.std.specs.Option.{option_map};
 ghost use Rattle.arrivals.specs.Arrival.{five_tuple_in};
-ghost use Rattle.connections.specs.Connection.{is_for_checksum, side_of};
-ghost use Rattle.connections.specs.Datagram.{five_tuple_of_datagram};
-ghost use Rattle.connections.specs.Segment.{five_tuple_of, is_refused};
+ghost use Rattle.arrivals.specs.Reader.{IsNew};
+ghost use Rattle.connections.specs.Connection.{is_for_checksum, lets_in, side_of};
+ghost use Rattle.connections.specs.Segment.{five_tuple_of};
 ghost use Rattle.connections.specs.Table.{at, belongs, with_dropped_segment, with_waiting_segment};
 ghost use Rattle.log_connections.specs.Analysis.{HearsNext, HearsOn};
-ghost use Rattle.log_connections.specs.Log.{Accepts, AcceptsBy, AcceptsDatagram, AcceptsJudged, AcceptsSegment, BeginsUnless, EndsAfter, EndsClosed, HearsAllAcknowledged, HearsFrom, HearsOne, HearsPending, HearsSide, IsClosedAs, IsDelivered, IsReceived, KeepsOthers, Logs, LogsDatagram, LogsExchange, LogsOpen, Settles, Takes, TakesAnew, TakesBehind, TakesIn, TakesInAnother, damaged_if, disagreeing_from, is_closed_in, verdict_in, with_disagreeing, with_stray};
-ghost use Rattle.log_connections.specs.Sink.{EndsAs, EndsIdle, EndsLast, IsEnded};
+ghost use Rattle.log_connections.specs.Log.{Accepts, AcceptsBy, AcceptsJudged, AcceptsSegment, EndsAfter, EndsClosed, HearsAllAcknowledged, HearsOne, HearsPending, HearsSide, IsClosedAs, IsReceived, KeepsOthers, Logs, LogsOpen, Refuses, RefusesIf, RefusesInAnother, RefusesSegment, Settles, Takes, TakesAnew, TakesBehind, TakesIn, TakesInAnother, damaged_if, disagreeing_from, is_closed_in, uncounted, verdict_in, with_disagreeing, with_stray};
 
 use crate::analysis::{PieceCollector, PieceKind, TlsAnalysis};
 use crate::memory::SPARE;
 use arrivals::{Arrival, ArrivalReader, add_one};
 use connections::{
-    Checksum, Connection, Connections, Datagram, DropReason, End, FiveTuple, Judgement,
-    MAX_PENDING, PendingOutcome, PendingSegment, Segment, Side, Stream, Verdict,
+    Checksum, Connection, Connections, DropReason, End, FiveTuple, Judgement, MAX_PENDING,
+    PendingOutcome, PendingSegment, Segment, Side, Stream, Verdict,
 };
 use std::alloc::{AllocError, Global};
 use std::hash::RandomState;
-use tls_flow::Direction;
 use tls_summary::CertificateCache;
 use tunnels::Tunnels;
 
@@ -29,7 +27,7 @@ pub struct Log<K> {
     pub(crate) alloc: Global,
     pub(crate) connections: Connections<TlsAnalysis<K>>,
     // The pieces of connections that are kept until they are taken.
-    kept: Option<PieceKind>,
+    pub(crate) kept: Option<PieceKind>,
     // The memory limit for connections in bytes, and whether the accounted memory of the last
     // arrival's connection may have changed.
     pub(crate) memory: usize,
@@ -42,58 +40,31 @@ pub struct Log<K> {
     pub arrivals: ArrivalReader,
 }
 
+/// The system refused memory for an arrival.
+#[derive(Drop)]
+pub(crate) struct Refused<K> {
+    /// The connection that another one replaced before, if one did. It was removed.
+    pub(crate) over: Option<Box<Connection<TlsAnalysis<K>>>>,
+}
+
+impl<K> From<AllocError> for Refused<K> {
+    ghost use Rattle.std.specs.Prelude.{◌≡◌, None};
+
+    ghost from_gives = { λ _ r. r ≡ record { over = None } };
+
+    fn from(_e: AllocError) -> Refused<K> {
+        Refused { over: None }
+    }
+}
+
 /// What happened to a segment.
 enum Reception {
     /// Its connection analyzed it, and is closed or not.
     Heard(bool),
     /// Its connection didn't change; this is its verdict.
     Told(Verdict),
-    /// It has no open connection.
+    /// There is no open connection.
     NoneOpen,
-}
-
-/// What happened to a datagram.
-enum Delivery {
-    /// Its exchange analyzed it.
-    Heard,
-    /// It was counted for a wrong checksum.
-    Damaged,
-    /// It begins another exchange in place of the open one.
-    BeginsAnother,
-    /// It has no open exchange.
-    NoneOpen,
-}
-
-/// Analyzes the last bytes of both streams, which were held back while more could come.
-fn analyze_last<K: PieceCollector>(
-    connection: &mut Connection<TlsAnalysis<K>>,
-    known: &mut CertificateCache,
-) -> Result<(), AllocError>
-    ensures { OnOk result (IsEnded connection.old connection.new) }
-{
-    let is_opened = connection.has_opening();
-    let heard = &mut connection.attachment;
-    let stream = &mut connection.from_originator;
-    heard.analyze_stream(stream, Side::Originator, is_opened, true, known)?;
-    let stream = &mut connection.from_responder;
-    heard.analyze_stream(stream, Side::Responder, is_opened, true, known)
-}
-
-/// Analyzes the last bytes of a removed connection, and returns it.
-pub(crate) fn with_last<K: PieceCollector>(
-    known: &mut CertificateCache,
-    taken: Option<Box<Connection<TlsAnalysis<K>>>>,
-) -> Result<Option<Box<Connection<TlsAnalysis<K>>>>, AllocError>
-    ensures { IfOk result (λ ended. EndsAs (option_map (λ b. b.value) taken)
-        (option_map (λ b. b.value) ended)) }
-{
-    match taken {
-        Some(mut connection) => {
-            analyze_last(&mut connection, known)?;
-            Ok(Some(connection))
-        }
-        None => Ok(None),
-    }
 }
 
 /// Analyzes the next bytes of a side's stream, on both sides of an urgent byte.
@@ -163,23 +134,6 @@ fn analyze<K: PieceCollector>(
     }
 }
 
-/// Analyzes a datagram. Keeps the pieces if they are to be taken.
-fn analyze_from<K: PieceCollector>(
-    exchange: &mut Connection<TlsAnalysis<K>>,
-    datagram: &Datagram<'_>,
-    kept: Option<PieceKind>,
-    tunnels: &Tunnels,
-    known: &mut CertificateCache,
-) -> Result<(), AllocError>
-    ensures { OnOk result (HearsFrom datagram.now exchange.old exchange.new) }
-{
-    let side = exchange.side_of(datagram.source);
-    let heard = &mut exchange.attachment;
-    let direction = heard.direction(side);
-    heard.prepare(tunnels, kept)?;
-    heard.analyze_datagram(direction, datagram.payload, known)
-}
-
 /// Counts bytes that disagreed in the fragments of a packet of this sender.
 fn count_disagreeing<K: PieceCollector>(
     connection: &mut Connection<TlsAnalysis<K>>,
@@ -207,6 +161,7 @@ impl<K: PieceCollector> Log<K> {
             (λ log. log.connections ≡ record { live = []; closed = []; held = 0 }) }
         ensures kept { IfOk result (λ log. log.kept ≡ kept) }
         ensures memory { IfOk result (λ log. log.memory ≡ 2 ^ 64 - 1) }
+        ensures arrivals { IfOk result (λ log. IsNew log.arrivals) }
     {
         Ok(Log {
             alloc,
@@ -220,50 +175,22 @@ impl<K: PieceCollector> Log<K> {
         })
     }
 
-    /// Removes and returns a connection that timed out by this time.
-    pub(crate) fn take_over(
-        &mut self,
-        time: u64,
-    ) -> Result<Option<Box<Connection<TlsAnalysis<K>>>>, AllocError>
-        ensures idle { IfOk result (λ o. EndsIdle time self.old.connections.live
-            self.new.connections.live (option_map (λ b. b.value) o)) }
-        ensures fewer { IfOk result (λ o. IfSome o (λ _.
-            length self.new.connections.live < length self.old.connections.live)) }
-        ensures memory { self.new.memory ≡ self.old.memory }
-    {
-        if !self.connections.has_idle(time) {
-            return Ok(None);
-        }
-        self.take_idle(time)
-    }
-
-    /// Removes and returns an idle connection, when there may be one.
-    fn take_idle(
-        &mut self,
-        time: u64,
-    ) -> Result<Option<Box<Connection<TlsAnalysis<K>>>>, AllocError>
-        ensures idle { IfOk result (λ o. EndsIdle time self.old.connections.live
-            self.new.connections.live (option_map (λ b. b.value) o)) }
-        ensures fewer { IfOk result (λ o. IfSome o (λ _.
-            length self.new.connections.live < length self.old.connections.live)) }
-        ensures memory { self.new.memory ≡ self.old.memory }
-    {
-        with_last(&mut self.known, self.connections.take_idle(time))
-    }
-
     /// Adds an arrival to its connection and analyzes the bytes that it completes. Removes and
     /// returns a connection that is over then.
     ///
-    /// `AllocError` if there is no memory for it. [`Log::take_refused`] then ends its connection.
+    /// [`Refused`] if there is no memory for it. [`Log::take_refused`] then ends its connection.
     pub(crate) fn accept(
         &mut self,
         arrival: &Arrival<'_>,
-    ) -> Result<Option<Box<Connection<TlsAnalysis<K>>>>, AllocError>
-        ensures accepted { IfOk result (λ over. Accepts arrival.now self.old.connections
+    ) -> Result<Option<Box<Connection<TlsAnalysis<K>>>>, Refused<K>>
+        ensures accepted { IfOk result (λ over. Accepts K.most_bytes arrival.now self.old.connections
             self.new.connections (option_map (λ b. b.value) over)) }
+        ensures refused { IfErr result (λ refused. Refuses arrival.now self.old.connections
+            self.new.connections (option_map (λ b. b.value) refused.over)) }
         ensures others { KeepsOthers (five_tuple_in arrival.now) self.old.connections.live
             self.new.connections.live }
         ensures memory { self.new.memory ≡ self.old.memory }
+        ensures reader { uncounted self.new.arrivals ≡ uncounted self.old.arrivals }
     {
         self.is_unsettled = false;
         let over = self.analyze_arrival(arrival)?;
@@ -273,9 +200,10 @@ impl<K: PieceCollector> Log<K> {
 
     /// Updates the memory that is accounted for an arrival's connection, if that may have changed.
     fn settle(&mut self, arrival: &Arrival<'_>)
-        ensures settled { Settles (five_tuple_in arrival.now) self.old.connections
-            self.new.connections }
+        ensures settled { Settles K.most_bytes self.old.is_unsettled (five_tuple_in arrival.now)
+            self.old.connections self.new.connections }
         ensures memory { self.new.memory ≡ self.old.memory }
+        ensures reader { uncounted self.new.arrivals ≡ uncounted self.old.arrivals }
     {
         if !self.is_unsettled {
             return;
@@ -288,12 +216,15 @@ impl<K: PieceCollector> Log<K> {
     fn analyze_arrival(
         &mut self,
         arrival: &Arrival<'_>,
-    ) -> Result<Option<Box<Connection<TlsAnalysis<K>>>>, AllocError>
+    ) -> Result<Option<Box<Connection<TlsAnalysis<K>>>>, Refused<K>>
         ensures taken { IfOk result (λ over. Takes arrival.now self.old.connections
             self.new.connections (option_map (λ b. b.value) over)) }
+        ensures refused { IfErr result (λ refused. Refuses arrival.now self.old.connections
+            self.new.connections (option_map (λ b. b.value) refused.over)) }
         ensures others { KeepsOthers (five_tuple_in arrival.now) self.old.connections.live
             self.new.connections.live }
         ensures memory { self.new.memory ≡ self.old.memory }
+        ensures reader { uncounted self.new.arrivals ≡ uncounted self.old.arrivals }
     {
         match arrival {
             Arrival::Segment(segment) => self.accept_segment(segment),
@@ -313,6 +244,7 @@ impl<K: PieceCollector> Log<K> {
         ensures others { KeepsOthers (five_tuple_of segment.now) self.old.connections.live
             self.new.connections.live }
         ensures memory { self.new.memory ≡ self.old.memory }
+        ensures reader { uncounted self.new.arrivals ≡ uncounted self.old.arrivals }
     {
         // (mostly there is a connection already, which is looked up once)
         if let Some(connection) = self.connections.get_first_mut(&segment.between()) {
@@ -341,6 +273,7 @@ impl<K: PieceCollector> Log<K> {
         ensures others { KeepsOthers (five_tuple_of segment.now) self.old.connections.live
             self.new.connections.live }
         ensures memory { self.new.memory ≡ self.old.memory }
+        ensures reader { uncounted self.new.arrivals ≡ uncounted self.old.arrivals }
     {
         if !self.connections.accept(segment)? {
             return Ok(None);
@@ -373,6 +306,7 @@ impl<K: PieceCollector> Log<K> {
         ensures others { KeepsOthers five_tuple.now self.old.connections.live
             self.new.connections.live }
         ensures memory { self.new.memory ≡ self.old.memory }
+        ensures reader { uncounted self.new.arrivals ≡ uncounted self.old.arrivals }
     {
         let Some(connection) = self.connections.get_first_mut(five_tuple) else {
             return Ok(());
@@ -394,6 +328,7 @@ impl<K: PieceCollector> Log<K> {
         ensures others { KeepsOthers (five_tuple_of segment.now) self.old.connections.live
             self.new.connections.live }
         ensures memory { self.new.memory ≡ self.old.memory }
+        ensures reader { uncounted self.new.arrivals ≡ uncounted self.old.arrivals }
     {
         self.is_unsettled = true;
         'waiting: for count in 0..MAX_PENDING {
@@ -412,6 +347,7 @@ impl<K: PieceCollector> Log<K> {
         ensures others { KeepsOthers (five_tuple_of segment.now) self.old.connections.live
             self.new.connections.live }
         ensures memory { self.new.memory ≡ self.old.memory }
+        ensures reader { uncounted self.new.arrivals ≡ uncounted self.old.arrivals }
     {
         match self.connections.take_pending(segment) {
             Some(PendingOutcome::Taken(kept)) => {
@@ -434,6 +370,7 @@ impl<K: PieceCollector> Log<K> {
         ensures others { KeepsOthers (five_tuple_of segment.now) self.old.connections.live
             self.new.connections.live }
         ensures memory { self.new.memory ≡ self.old.memory }
+        ensures reader { uncounted self.new.arrivals ≡ uncounted self.old.arrivals }
     {
         let heard = self.analyze_segment(segment)?;
         self.end_analyzed(segment, heard)
@@ -467,6 +404,7 @@ impl<K: PieceCollector> Log<K> {
         ensures others { KeepsOthers (five_tuple_of segment.now) self.old.connections.live
             self.new.connections.live }
         ensures memory { self.new.memory ≡ self.old.memory }
+        ensures reader { uncounted self.new.arrivals ≡ uncounted self.old.arrivals }
     {
         match heard {
             Some(true) => self.take_closed(segment),
@@ -488,8 +426,10 @@ impl<K: PieceCollector> Log<K> {
         ensures others { KeepsOthers (five_tuple_of segment.now) self.old.connections.live
             self.new.connections.live }
         ensures memory { self.new.memory ≡ self.old.memory }
+        ensures reader { uncounted self.new.arrivals ≡ uncounted self.old.arrivals }
     {
-        with_last(&mut self.known, self.connections.take_closed(segment)?)
+        let taken = self.connections.take_closed(segment)?;
+        Ok(self.with_last(taken))
     }
 
     /// Removes and returns the connection that another one replaces, and analyzes the segment in
@@ -497,16 +437,22 @@ impl<K: PieceCollector> Log<K> {
     fn take_replaced(
         &mut self,
         segment: &Segment<'_>,
-    ) -> Result<Option<Box<Connection<TlsAnalysis<K>>>>, AllocError>
+    ) -> Result<Option<Box<Connection<TlsAnalysis<K>>>>, Refused<K>>
         ensures replaced { IfOk result (λ over. TakesInAnother segment.now self.old.connections
             self.new.connections (option_map (λ b. b.value) over)) }
+        ensures refused { IfErr result (λ refused. RefusesInAnother segment.now
+            self.old.connections self.new.connections (option_map (λ b. b.value) refused.over)) }
         ensures others { KeepsOthers (five_tuple_of segment.now) self.old.connections.live
             self.new.connections.live }
         ensures memory { self.new.memory ≡ self.old.memory }
+        ensures reader { uncounted self.new.arrivals ≡ uncounted self.old.arrivals }
     {
-        let over = self.connections.take_replaced(segment)?;
-        self.analyze_segment(segment)?;
-        with_last(&mut self.known, over)
+        let taken = self.connections.take_replaced(segment)?;
+        let over = self.with_last(taken);
+        match self.analyze_segment(segment) {
+            Ok(_) => Ok(over),
+            Err(_) => Err(Refused { over }),
+        }
     }
 
     /// Adds a segment that its receiver takes to its open connection, and analyzes the bytes that
@@ -517,11 +463,14 @@ impl<K: PieceCollector> Log<K> {
             (λ reception. LogsOpen reception segment.now self.old.connections self.new.connections) }
         ensures judged { IfOk result
             (λ reception. IsReceived reception (verdict_in segment.now self.old.connections)) }
+        ensures refused { OnErr result
+            (option_map lets_in (verdict_in segment.now self.old.connections) ≡ Some true) }
         ensures closed { IfOk result
             (λ reception. IsClosedAs reception (is_closed_in segment.now self.new.connections)) }
         ensures others { KeepsOthers (five_tuple_of segment.now) self.old.connections.live
             self.new.connections.live }
         ensures memory { self.new.memory ≡ self.old.memory }
+        ensures reader { uncounted self.new.arrivals ≡ uncounted self.old.arrivals }
     {
         let five_tuple = segment.between();
         let Some(connection) = self.connections.get_mut(&five_tuple) else {
@@ -549,19 +498,22 @@ impl<K: PieceCollector> Log<K> {
     fn accept_segment(
         &mut self,
         segment: &Segment<'_>,
-    ) -> Result<Option<Box<Connection<TlsAnalysis<K>>>>, AllocError>
+    ) -> Result<Option<Box<Connection<TlsAnalysis<K>>>>, Refused<K>>
         ensures accepted { IfOk result (λ over. AcceptsSegment segment.now self.old.connections
             self.new.connections (option_map (λ b. b.value) over)) }
+        ensures refused { IfErr result (λ refused. RefusesSegment segment.now self.old.connections
+            self.new.connections (option_map (λ b. b.value) refused.over)) }
         ensures others { KeepsOthers (five_tuple_of segment.now) self.old.connections.live
             self.new.connections.live }
         ensures memory { self.new.memory ≡ self.old.memory }
+        ensures reader { uncounted self.new.arrivals ≡ uncounted self.old.arrivals }
     {
         match self.analyze_open(segment)? {
             Reception::Heard(false) => Ok(None),
-            Reception::Heard(true) => self.take_closed(segment),
+            Reception::Heard(true) => Ok(self.take_closed(segment)?),
             Reception::NoneOpen => {
                 let heard = self.analyze_first(segment)?;
-                self.end_analyzed(segment, heard)
+                Ok(self.end_analyzed(segment, heard)?)
             }
             Reception::Told(verdict) => self.accept_by(segment, verdict),
         }
@@ -585,20 +537,24 @@ impl<K: PieceCollector> Log<K> {
         &mut self,
         segment: &Segment<'_>,
         verdict: Verdict,
-    ) -> Result<Option<Box<Connection<TlsAnalysis<K>>>>, AllocError>
+    ) -> Result<Option<Box<Connection<TlsAnalysis<K>>>>, Refused<K>>
         ensures accepted { IfOk result (λ over. AcceptsBy verdict segment.now self.old.connections
             self.new.connections (option_map (λ b. b.value) over)) }
+        ensures refused { IfErr result (λ refused. RefusesIf verdict.shows_damage
+            verdict.begins_another segment.now self.old.connections self.new.connections
+            (option_map (λ b. b.value) refused.over)) }
         ensures others { KeepsOthers (five_tuple_of segment.now) self.old.connections.live
             self.new.connections.live }
         ensures memory { self.new.memory ≡ self.old.memory }
+        ensures reader { uncounted self.new.arrivals ≡ uncounted self.old.arrivals }
     {
         if verdict.shows_damage {
-            return self.take_anew(segment);
+            return Ok(self.take_anew(segment)?);
         }
         if verdict.begins_another {
             return self.take_replaced(segment);
         }
-        self.accept_judged(segment, verdict.judgement, verdict.tells)
+        Ok(self.accept_judged(segment, verdict.judgement, verdict.tells)?)
     }
 
     /// Restarts the connection of a segment, since everything before it was damaged, and analyzes
@@ -612,6 +568,7 @@ impl<K: PieceCollector> Log<K> {
         ensures others { KeepsOthers (five_tuple_of segment.now) self.old.connections.live
             self.new.connections.live }
         ensures memory { self.new.memory ≡ self.old.memory }
+        ensures reader { uncounted self.new.arrivals ≡ uncounted self.old.arrivals }
     {
         self.connections.restart(segment);
         self.take_segment(segment)
@@ -630,6 +587,7 @@ impl<K: PieceCollector> Log<K> {
         ensures others { KeepsOthers (five_tuple_of segment.now) self.old.connections.live
             self.new.connections.live }
         ensures memory { self.new.memory ≡ self.old.memory }
+        ensures reader { uncounted self.new.arrivals ≡ uncounted self.old.arrivals }
     {
         match judgement {
             Judgement::Dropped(reason) => {
@@ -652,6 +610,7 @@ impl<K: PieceCollector> Log<K> {
         ensures others { KeepsOthers (five_tuple_of segment.now) self.old.connections.live
             self.new.connections.live }
         ensures memory { self.new.memory ≡ self.old.memory }
+        ensures reader { uncounted self.new.arrivals ≡ uncounted self.old.arrivals }
     {
         self.count_dropped(reason);
         self.is_unsettled = segment.begins();
@@ -666,6 +625,7 @@ impl<K: PieceCollector> Log<K> {
         ensures others { KeepsOthers (five_tuple_of segment.now) self.old.connections.live
             self.new.connections.live }
         ensures memory { self.new.memory ≡ self.old.memory }
+        ensures reader { uncounted self.new.arrivals ≡ uncounted self.old.arrivals }
     {
         self.is_unsettled = true;
         self.connections.wait(segment, reason)
@@ -682,119 +642,13 @@ impl<K: PieceCollector> Log<K> {
         ensures others { KeepsOthers (five_tuple_of segment.now) self.old.connections.live
             self.new.connections.live }
         ensures memory { self.new.memory ≡ self.old.memory }
+        ensures reader { uncounted self.new.arrivals ≡ uncounted self.old.arrivals }
     {
         if !tells {
             return self.take_segment(segment);
         }
         self.analyze_acknowledged(segment)?;
         self.take_segment(segment)
-    }
-
-    /// Analyzes a datagram in its open exchange, unless it is damaged or begins another DTLS
-    /// association. The exchange is looked up once.
-    fn analyze_exchange(&mut self, datagram: &Datagram<'_>) -> Result<Delivery, AllocError>
-        ensures logged { IfOk result
-            (λ delivery. LogsExchange delivery datagram.now self.old.connections
-            self.new.connections) }
-        ensures delivered { IfOk result
-            (λ delivery. IsDelivered delivery datagram.now self.old.connections) }
-        ensures others { KeepsOthers (five_tuple_of_datagram datagram.now) self.old.connections.live
-            self.new.connections.live }
-        ensures memory { self.new.memory ≡ self.old.memory }
-    {
-        let five_tuple = datagram.between();
-        let Some(exchange) = self.connections.get_mut(&five_tuple) else {
-            return Ok(Delivery::NoneOpen);
-        };
-        if exchange.is_damaged(datagram) {
-            exchange.drop_datagram(datagram);
-            return Ok(Delivery::Damaged);
-        }
-        let side = exchange.side_of(datagram.source);
-        if exchange.attachment.begins_another(side, datagram.payload) {
-            return Ok(Delivery::BeginsAnother);
-        }
-        exchange.take_datagram(self.alloc, datagram);
-        analyze_from(
-            exchange,
-            datagram,
-            self.kept,
-            &self.arrivals.tunnels,
-            &mut self.known,
-        )?;
-        self.is_unsettled = !exchange.is_settled();
-        self.connections.promote(&five_tuple);
-        Ok(Delivery::Heard)
-    }
-
-    /// Analyzes a datagram in its exchange. Removes and returns the exchange that another one
-    /// replaces.
-    fn accept_user_datagram(
-        &mut self,
-        datagram: &Datagram<'_>,
-    ) -> Result<Option<Box<Connection<TlsAnalysis<K>>>>, AllocError>
-        ensures accepted { IfOk result (λ over. AcceptsDatagram datagram.now self.old.connections
-            self.new.connections (option_map (λ b. b.value) over)) }
-        ensures others { KeepsOthers (five_tuple_of_datagram datagram.now) self.old.connections.live
-            self.new.connections.live }
-        ensures memory { self.new.memory ≡ self.old.memory }
-    {
-        match self.analyze_exchange(datagram)? {
-            Delivery::Heard => Ok(None),
-            Delivery::Damaged => {
-                add_one(&mut self.arrivals.counts.damaged);
-                Ok(None)
-            }
-            Delivery::NoneOpen => {
-                self.begin_exchange(datagram)?;
-                Ok(None)
-            }
-            Delivery::BeginsAnother => {
-                let over = self.connections.take_exchange(datagram)?;
-                self.accept_datagram(datagram)?;
-                Ok(over)
-            }
-        }
-    }
-
-    /// Begins an exchange with a datagram, or counts the datagram if its checksum is wrong.
-    fn begin_exchange(&mut self, datagram: &Datagram<'_>) -> Result<(), AllocError>
-        ensures begun { OnOk result (BeginsUnless (is_refused datagram.now.checksum) datagram.now
-            self.old.connections self.new.connections) }
-        ensures others { KeepsOthers (five_tuple_of_datagram datagram.now) self.old.connections.live
-            self.new.connections.live }
-        ensures memory { self.new.memory ≡ self.old.memory }
-    {
-        if datagram.checksum == Checksum::Refused {
-            add_one(&mut self.arrivals.counts.damaged);
-            return Ok(());
-        }
-        self.accept_datagram(datagram)
-    }
-
-    /// Analyzes a datagram in its exchange, which it begins if there is none.
-    fn accept_datagram(&mut self, datagram: &Datagram<'_>) -> Result<(), AllocError>
-        ensures logged { OnOk result
-            (LogsDatagram datagram.now self.old.connections self.new.connections) }
-        ensures others { KeepsOthers (five_tuple_of_datagram datagram.now) self.old.connections.live
-            self.new.connections.live }
-        ensures memory { self.new.memory ≡ self.old.memory }
-    {
-        self.connections.accept_datagram(datagram)?;
-        match self.connections.get_mut(&datagram.between()) {
-            Some(exchange) => {
-                analyze_from(
-                    exchange,
-                    datagram,
-                    self.kept,
-                    &self.arrivals.tunnels,
-                    &mut self.known,
-                )?;
-                self.is_unsettled = !exchange.is_settled();
-                Ok(())
-            }
-            None => Ok(()),
-        }
     }
 
     /// Adds a count of bytes that disagreed in a datagram's fragments to the sender of the arrival
@@ -805,6 +659,7 @@ impl<K: PieceCollector> Log<K> {
         ensures is_open { result
             ≡ is_some (at (five_tuple_in arrival.now) self.old.connections.live) }
         ensures memory { self.new.memory ≡ self.old.memory }
+        ensures reader { uncounted self.new.arrivals ≡ uncounted self.old.arrivals }
     {
         let Some(connection) = self.connections.get_mut(&arrival.between()) else {
             return false;
@@ -819,17 +674,5 @@ impl<K: PieceCollector> Log<K> {
             Some(pieces) => pieces.are_passed(),
             None => false,
         }
-    }
-
-    /// Removes and returns one of the remaining connections, and analyzes its last bytes.
-    pub(crate) fn take_remaining(
-        &mut self,
-    ) -> Result<Option<Box<Connection<TlsAnalysis<K>>>>, AllocError>
-        ensures last { IfOk result (λ o. EndsLast self.old.connections.live
-            self.new.connections.live (option_map (λ b. b.value) o)) }
-        ensures fewer { IfOk result (λ o. IfSome o (λ _.
-            length self.new.connections.live < length self.old.connections.live)) }
-    {
-        with_last(&mut self.known, self.connections.take_remaining())
     }
 }

@@ -1,16 +1,16 @@
 //! Evicts connections when memory runs short.
-ghost use Rattle.std.specs.Prelude.{◌≡◌, ◌<◌, IfOk, IfSome, length};
+ghost use Rattle.std.specs.Prelude.{◌≡◌, ◌<◌, IfSome, length};
 ghost use Rattle.std.specs.Option.{option_map};
 ghost use Rattle.arrivals.specs.Arrival.{five_tuple_in};
 ghost use Rattle.connections.specs.Memory.{IsAccounted};
 ghost use Rattle.connections.specs.Table.{at, others};
-ghost use Rattle.log_connections.specs.Sink.{AreEarly, EndsAs, EndsCrowded, EndsLast};
+ghost use Rattle.log_connections.specs.Log.{uncounted};
+ghost use Rattle.log_connections.specs.Sink.{AreEarly, EndsAs, EndsCrowded, EndsLast, marked_early};
 
 use crate::analysis::{PieceCollector, TlsAnalysis};
-use crate::log::{Log, with_last};
+use crate::log::Log;
 use arrivals::{Arrival, add_one};
 use connections::Connection;
-use std::alloc::AllocError;
 
 /// The memory reserved for ending connections when the system refuses more, in bytes: enough for a
 /// line and its parts.
@@ -24,41 +24,50 @@ impl<K: PieceCollector> Log<K> {
         self.memory = memory;
     }
 
+    /// Marks a connection as ended early, and counts it, unless it was marked before.
+    pub(crate) fn mark_early(&mut self, over: &mut Connection<TlsAnalysis<K>>)
+        ensures marked { over.new ≡ marked_early over.old }
+        ensures connections { self.new.connections ≡ self.old.connections }
+        ensures memory { self.new.memory ≡ self.old.memory }
+        ensures reader { uncounted self.new.arrivals ≡ uncounted self.old.arrivals }
+    {
+        if over.attachment.is_ended_early {
+            return;
+        }
+        over.attachment.is_ended_early = true;
+        add_one(&mut self.arrivals.counts.ended_early);
+    }
+
     /// Ends a removed connection early, and counts it.
     fn end_early(
         &mut self,
         taken: Option<Box<Connection<TlsAnalysis<K>>>>,
-    ) -> Result<Option<Box<Connection<TlsAnalysis<K>>>>, AllocError>
-        ensures ended { IfOk result (λ ended. EndsAs (option_map (λ b. b.value) taken)
-            (option_map (λ b. b.value) ended)) }
-        ensures early { IfOk result (λ ended. AreEarly (option_map (λ b. b.value) ended)) }
+    ) -> Option<Box<Connection<TlsAnalysis<K>>>>
+        ensures ended { EndsAs (option_map (λ b. b.value) taken)
+            (option_map (λ b. b.value) result) }
+        ensures early { AreEarly (option_map (λ b. b.value) result) }
         ensures connections { self.new.connections ≡ self.old.connections }
         ensures memory { self.new.memory ≡ self.old.memory }
+        ensures reader { uncounted self.new.arrivals ≡ uncounted self.old.arrivals }
     {
-        match with_last(&mut self.known, taken)? {
-            Some(mut connection) => {
-                connection.attachment.is_ended_early = true;
-                add_one(&mut self.arrivals.counts.ended_early);
-                Ok(Some(connection))
-            }
-            None => Ok(None),
-        }
+        let mut over = self.with_last(taken)?;
+        self.mark_early(&mut over);
+        Some(over)
     }
 
     /// Removes and returns the longest-idle connection if all exceed the memory limit.
-    pub(crate) fn take_crowded(
-        &mut self,
-    ) -> Result<Option<Box<Connection<TlsAnalysis<K>>>>, AllocError>
-        ensures crowded { IfOk result (λ o. EndsCrowded self.old.memory self.old.connections
-            self.new.connections (option_map (λ b. b.value) o)) }
-        ensures early { IfOk result (λ o. AreEarly (option_map (λ b. b.value) o)) }
-        ensures fewer { IfOk result (λ o. IfSome o (λ _.
-            length self.new.connections.live < length self.old.connections.live)) }
+    pub(crate) fn take_crowded(&mut self) -> Option<Box<Connection<TlsAnalysis<K>>>>
+        ensures crowded { EndsCrowded self.old.memory self.old.connections self.new.connections
+            (option_map (λ b. b.value) result) }
+        ensures early { AreEarly (option_map (λ b. b.value) result) }
+        ensures fewer { IfSome result (λ _.
+            length self.new.connections.live < length self.old.connections.live) }
         ensures accounted { IsAccounted self.old.connections → IsAccounted self.new.connections }
         ensures memory { self.new.memory ≡ self.old.memory }
+        ensures reader { uncounted self.new.arrivals ≡ uncounted self.old.arrivals }
     {
         if !self.connections.is_crowded(self.memory) {
-            return Ok(None);
+            return None;
         }
         let taken = self.connections.take_crowded(self.memory);
         self.end_early(taken)
@@ -69,14 +78,14 @@ impl<K: PieceCollector> Log<K> {
     pub(crate) fn take_refused(
         &mut self,
         arrival: &Arrival<'_>,
-    ) -> Result<Option<Box<Connection<TlsAnalysis<K>>>>, AllocError>
-        ensures own { IfOk result (λ o. EndsAs
-            (at (five_tuple_in arrival.now) self.old.connections.live)
-            (option_map (λ b. b.value) o)) }
+    ) -> Option<Box<Connection<TlsAnalysis<K>>>>
+        ensures own { EndsAs (at (five_tuple_in arrival.now) self.old.connections.live)
+            (option_map (λ b. b.value) result) }
         ensures others { self.new.connections.live ≡ others (five_tuple_in arrival.now)
             self.old.connections.live }
-        ensures early { IfOk result (λ o. AreEarly (option_map (λ b. b.value) o)) }
+        ensures early { AreEarly (option_map (λ b. b.value) result) }
         ensures memory { self.new.memory ≡ self.old.memory }
+        ensures reader { uncounted self.new.arrivals ≡ uncounted self.old.arrivals }
     {
         self.spare = Vec::new(self.alloc);
         let taken = self.connections.take(&arrival.between());
@@ -84,22 +93,24 @@ impl<K: PieceCollector> Log<K> {
     }
 
     /// Removes and returns the longest-idle connection, when the system refuses memory.
-    pub(crate) fn take_oldest(
-        &mut self,
-    ) -> Result<Option<Box<Connection<TlsAnalysis<K>>>>, AllocError>
-        ensures oldest { IfOk result (λ o. EndsLast self.old.connections.live
-            self.new.connections.live (option_map (λ b. b.value) o)) }
-        ensures early { IfOk result (λ o. AreEarly (option_map (λ b. b.value) o)) }
+    pub(crate) fn take_oldest(&mut self) -> Option<Box<Connection<TlsAnalysis<K>>>>
+        ensures oldest { EndsLast self.old.connections.live self.new.connections.live
+            (option_map (λ b. b.value) result) }
+        ensures early { AreEarly (option_map (λ b. b.value) result) }
         ensures memory { self.new.memory ≡ self.old.memory }
+        ensures reader { uncounted self.new.arrivals ≡ uncounted self.old.arrivals }
     {
         let taken = self.connections.take_remaining();
         self.end_early(taken)
     }
 
-    /// Allocates the reserve again, if there is enough memory.
+    /// Allocates the reserve again if it was freed, and there is enough memory.
     pub(crate) fn spare(&mut self)
         ensures { self.new ≡ record self.old { spare = self.new.spare } }
     {
+        if self.spare.capacity() >= SPARE {
+            return;
+        }
         if let Ok(spare) = Vec::with_capacity(self.alloc, SPARE) {
             self.spare = spare;
         }

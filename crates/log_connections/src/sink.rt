@@ -1,7 +1,7 @@
 //! Who receives what a log finds.
-ghost use Rattle.std.specs.Prelude.{◌≡◌, Bool, true, List, [], Option, None, OnOk};
+ghost use Rattle.std.specs.Prelude.{◌≡◌, Bool, true, List, [], Option, None, IfErr, OnOk};
 ghost use Rattle.connections.specs.declared.connection.Connection.{Connection};
-ghost use Rattle.log_connections.specs.Sink.{Adds, Receives, StaysSound};
+ghost use Rattle.log_connections.specs.Sink.{Adds, IsOfSink, Receives, StaysSound};
 ghost use Rattle.log_connections.specs.declared.analysis.TlsAnalysis.{TlsAnalysis};
 
 use crate::analysis::TlsAnalysis;
@@ -66,6 +66,7 @@ pub(crate) fn hand_over<K, S: Sink<K>>(
     sink: &mut S,
 ) -> Result<(), LogError<S::Error>>
     ensures received { Receives (S.received sink.old) (S.received sink.new) result over.value }
+    ensures failed { IfErr result (λ error. IsOfSink error) }
     ensures sound { StaysSound (S.is_sound sink.old) (S.is_sound sink.new) result }
 {
     match sink.connection(over, time) {
@@ -81,6 +82,7 @@ pub(crate) fn hand_pieces<K, S: Sink<K>>(
     sink: &mut S,
 ) -> Result<(), LogError<S::Error>>
     ensures received { Adds (S.received sink.old) (S.received sink.new) [] }
+    ensures failed { IfErr result (λ error. IsOfSink error) }
     ensures sound { StaysSound (S.is_sound sink.old) (S.is_sound sink.new) result }
 {
     match sink.pieces(open, time) {

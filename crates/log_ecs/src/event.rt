@@ -5,10 +5,12 @@ use connections::{Protocol, Side};
 use log_fields::columns::CertificateField;
 use log_fields::connection::cell_of;
 use log_fields::context::FieldContext;
-use log_fields::fields::{Chain, Course, End, Field, Named, Offer, Print, Sent};
-use log_fields::listed::listed_cell;
-use log_fields::stamps::stamp_cell;
+use log_fields::fields::{
+    Chain, Field, Fingerprint, Identity, Lifecycle, Negotiation, Offer, SideTraffic,
+};
+use log_fields::joined_lists::joined_list_cell;
 use log_fields::summary::Summary;
+use log_fields::timestamps::timestamp_cell;
 use log_formats::cell::{Cell, Row};
 use log_formats::lists::{Texts, some_texts};
 use log_formats::objects::{LINE_LEN, json_bytes};
@@ -24,33 +26,33 @@ const SCHEMA: &str = "8.11.0";
 /// The time zone of times: UTC.
 const ZONE: &str = "Z";
 
-/// The source of a name's value.
+/// The value of a name, by its source.
 #[derive(Clone, Copy)]
-enum Said {
+enum Value {
     /// A field of the connection's line.
-    Same(Field),
+    Field(Field),
     /// A field of the certificate.
-    Certified(CertificateField),
+    Certificate(CertificateField),
     /// A hexadecimal field of the certificate, in upper case.
-    Digits(CertificateField),
+    Uppercase(CertificateField),
     /// A field of the certificate, as a number.
     Number(CertificateField),
     /// The names in the certificate's subjectAltName.
     AlternativeNames,
     /// The certificate's SHA-256.
     Sha256,
-    /// A word that is the same in each event.
-    Word(&'static str),
-    /// A list of words that is the same in each event.
-    Words(&'static [&'static str]),
-    Begin,
+    /// A text that is the same in each event.
+    Constant(&'static str),
+    /// A list of texts that is the same in each event.
+    Constants(&'static [&'static str]),
+    Start,
     End,
     Duration,
     Success,
     NetworkType,
     NetworkProtocol,
     /// The sum of a count of both sides.
-    Both(Sent),
+    Sum(SideTraffic),
     Version,
     VersionProtocol,
 }
@@ -63,142 +65,191 @@ enum Owner {
     Server,
 }
 
-/// The names in an object, each with the source of its value.
-type Rows = &'static [(&'static str, Said)];
+/// The names in an object, each with its value.
+type Rows = &'static [(&'static str, Value)];
 
 const EVENT: Rows = &[
-    ("kind", Said::Word("event")),
-    ("category", Said::Words(&["network"])),
-    ("type", Said::Words(&["connection", "protocol"])),
-    ("dataset", Said::Word("tlslog.connection")),
-    ("id", Said::Same(Field::End(End::Uid))),
-    ("outcome", Said::Success),
-    ("start", Said::Begin),
-    ("end", Said::End),
-    ("duration", Said::Duration),
+    ("kind", Value::Constant("event")),
+    ("category", Value::Constants(&["network"])),
+    ("type", Value::Constants(&["connection", "protocol"])),
+    ("dataset", Value::Constant("tlslog.connection")),
+    ("id", Value::Field(Field::Identity(Identity::Uid))),
+    ("outcome", Value::Success),
+    ("start", Value::Start),
+    ("end", Value::End),
+    ("duration", Value::Duration),
 ];
 
 const SOURCE: Rows = &[
-    ("ip", Said::Same(Field::End(End::Originator))),
-    ("port", Said::Same(Field::End(End::OriginatorPort))),
+    ("ip", Value::Field(Field::Identity(Identity::Originator))),
+    (
+        "port",
+        Value::Field(Field::Identity(Identity::OriginatorPort)),
+    ),
     (
         "bytes",
-        Said::Same(Field::Sent(Side::Originator, Sent::Bytes)),
+        Value::Field(Field::SideTraffic(Side::Originator, SideTraffic::Bytes)),
     ),
     (
         "packets",
-        Said::Same(Field::Sent(Side::Originator, Sent::Packets)),
+        Value::Field(Field::SideTraffic(Side::Originator, SideTraffic::Packets)),
     ),
 ];
 
 const DESTINATION: Rows = &[
-    ("ip", Said::Same(Field::End(End::Responder))),
-    ("port", Said::Same(Field::End(End::ResponderPort))),
+    ("ip", Value::Field(Field::Identity(Identity::Responder))),
+    (
+        "port",
+        Value::Field(Field::Identity(Identity::ResponderPort)),
+    ),
     (
         "bytes",
-        Said::Same(Field::Sent(Side::Responder, Sent::Bytes)),
+        Value::Field(Field::SideTraffic(Side::Responder, SideTraffic::Bytes)),
     ),
     (
         "packets",
-        Said::Same(Field::Sent(Side::Responder, Sent::Packets)),
+        Value::Field(Field::SideTraffic(Side::Responder, SideTraffic::Packets)),
     ),
 ];
 
 const NETWORK: Rows = &[
-    ("transport", Said::Same(Field::End(End::Protocol))),
-    ("type", Said::NetworkType),
-    ("protocol", Said::NetworkProtocol),
-    ("community_id", Said::Same(Field::End(End::CommunityId))),
-    ("bytes", Said::Both(Sent::Bytes)),
-    ("packets", Said::Both(Sent::Packets)),
+    (
+        "transport",
+        Value::Field(Field::Identity(Identity::Protocol)),
+    ),
+    ("type", Value::NetworkType),
+    ("protocol", Value::NetworkProtocol),
+    (
+        "community_id",
+        Value::Field(Field::Identity(Identity::CommunityId)),
+    ),
+    ("bytes", Value::Sum(SideTraffic::Bytes)),
+    ("packets", Value::Sum(SideTraffic::Packets)),
 ];
 
 const TLS: Rows = &[
-    ("version", Said::Version),
-    ("version_protocol", Said::VersionProtocol),
-    ("cipher", Said::Same(Field::Named(Named::Cipher))),
-    ("curve", Said::Same(Field::Named(Named::Curve))),
+    ("version", Value::Version),
+    ("version_protocol", Value::VersionProtocol),
+    (
+        "cipher",
+        Value::Field(Field::Negotiation(Negotiation::Cipher)),
+    ),
+    (
+        "curve",
+        Value::Field(Field::Negotiation(Negotiation::Curve)),
+    ),
     (
         "established",
-        Said::Same(Field::Course(Course::Established)),
+        Value::Field(Field::Lifecycle(Lifecycle::Established)),
     ),
-    ("resumed", Said::Same(Field::Course(Course::Resumed))),
+    (
+        "resumed",
+        Value::Field(Field::Lifecycle(Lifecycle::Resumed)),
+    ),
     (
         "next_protocol",
-        Said::Same(Field::Named(Named::NextProtocol)),
+        Value::Field(Field::Negotiation(Negotiation::NextProtocol)),
     ),
 ];
 
 const CLIENT: Rows = &[
-    ("server_name", Said::Same(Field::Named(Named::ServerName))),
-    ("ja3", Said::Same(Field::Print(Print::Ja3))),
+    (
+        "server_name",
+        Value::Field(Field::Negotiation(Negotiation::ServerName)),
+    ),
+    ("ja3", Value::Field(Field::Fingerprint(Fingerprint::Ja3))),
     (
         "supported_ciphers",
-        Said::Same(Field::Offer(Offer::Ciphers)),
+        Value::Field(Field::Offer(Offer::Ciphers)),
     ),
-    ("subject", Said::Certified(CertificateField::Subject)),
-    ("issuer", Said::Certified(CertificateField::Issuer)),
-    ("not_before", Said::Certified(CertificateField::NotBefore)),
-    ("not_after", Said::Certified(CertificateField::NotAfter)),
+    ("subject", Value::Certificate(CertificateField::Subject)),
+    ("issuer", Value::Certificate(CertificateField::Issuer)),
+    (
+        "not_before",
+        Value::Certificate(CertificateField::NotBefore),
+    ),
+    ("not_after", Value::Certificate(CertificateField::NotAfter)),
 ];
 
 const SERVER: Rows = &[
-    ("ja3s", Said::Same(Field::Print(Print::Ja3s))),
-    ("subject", Said::Certified(CertificateField::Subject)),
-    ("issuer", Said::Certified(CertificateField::Issuer)),
-    ("not_before", Said::Certified(CertificateField::NotBefore)),
-    ("not_after", Said::Certified(CertificateField::NotAfter)),
+    ("ja3s", Value::Field(Field::Fingerprint(Fingerprint::Ja3s))),
+    ("subject", Value::Certificate(CertificateField::Subject)),
+    ("issuer", Value::Certificate(CertificateField::Issuer)),
+    (
+        "not_before",
+        Value::Certificate(CertificateField::NotBefore),
+    ),
+    ("not_after", Value::Certificate(CertificateField::NotAfter)),
 ];
 
-const HASH: Rows = &[("sha256", Said::Sha256)];
+const HASH: Rows = &[("sha256", Value::Sha256)];
 
 const X509: Rows = &[
-    ("version_number", Said::Certified(CertificateField::Version)),
-    ("serial_number", Said::Digits(CertificateField::Serial)),
-    ("not_before", Said::Certified(CertificateField::NotBefore)),
-    ("not_after", Said::Certified(CertificateField::NotAfter)),
-    ("alternative_names", Said::AlternativeNames),
+    (
+        "version_number",
+        Value::Certificate(CertificateField::Version),
+    ),
+    ("serial_number", Value::Uppercase(CertificateField::Serial)),
+    (
+        "not_before",
+        Value::Certificate(CertificateField::NotBefore),
+    ),
+    ("not_after", Value::Certificate(CertificateField::NotAfter)),
+    ("alternative_names", Value::AlternativeNames),
     (
         "public_key_algorithm",
-        Said::Certified(CertificateField::KeyAlgorithm),
+        Value::Certificate(CertificateField::KeyAlgorithm),
     ),
     (
         "public_key_size",
-        Said::Certified(CertificateField::KeyLength),
+        Value::Certificate(CertificateField::KeyLength),
     ),
     (
         "public_key_exponent",
-        Said::Number(CertificateField::Exponent),
+        Value::Number(CertificateField::Exponent),
     ),
-    ("public_key_curve", Said::Certified(CertificateField::Curve)),
+    (
+        "public_key_curve",
+        Value::Certificate(CertificateField::Curve),
+    ),
     (
         "signature_algorithm",
-        Said::Certified(CertificateField::SignatureAlgorithm),
+        Value::Certificate(CertificateField::SignatureAlgorithm),
     ),
 ];
 
 const SUBJECT: Rows = &[(
     "distinguished_name",
-    Said::Certified(CertificateField::Subject),
+    Value::Certificate(CertificateField::Subject),
 )];
 
 const ISSUER: Rows = &[(
     "distinguished_name",
-    Said::Certified(CertificateField::Issuer),
+    Value::Certificate(CertificateField::Issuer),
 )];
 
 /// Fields for which the schema has no names.
 const OWN: Rows = &[
-    ("ja4", Said::Same(Field::Print(Print::Ja4))),
-    ("outcome", Said::Same(Field::Course(Course::Outcome))),
-    ("last_alert", Said::Same(Field::Named(Named::LastAlert))),
-    ("gap", Said::Same(Field::Course(Course::Gap))),
+    ("ja4", Value::Field(Field::Fingerprint(Fingerprint::Ja4))),
+    (
+        "outcome",
+        Value::Field(Field::Lifecycle(Lifecycle::Outcome)),
+    ),
+    (
+        "last_alert",
+        Value::Field(Field::Negotiation(Negotiation::LastAlert)),
+    ),
+    ("gap", Value::Field(Field::Lifecycle(Lifecycle::Gap))),
 ];
 
 /// The objects of an event, in their order.
 static OBJECTS: &[(Path, Owner, Rows)] = &[
-    (&[], Owner::Nobody, &[("@timestamp", Said::Begin)]),
-    (&["ecs"], Owner::Nobody, &[("version", Said::Word(SCHEMA))]),
+    (&[], Owner::Nobody, &[("@timestamp", Value::Start)]),
+    (
+        &["ecs"],
+        Owner::Nobody,
+        &[("version", Value::Constant(SCHEMA))],
+    ),
     (&["event"], Owner::Nobody, EVENT),
     (&["source"], Owner::Nobody, SOURCE),
     (&["destination"], Owner::Nobody, DESTINATION),
@@ -226,7 +277,7 @@ static OBJECTS: &[(Path, Owner, Rows)] = &[
 ];
 
 /// Returns a field of the owner's certificate.
-fn certified_cell<'a>(
+fn certificate_cell<'a>(
     context: &mut FieldContext<'a>,
     owner: Owner,
     field: CertificateField,
@@ -239,13 +290,13 @@ fn certified_cell<'a>(
 }
 
 /// Returns a hexadecimal field of the owner's certificate, in upper case.
-fn digits_cell<'a>(
+fn uppercase_cell<'a>(
     context: &mut FieldContext<'_>,
     owner: Owner,
     field: CertificateField,
 ) -> Result<Option<Cell<'a>>, AllocError> {
     let alloc = context.alloc;
-    match certified_cell(context, owner, field)? {
+    match certificate_cell(context, owner, field)? {
         Some(Cell::Text(text)) => {
             some_text(text.to_string(alloc)?.as_str().to_ascii_uppercase(alloc))
         }
@@ -260,7 +311,7 @@ fn number_cell<'a>(
     field: CertificateField,
 ) -> Result<Option<Cell<'a>>, AllocError> {
     let alloc = context.alloc;
-    let Some(Cell::Text(text)) = certified_cell(context, owner, field)? else {
+    let Some(Cell::Text(text)) = certificate_cell(context, owner, field)? else {
         return Ok(None);
     };
     match text.to_string(alloc)?.as_str().parse::<u64>() {
@@ -292,8 +343,8 @@ fn alternative_names_cell<'a>(
 ) -> Result<Option<Cell<'a>>, AllocError> {
     match owner {
         Owner::Nobody => Ok(None),
-        Owner::Client => listed_cell(context, &CLIENT_NAMES),
-        Owner::Server => listed_cell(context, &SERVER_NAMES),
+        Owner::Client => joined_list_cell(context, &CLIENT_NAMES),
+        Owner::Server => joined_list_cell(context, &SERVER_NAMES),
     }
 }
 
@@ -303,12 +354,13 @@ fn sha256_cell<'a>(
     owner: Owner,
 ) -> Result<Option<Cell<'a>>, AllocError> {
     let alloc = context.alloc;
-    let prints = match owner {
+    let fingerprints = match owner {
         Owner::Nobody => return Ok(None),
-        Owner::Client => Chain::ClientPrints,
-        Owner::Server => Chain::ServerPrints,
+        Owner::Client => Chain::ClientFingerprints,
+        Owner::Server => Chain::ServerFingerprints,
     };
-    let Some(Cell::Texts(Texts::Digests(chain))) = cell_of(context, &Field::Chain(prints))? else {
+    let Some(Cell::Texts(Texts::Digests(chain))) = cell_of(context, &Field::Chain(fingerprints))?
+    else {
         return Ok(None);
     };
     match chain.first() {
@@ -317,18 +369,18 @@ fn sha256_cell<'a>(
     }
 }
 
-/// Returns a list of words.
-fn words_cell<'a>(alloc: Global, words: &[&str]) -> Result<Option<Cell<'a>>, AllocError> {
+/// Returns a list of constant texts.
+fn constants_cell<'a>(alloc: Global, texts: &[&str]) -> Result<Option<Cell<'a>>, AllocError> {
     let mut all = Vec::new(alloc);
-    for word in words {
-        all.push(String::from_str(alloc, word)?)?;
+    for text in texts {
+        all.push(String::from_str(alloc, text)?)?;
     }
     Ok(some_texts(Texts::Owned(all)))
 }
 
 /// Returns the event's outcome: success for a complete handshake, failure for one that was broken
 /// off.
-fn success_of(summary: &Summary<'_>) -> &'static str {
+fn outcome_name(summary: &Summary<'_>) -> &'static str {
     match summary.outcome {
         Outcome::Full | Outcome::Resumed | Outcome::Tls13 { .. } => "success",
         Outcome::BrokenOff => "failure",
@@ -351,20 +403,24 @@ fn network_protocol(protocol: Protocol) -> &'static str {
 }
 
 /// Returns a count of one side.
-fn count_of(context: &mut FieldContext<'_>, side: Side, counted: Sent) -> Result<u64, AllocError> {
-    match cell_of(context, &Field::Sent(side, counted))? {
+fn count_of(
+    context: &mut FieldContext<'_>,
+    side: Side,
+    count: SideTraffic,
+) -> Result<u64, AllocError> {
+    match cell_of(context, &Field::SideTraffic(side, count))? {
         Some(Cell::Number(count)) => Ok(count),
         _ => Ok(0),
     }
 }
 
 /// Returns the sum of a count of both sides.
-fn both_cell<'a>(
+fn sum_cell<'a>(
     context: &mut FieldContext<'_>,
-    counted: Sent,
+    count: SideTraffic,
 ) -> Result<Option<Cell<'a>>, AllocError> {
-    let from_originator = count_of(context, Side::Originator, counted)?;
-    let from_responder = count_of(context, Side::Responder, counted)?;
+    let from_originator = count_of(context, Side::Originator, count)?;
+    let from_responder = count_of(context, Side::Responder, count)?;
     Ok(Some(Cell::Number(from_originator.saturating_add(from_responder))))
 }
 
@@ -385,47 +441,47 @@ fn version_protocol_cell<'a>(context: &FieldContext<'_>) -> Option<Cell<'a>> {
 fn summary_cell<'a>(
     alloc: Global,
     summary: &Summary<'_>,
-    said: Said,
+    value: Value,
 ) -> Result<Option<Cell<'a>>, AllocError> {
-    match said {
-        Said::Begin => stamp_cell(alloc, summary.first_time, ZONE),
-        Said::End => stamp_cell(alloc, summary.last_time, ZONE),
-        Said::Duration => Ok(Some(Cell::Number(
+    match value {
+        Value::Start => timestamp_cell(alloc, summary.first_time, ZONE),
+        Value::End => timestamp_cell(alloc, summary.last_time, ZONE),
+        Value::Duration => Ok(Some(Cell::Number(
             summary.last_time.saturating_sub(summary.first_time),
         ))),
-        Said::Success => Ok(Some(name_cell(success_of(summary)))),
-        Said::NetworkType => Ok(Some(name_cell(network_type(summary)))),
-        Said::NetworkProtocol => Ok(Some(name_cell(network_protocol(summary.protocol)))),
-        Said::Word(word) => Ok(Some(name_cell(word))),
-        Said::Words(words) => words_cell(alloc, words),
+        Value::Success => Ok(Some(name_cell(outcome_name(summary)))),
+        Value::NetworkType => Ok(Some(name_cell(network_type(summary)))),
+        Value::NetworkProtocol => Ok(Some(name_cell(network_protocol(summary.protocol)))),
+        Value::Constant(text) => Ok(Some(name_cell(text))),
+        Value::Constants(texts) => constants_cell(alloc, texts),
         _ => Ok(None),
     }
 }
 
 /// Returns a name's value, for a connection and the owner's certificate.
-fn said_cell<'a>(
+fn value_cell<'a>(
     context: &mut FieldContext<'a>,
     owner: Owner,
-    said: Said,
+    value: Value,
 ) -> Result<Option<Cell<'a>>, AllocError> {
-    match said {
-        Said::Same(field) => cell_of(context, &field),
-        Said::Certified(field) => certified_cell(context, owner, field),
-        Said::Digits(field) => digits_cell(context, owner, field),
-        Said::Number(field) => number_cell(context, owner, field),
-        Said::AlternativeNames => alternative_names_cell(context, owner),
-        Said::Sha256 => sha256_cell(context, owner),
-        Said::Both(counted) => both_cell(context, counted),
-        Said::Version => Ok(version_cell(context)),
-        Said::VersionProtocol => Ok(version_protocol_cell(context)),
-        Said::Begin
-        | Said::End
-        | Said::Duration
-        | Said::Success
-        | Said::NetworkType
-        | Said::NetworkProtocol
-        | Said::Word(_)
-        | Said::Words(_) => summary_cell(context.alloc, context.summary, said),
+    match value {
+        Value::Field(field) => cell_of(context, &field),
+        Value::Certificate(field) => certificate_cell(context, owner, field),
+        Value::Uppercase(field) => uppercase_cell(context, owner, field),
+        Value::Number(field) => number_cell(context, owner, field),
+        Value::AlternativeNames => alternative_names_cell(context, owner),
+        Value::Sha256 => sha256_cell(context, owner),
+        Value::Sum(count) => sum_cell(context, count),
+        Value::Version => Ok(version_cell(context)),
+        Value::VersionProtocol => Ok(version_protocol_cell(context)),
+        Value::Start
+        | Value::End
+        | Value::Duration
+        | Value::Success
+        | Value::NetworkType
+        | Value::NetworkProtocol
+        | Value::Constant(_)
+        | Value::Constants(_) => summary_cell(context.alloc, context.summary, value),
     }
 }
 
@@ -436,8 +492,8 @@ fn object_row<'a>(
     rows: Rows,
 ) -> Result<Row<'a>, AllocError> {
     let mut cells = Vec::with_capacity(context.alloc, rows.len())?;
-    for (name, said) in rows {
-        cells.push((*name, said_cell(context, owner, *said)?))?;
+    for (name, value) in rows {
+        cells.push((*name, value_cell(context, owner, *value)?))?;
     }
     Ok(Row { cells })
 }

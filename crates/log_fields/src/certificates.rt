@@ -202,7 +202,7 @@ fn key_cell<'c>(
 }
 
 /// Returns the value of a field of a certificate; `None` if it is missing.
-pub fn certified_cell<'c>(
+pub fn certificate_cell<'c>(
     alloc: Global,
     certificate: &Certificate<'_>,
     field: &CertificateField,

@@ -1,5 +1,5 @@
 //! The fields of a message's line and of a certificate's.
-use crate::fields::End;
+use crate::fields::Identity;
 use log_formats::column::{Column, Type};
 
 /// A field of a certificate (RFC 5280, section 4.1).
@@ -34,7 +34,7 @@ pub enum CertificateField {
 
 /// A field of a message's line.
 pub enum MessageField {
-    End(End),
+    Identity(Identity),
     Side,
     Place,
     ContentType,
@@ -44,10 +44,10 @@ pub enum MessageField {
 
 /// A field of a certificate's line.
 pub enum CertificateLineField {
-    End(End),
+    Identity(Identity),
     Side,
     Place,
-    Print,
+    Fingerprint,
     Length,
     Certificate(CertificateField),
     IsServers,
@@ -68,21 +68,21 @@ macro_rules! columns {
 }
 
 /// The fields of a message's line, in their order.
-pub static PARTS: &[Column<MessageField>] = columns! {
+pub static MESSAGE_FIELDS: &[Column<MessageField>] = columns! {
     /// the time of the packet that completed it, as above
-    "ts": Time = MessageField::End(End::Time);
+    "ts": Time = MessageField::Identity(Identity::Time);
     /// that of the connection
-    "uid": Text = MessageField::End(End::Uid);
+    "uid": Text = MessageField::Identity(Identity::Uid);
     /// the connection, as above
-    "id.orig_h": Address = MessageField::End(End::Originator);
+    "id.orig_h": Address = MessageField::Identity(Identity::Originator);
     /// as above
-    "id.orig_p": Port = MessageField::End(End::OriginatorPort);
+    "id.orig_p": Port = MessageField::Identity(Identity::OriginatorPort);
     /// as above
-    "id.resp_h": Address = MessageField::End(End::Responder);
+    "id.resp_h": Address = MessageField::Identity(Identity::Responder);
     /// as above
-    "id.resp_p": Port = MessageField::End(End::ResponderPort);
+    "id.resp_p": Port = MessageField::Identity(Identity::ResponderPort);
     /// as above
-    "proto": Enum = MessageField::End(End::Protocol);
+    "proto": Enum = MessageField::Identity(Identity::Protocol);
     /// the sender: `client`, `server`
     "side": Text = MessageField::Side;
     /// the number of messages of that side before it
@@ -103,31 +103,31 @@ pub static PARTS: &[Column<MessageField>] = columns! {
 
 /// The fields of a certificate's line, in their order. They have the names in Zeek's x509.log where
 /// that has the field.
-pub static DETAILS: &[Column<CertificateLineField>] = columns! {
+pub static CERTIFICATE_FIELDS: &[Column<CertificateLineField>] = columns! {
     /// the time of the packet that completed the message
     /// Zeek: `ts`
-    "ts": Time = CertificateLineField::End(End::Time);
+    "ts": Time = CertificateLineField::Identity(Identity::Time);
     /// that of the connection
-    "uid": Text = CertificateLineField::End(End::Uid);
+    "uid": Text = CertificateLineField::Identity(Identity::Uid);
     /// the connection, as above
-    "id.orig_h": Address = CertificateLineField::End(End::Originator);
+    "id.orig_h": Address = CertificateLineField::Identity(Identity::Originator);
     /// as above
-    "id.orig_p": Port = CertificateLineField::End(End::OriginatorPort);
+    "id.orig_p": Port = CertificateLineField::Identity(Identity::OriginatorPort);
     /// as above
-    "id.resp_h": Address = CertificateLineField::End(End::Responder);
+    "id.resp_h": Address = CertificateLineField::Identity(Identity::Responder);
     /// as above
-    "id.resp_p": Port = CertificateLineField::End(End::ResponderPort);
+    "id.resp_p": Port = CertificateLineField::Identity(Identity::ResponderPort);
     /// as above
-    "proto": Enum = CertificateLineField::End(End::Protocol);
+    "proto": Enum = CertificateLineField::Identity(Identity::Protocol);
     /// who sent it: `client`, `server`
     "side": Text = CertificateLineField::Side;
-    /// the number of certificates in front of it in its chain
+    /// its position in its chain, from 0
     /// RFC: 5246, 7.4.2
     "place": Count = CertificateLineField::Place;
     /// the SHA-256 of its bytes, as in `cert_chain_fps`
     /// Zeek: `fingerprint`
-    "fingerprint": Text = CertificateLineField::Print;
-    /// its bytes
+    "fingerprint": Text = CertificateLineField::Fingerprint;
+    /// its length in bytes
     "length": Count = CertificateLineField::Length;
     /// 1, 2, 3
     /// RFC: 5280, 4.1.2.1

@@ -1,14 +1,16 @@
 //! The values of a connection's fields.
-use crate::certificates::certified_cell;
+use crate::certificates::certificate_cell;
 use crate::columns::CertificateField;
 use crate::context::{FieldContext, Moment, SideContext};
-use crate::fields::{Carried, Course, End, Field, Named, Sent, fields, rows};
+use crate::fields::{
+    Encapsulation, Field, Identity, Lifecycle, Negotiation, SideTraffic, fields, rows,
+};
+use crate::fingerprints::compute_fingerprint;
 use crate::hellos::{compute_answer, compute_chain, compute_offer, other_names_cell};
 use crate::names::{REASONS, kind_name, outcome_name, reason_name, tunnel_name};
-use crate::prints::compute_print;
 use crate::summary::Summary;
 use connection_ids::{community_id, uid};
-use connections::{Dropped, Protocol};
+use connections::{Dropped, End, Protocol};
 use log_formats::cell::{Cell, KeptCell, Row, Seconds, StopCell, TakesCell};
 use log_formats::lists::{Numbers, Texts, some_numbers, some_texts};
 use log_formats::text::{
@@ -65,12 +67,12 @@ fn proto_name(protocol: Protocol) -> &'static str {
 }
 
 /// Returns the address of an end.
-fn address_cell<'a>(end: connections::End) -> Option<Cell<'a>> {
+fn address_cell<'a>(end: End) -> Option<Cell<'a>> {
     Some(Cell::Text(Text::Address(end.address)))
 }
 
 /// Returns the port of an end.
-fn port_cell<'a>(end: connections::End) -> Option<Cell<'a>> {
+fn port_cell<'a>(end: End) -> Option<Cell<'a>> {
     Some(Cell::Number(u64::from(end.port)))
 }
 
@@ -80,20 +82,23 @@ fn duration_cell<'a>(summary: &Summary<'_>) -> Option<Cell<'a>> {
     Some(seconds(duration))
 }
 
-/// Passes a field to `to`: the ends and the time, of a connection's first packet or of a message
-/// completed later.
-fn compute_end<'a, T: TakesCell<'a>>(
+/// Passes a field of [`Identity`] to `to`. The time is that of the connection's first packet, or
+/// of a message completed later.
+fn compute_identity<'a, T: TakesCell<'a>>(
     moment: Moment<'_>,
-    field: &End,
+    field: &Identity,
     to: &mut T,
 ) -> Result<(), AllocError> {
-    rows!(computes [End moment field to take_result])
+    rows!(computes [Identity moment field to take_result])
 }
 
-/// Returns a field as a cell: the ends and the time.
-pub fn end_cell(moment: Moment<'_>, field: &End) -> Result<Option<Cell<'static>>, AllocError> {
+/// Returns a field of [`Identity`] as a cell.
+pub fn identity_cell(
+    moment: Moment<'_>,
+    field: &Identity,
+) -> Result<Option<Cell<'static>>, AllocError> {
     let mut kept: KeptCell<'static> = KeptCell { cell: None };
-    compute_end(moment, field, &mut kept)?;
+    compute_identity(moment, field, &mut kept)?;
     Ok(kept.cell)
 }
 
@@ -114,13 +119,13 @@ fn some_alert<'a>(alert: Option<TlsAlertDescription>) -> Option<Cell<'a>> {
     Some(Cell::Text(text))
 }
 
-/// Passes a field to `to`: what was chosen, asked for and sent, by name.
-fn compute_named<'a, T: TakesCell<'a>>(
+/// Passes a field of [`Negotiation`] to `to`.
+fn compute_negotiation<'a, T: TakesCell<'a>>(
     context: &FieldContext<'a>,
-    field: &Named,
+    field: &Negotiation,
     to: &mut T,
 ) -> Result<(), AllocError> {
-    rows!(computes [Named context field to take_result])
+    rows!(computes [Negotiation context field to take_result])
 }
 
 /// Returns the letters of a connection's events; `None` if there are none.
@@ -131,13 +136,13 @@ fn history_cell(letters: &[u8]) -> Option<Cell<'_>> {
     Some(Cell::Text(Text::Escaped(letters)))
 }
 
-/// Passes a field to `to`: the course of a connection.
-fn compute_course<'a, T: TakesCell<'a>>(
+/// Passes a field of [`Lifecycle`] to `to`.
+fn compute_lifecycle<'a, T: TakesCell<'a>>(
     context: &FieldContext<'a>,
-    field: &Course,
+    field: &Lifecycle,
     to: &mut T,
 ) -> Result<(), AllocError> {
-    rows!(computes [Course context field to take])
+    rows!(computes [Lifecycle context field to take])
 }
 
 /// Returns a count; `None` instead of 0.
@@ -170,13 +175,13 @@ fn bytes_of(sender: SideContext<'_>) -> u64 {
     }
 }
 
-/// Passes a field to `to`: what a side sent.
-fn compute_sent<'a, T: TakesCell<'a>>(
+/// Passes a field of [`SideTraffic`] to `to`.
+fn compute_side_traffic<'a, T: TakesCell<'a>>(
     sender: SideContext<'_>,
-    field: &Sent,
+    field: &SideTraffic,
     to: &mut T,
 ) -> Result<(), AllocError> {
-    rows!(computes [Sent sender field to take_result])
+    rows!(computes [SideTraffic sender field to take_result])
 }
 
 /// Returns the tunnels around a connection; `None` if there are none.
@@ -201,13 +206,13 @@ fn tunnel_ids_cell<'a>(alloc: Global, tunnels: &[Tunnel]) -> Result<Option<Cell<
     Ok(some_numbers(Numbers::Owned(ids)))
 }
 
-/// Passes a field to `to`: the tunnels around a connection.
-fn compute_carried<'a, T: TakesCell<'a>>(
+/// Passes a field of [`Encapsulation`] to `to`.
+fn compute_encapsulation<'a, T: TakesCell<'a>>(
     context: &FieldContext<'a>,
-    field: &Carried,
+    field: &Encapsulation,
     to: &mut T,
 ) -> Result<(), AllocError> {
-    rows!(computes [Carried context field to take_result])
+    rows!(computes [Encapsulation context field to take_result])
 }
 
 /// Returns a field of a certificate, if there is one.
@@ -217,7 +222,7 @@ fn own_cell<'a>(
     field: &CertificateField,
 ) -> Result<Option<Cell<'a>>, AllocError> {
     match certificate {
-        Some(certificate) => certified_cell(alloc, certificate, field),
+        Some(certificate) => certificate_cell(alloc, certificate, field),
         None => Ok(None),
     }
 }
@@ -229,9 +234,9 @@ pub fn compute<'a, T: TakesCell<'a>>(
     to: &mut T,
 ) -> Result<(), AllocError> {
     match field {
-        Field::End(field) => compute_end(context.first_moment(), field, to),
-        Field::Named(field) => compute_named(context, field, to),
-        Field::Course(field) => compute_course(context, field, to),
+        Field::Identity(field) => compute_identity(context.first_moment(), field, to),
+        Field::Negotiation(field) => compute_negotiation(context, field, to),
+        Field::Lifecycle(field) => compute_lifecycle(context, field, to),
         Field::Offer(field) => compute_offer(context, field, to),
         Field::Answer(field) => compute_answer(context, field, to),
         Field::Chain(field) => compute_chain(context, field, to),
@@ -241,9 +246,9 @@ pub fn compute<'a, T: TakesCell<'a>>(
         Field::ClientCertificate(field) => {
             to.take_result(own_cell(context.alloc, context.client.certificate(), field))
         }
-        Field::Print(field) => compute_print(context, field, to),
-        Field::Sent(side, field) => compute_sent(context.sender(*side), field, to),
-        Field::Carried(field) => compute_carried(context, field, to),
+        Field::Fingerprint(field) => compute_fingerprint(context, field, to),
+        Field::SideTraffic(side, field) => compute_side_traffic(context.sender(*side), field, to),
+        Field::Encapsulation(field) => compute_encapsulation(context, field, to),
     }
 }
 

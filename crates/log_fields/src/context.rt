@@ -42,24 +42,24 @@ pub struct KeptTexts {
 #[derive(Drop)]
 pub enum OwnCertificate<'a> {
     /// The bytes, if it was sent.
-    Unread(Option<&'a [u8]>),
+    Unparsed(Option<&'a [u8]>),
     /// The certificate, if it was sent and can be parsed.
-    Read(Option<Certificate<'a>>),
+    Parsed(Option<Certificate<'a>>),
 }
 
 impl<'a> OwnCertificate<'a> {
     /// Returns the certificate in these bytes, unparsed.
     fn new(bytes: Option<&'a [u8]>) -> OwnCertificate<'a> {
-        OwnCertificate::Unread(bytes)
+        OwnCertificate::Unparsed(bytes)
     }
 
     /// Returns the certificate, if it was sent and can be parsed.
     pub fn certificate(&mut self) -> Option<&Certificate<'a>> {
-        if let OwnCertificate::Unread(bytes) = self {
-            *self = OwnCertificate::Read(certificate_of(*bytes));
+        if let OwnCertificate::Unparsed(bytes) = self {
+            *self = OwnCertificate::Parsed(certificate_of(*bytes));
         }
         match self {
-            OwnCertificate::Read(Some(certificate)) => Some(certificate),
+            OwnCertificate::Parsed(Some(certificate)) => Some(certificate),
             _ => None,
         }
     }

@@ -3,9 +3,9 @@ use crate::columns::CertificateField;
 use connections::Side;
 use log_formats::column::{Column, Type};
 
-/// The ends of a connection and its time.
+/// A connection's identifiers, addresses and ports, and its times.
 #[derive(Clone, Copy)]
-pub enum End {
+pub enum Identity {
     Time,
     Uid,
     Originator,
@@ -17,9 +17,9 @@ pub enum End {
     Duration,
 }
 
-/// What was chosen, asked for and sent, by name.
+/// What the hellos negotiate, by name, and the last alert.
 #[derive(Clone, Copy)]
-pub enum Named {
+pub enum Negotiation {
     Version,
     Cipher,
     Curve,
@@ -29,9 +29,9 @@ pub enum Named {
     LastAlert,
 }
 
-/// The course of a connection.
+/// How the handshake went, and how the connection ended.
 #[derive(Clone, Copy)]
-pub enum Course {
+pub enum Lifecycle {
     Resumed,
     Established,
     Outcome,
@@ -84,11 +84,11 @@ pub enum Answer {
 pub enum Chain {
     ServerCount,
     ServerLengths,
-    ServerPrints,
+    ServerFingerprints,
     Requested,
     ClientCount,
     ClientLengths,
-    ClientPrints,
+    ClientFingerprints,
     NameMatches,
     Validation,
     ServerFaults,
@@ -97,7 +97,7 @@ pub enum Chain {
 
 /// The fingerprints of hellos.
 #[derive(Clone, Copy)]
-pub enum Print {
+pub enum Fingerprint {
     Ja3,
     Ja3Text,
     Ja3s,
@@ -107,7 +107,7 @@ pub enum Print {
 
 /// What a side sent.
 #[derive(Clone, Copy)]
-pub enum Sent {
+pub enum SideTraffic {
     Packets,
     Bytes,
     Records,
@@ -120,7 +120,7 @@ pub enum Sent {
 
 /// The tunnels around a connection.
 #[derive(Clone, Copy)]
-pub enum Carried {
+pub enum Encapsulation {
     Tunnels,
     TunnelIds,
 }
@@ -128,17 +128,17 @@ pub enum Carried {
 /// A field of a connection's line.
 #[derive(Clone, Copy)]
 pub enum Field {
-    End(End),
-    Named(Named),
-    Course(Course),
+    Identity(Identity),
+    Negotiation(Negotiation),
+    Lifecycle(Lifecycle),
     Offer(Offer),
     Answer(Answer),
     Chain(Chain),
     ServerCertificate(CertificateField),
     ClientCertificate(CertificateField),
-    Print(Print),
-    Sent(Side, Sent),
-    Carried(Carried),
+    Fingerprint(Fingerprint),
+    SideTraffic(Side, SideTraffic),
+    Encapsulation(Encapsulation),
 }
 
 /// Hands the table of a connection's fields, in the order of a line, to the macro `$then`. They
@@ -153,7 +153,7 @@ macro_rules! rows {
     ($then:ident $($words:tt)*) => {
         $crate::fields::$then! {
             $($words)*
-            End {
+            Identity {
                 /// the time of the first packet: seconds since 1970-01-01 00:00 UTC, to the
                 /// microsecond
                 /// Zeek: `ts`
@@ -186,7 +186,7 @@ macro_rules! rows {
                 /// Zeek: `duration`
                 "duration": Interval = Duration => |moment| Ok(duration_cell(moment.summary));
             }
-            Named {
+            Negotiation {
                 /// the version that the server chose: from its supported_versions, if it sent that
                 /// RFC: 8446, 4.2.1
                 /// Zeek: `version`
@@ -227,7 +227,7 @@ macro_rules! rows {
                 "next_protocol": Text =
                     NextProtocol => |context| Ok(some_escaped(context.handshake.next_protocol()));
             }
-            Course {
+            Lifecycle {
                 /// `true`: an abbreviated handshake, or in TLS 1.3 a ServerHello with
                 /// pre_shared_key
                 /// RFC: 5246, 7.3; 8446, 2.2
@@ -239,7 +239,7 @@ macro_rules! rows {
                 "established": Mark =
                     Established => |context| Some(Cell::Mark(context.summary.is_established));
             }
-            Named {
+            Negotiation {
                 /// the last unencrypted alert
                 /// RFC: 8446, 6
                 /// Zeek: `last_alert`
@@ -247,7 +247,7 @@ macro_rules! rows {
                 "last_alert": Text =
                     LastAlert => |context| Ok(some_alert(context.handshake.last_alert));
             }
-            Course {
+            Lifecycle {
                 /// the state of the handshake: `full`, `resumed`, `tls13`, `broken_off`, `waiting`,
                 /// `unknown`, `no_handshake` ("Outcomes", below)
                 "outcome": Text =
@@ -261,9 +261,8 @@ macro_rules! rows {
                 /// Zeek: `missed_bytes` counts them
                 /// absent: no bytes are missing
                 "gap": Text = Gap => |context| some_name(context.summary.gap());
-                /// `true`: memory ran short (`--memory`) when no other connection was longer
-                /// without a packet, so the line was printed then. What came later is another
-                /// connection
+                /// `true`: closed as the longest-idle connection, over the memory limit (`--memory`).
+                /// Its later packets start a new connection
                 /// absent: it ended otherwise
                 "ended_early": Mark =
                     EndedEarly => |context| some_mark(context.summary.is_ended_early);
@@ -282,9 +281,9 @@ macro_rules! rows {
                 /// absent: there was none
                 "ssl_history": Text = History => |context| history_cell(context.summary.history);
             }
-            Sent {
-                /// the packets of each side that the other took, or had already, up to the
-                /// connection's end; the last acknowledgement counts
+            SideTraffic {
+                /// the packets of each side that the other accepted or already had, up to the
+                /// connection's end, including the last acknowledgement
                 /// Zeek: the same
                 "orig_pkts", "resp_pkts": Count =
                     Packets => |sender| Ok(Some(Cell::Number(sender.party.sent.packets)));
@@ -302,13 +301,13 @@ macro_rules! rows {
                 "orig_records", "resp_records": Count = Records =>
                     |sender| Ok(Some(Cell::Number(sender.party.records)));
             }
-            Course {
+            Lifecycle {
                 /// `true`: the server asked for another ClientHello
                 /// RFC: 8446, 4.1.4
                 /// absent: it didn't
                 "retried": Mark = Retried => |context| some_mark(context.handshake.is_retried);
             }
-            Sent {
+            SideTraffic {
                 /// the retransmitted bytes: those at sequence numbers that were captured before, up
                 /// to the first missing bytes
                 /// RFC: 9293, 3.4
@@ -316,10 +315,9 @@ macro_rules! rows {
                 /// absent: there were none; DTLS
                 "orig_repeated_bytes", "resp_repeated_bytes": Count = Repeated =>
                     |sender| Ok(some_count(sender.party.stream.repeated()));
-                /// how many of these differ from the bytes that came first, which are the ones that
-                /// count. It is known of bytes that were waiting for earlier ones, and of the last
-                /// 16,384 that the other end hasn't acknowledged, as long as the stream is read.
-                /// Bytes that came in two fragments of a datagram of IP and differ count, too
+                /// how many of these differ from the bytes that came first, which are used: of
+                /// out-of-order data and of the last 16,384 unacknowledged bytes, as long as the
+                /// stream is read. Differing bytes of overlapping IP fragments count, too
                 /// absent: none is known
                 "orig_disagreeing_bytes", "resp_disagreeing_bytes": Count = Disagreeing =>
                     |sender| Ok(some_count(sender.party.stream.disagreeing()));
@@ -342,7 +340,7 @@ macro_rules! rows {
                 "orig_preamble_bytes", "resp_preamble_bytes": Count = Preamble =>
                     |sender| Ok(some_count(sender.party.preamble));
             }
-            Carried {
+            Encapsulation {
                 /// the tunnels that the connection came in, from outside in: `ipv4`, `ipv6`, `gre`,
                 /// `erspan`, `mpls`, `pbb`, `vxlan`, `geneve`, `gtp`, `teredo` (docs/CAPTURES.md,
                 /// "Tunnels")
@@ -524,7 +522,8 @@ macro_rules! rows {
                     ServerLengths => |context| lengths_cell(context.alloc, server_chain(context));
                 /// as above
                 "cert_chain_fps": Texts =
-                    ServerPrints => |context| prints_cell(context.alloc, server_chain(context));
+                    ServerFingerprints => |context|
+                        fingerprints_cell(context.alloc, server_chain(context));
                 /// `true`: the server sent a CertificateRequest
                 /// RFC: 5246, 7.4.4
                 /// absent: it didn't; TLS 1.3
@@ -541,8 +540,8 @@ macro_rules! rows {
                 "client_cert_lengths": Counts = ClientLengths =>
                     |context| lengths_cell(context.alloc, client_chain(context));
                 /// as above
-                "client_cert_chain_fps": Texts = ClientPrints =>
-                    |context| prints_cell(context.alloc, client_chain(context));
+                "client_cert_chain_fps": Texts = ClientFingerprints =>
+                    |context| fingerprints_cell(context.alloc, client_chain(context));
             }
             ServerCertificate {
                 /// the names of the server's own certificate, as RFC 4514 writes them ("What
@@ -605,7 +604,7 @@ macro_rules! rows {
                 /// is unset, for readers of Zeek's logs
                 /// Zeek: the same
                 /// absent: always
-                "validation_status": Text = Validation => |_told| Ok(None);
+                "validation_status": Text = Validation => |_context| Ok(None);
                 /// the server's certificates that aren't read, each by its place in the chain (the
                 /// server's own has 0) and why, as `0:verify`
                 /// RFC: 5280, 4.1
@@ -623,11 +622,11 @@ macro_rules! rows {
                 "client_issuer": Text = Issuer;
             }
             Chain {
-                /// the same as `cert_error` of the client's
+                /// as `cert_error`, for the client's certificates
                 "client_cert_error": Texts =
                     ClientFaults => |context| faults_cell(context.alloc, client_chain(context));
             }
-            Print {
+            Fingerprint {
                 /// the JA3 of the ClientHello, and the text whose MD5 it is ("Fingerprints", below)
                 /// Zeek: `ja3` of a package
                 /// absent: no ClientHello
@@ -651,8 +650,8 @@ macro_rules! rows {
 
 /// Expands to the field of a variant, for one side if each side has it.
 macro_rules! field {
-    (Sent $side:ident $variant:ident) => {
-        Field::Sent(Side::$side, Sent::$variant)
+    (SideTraffic $side:ident $variant:ident) => {
+        Field::SideTraffic(Side::$side, SideTraffic::$variant)
     };
     (ServerCertificate $side:ident $variant:ident) => {
         Field::ServerCertificate(CertificateField::$variant)
@@ -683,41 +682,50 @@ macro_rules! columns {
 /// `$given`, and the method `$take` of `$to` takes it.
 macro_rules! computes {
     // gathers the rows of the group's blocks
-    ([End $given:ident $field:ident $to:ident $take:ident $($row:tt)*] End { $($more:tt)* }
-        $($rest:tt)*) => {
-        $crate::fields::computes!([End $given $field $to $take $($row)* $($more)*] $($rest)*)
+    ([Identity $given:ident $field:ident $to:ident $take:ident $($row:tt)*]
+        Identity { $($more:tt)* } $($rest:tt)*) => {
+        $crate::fields::computes!(
+            [Identity $given $field $to $take $($row)* $($more)*] $($rest)*)
     };
-    ([Named $given:ident $field:ident $to:ident $take:ident $($row:tt)*] Named { $($more:tt)* }
-        $($rest:tt)*) => {
-        $crate::fields::computes!([Named $given $field $to $take $($row)* $($more)*] $($rest)*)
+    ([Negotiation $given:ident $field:ident $to:ident $take:ident $($row:tt)*]
+        Negotiation { $($more:tt)* } $($rest:tt)*) => {
+        $crate::fields::computes!(
+            [Negotiation $given $field $to $take $($row)* $($more)*] $($rest)*)
     };
-    ([Course $given:ident $field:ident $to:ident $take:ident $($row:tt)*] Course { $($more:tt)* }
-        $($rest:tt)*) => {
-        $crate::fields::computes!([Course $given $field $to $take $($row)* $($more)*] $($rest)*)
+    ([Lifecycle $given:ident $field:ident $to:ident $take:ident $($row:tt)*]
+        Lifecycle { $($more:tt)* } $($rest:tt)*) => {
+        $crate::fields::computes!(
+            [Lifecycle $given $field $to $take $($row)* $($more)*] $($rest)*)
     };
-    ([Offer $given:ident $field:ident $to:ident $take:ident $($row:tt)*] Offer { $($more:tt)* }
-        $($rest:tt)*) => {
-        $crate::fields::computes!([Offer $given $field $to $take $($row)* $($more)*] $($rest)*)
+    ([Offer $given:ident $field:ident $to:ident $take:ident $($row:tt)*]
+        Offer { $($more:tt)* } $($rest:tt)*) => {
+        $crate::fields::computes!(
+            [Offer $given $field $to $take $($row)* $($more)*] $($rest)*)
     };
-    ([Answer $given:ident $field:ident $to:ident $take:ident $($row:tt)*] Answer { $($more:tt)* }
-        $($rest:tt)*) => {
-        $crate::fields::computes!([Answer $given $field $to $take $($row)* $($more)*] $($rest)*)
+    ([Answer $given:ident $field:ident $to:ident $take:ident $($row:tt)*]
+        Answer { $($more:tt)* } $($rest:tt)*) => {
+        $crate::fields::computes!(
+            [Answer $given $field $to $take $($row)* $($more)*] $($rest)*)
     };
-    ([Chain $given:ident $field:ident $to:ident $take:ident $($row:tt)*] Chain { $($more:tt)* }
-        $($rest:tt)*) => {
-        $crate::fields::computes!([Chain $given $field $to $take $($row)* $($more)*] $($rest)*)
+    ([Chain $given:ident $field:ident $to:ident $take:ident $($row:tt)*]
+        Chain { $($more:tt)* } $($rest:tt)*) => {
+        $crate::fields::computes!(
+            [Chain $given $field $to $take $($row)* $($more)*] $($rest)*)
     };
-    ([Print $given:ident $field:ident $to:ident $take:ident $($row:tt)*] Print { $($more:tt)* }
-        $($rest:tt)*) => {
-        $crate::fields::computes!([Print $given $field $to $take $($row)* $($more)*] $($rest)*)
+    ([Fingerprint $given:ident $field:ident $to:ident $take:ident $($row:tt)*]
+        Fingerprint { $($more:tt)* } $($rest:tt)*) => {
+        $crate::fields::computes!(
+            [Fingerprint $given $field $to $take $($row)* $($more)*] $($rest)*)
     };
-    ([Sent $given:ident $field:ident $to:ident $take:ident $($row:tt)*] Sent { $($more:tt)* }
-        $($rest:tt)*) => {
-        $crate::fields::computes!([Sent $given $field $to $take $($row)* $($more)*] $($rest)*)
+    ([SideTraffic $given:ident $field:ident $to:ident $take:ident $($row:tt)*]
+        SideTraffic { $($more:tt)* } $($rest:tt)*) => {
+        $crate::fields::computes!(
+            [SideTraffic $given $field $to $take $($row)* $($more)*] $($rest)*)
     };
-    ([Carried $given:ident $field:ident $to:ident $take:ident $($row:tt)*] Carried { $($more:tt)* }
-        $($rest:tt)*) => {
-        $crate::fields::computes!([Carried $given $field $to $take $($row)* $($more)*] $($rest)*)
+    ([Encapsulation $given:ident $field:ident $to:ident $take:ident $($row:tt)*]
+        Encapsulation { $($more:tt)* } $($rest:tt)*) => {
+        $crate::fields::computes!(
+            [Encapsulation $given $field $to $take $($row)* $($more)*] $($rest)*)
     };
     ([$($gathered:tt)*] $other:ident $block:tt $($rest:tt)*) => {
         $crate::fields::computes!([$($gathered)*] $($rest)*)

@@ -32,7 +32,7 @@ fn client_suites<'a>(suites: &'a Suites, handshake: &'a HandshakeSummary) -> Tex
     }
 }
 
-/// Passes a field to `to`: what the client offers.
+/// Passes a field of [`Offer`] to `to`.
 pub fn compute_offer<'a, T: TakesCell<'a>>(
     context: &FieldContext<'a>,
     field: &Offer,
@@ -61,7 +61,7 @@ fn timestamps<'a>(handshake: &HandshakeSummary) -> Option<Cell<'a>> {
     Some(Cell::Number(count))
 }
 
-/// Passes a field to `to`: what the server answers.
+/// Passes a field of [`Answer`] to `to`.
 pub fn compute_answer<'a, T: TakesCell<'a>>(
     context: &FieldContext<'a>,
     field: &Answer,
@@ -109,15 +109,15 @@ fn lengths_cell<'a>(
 }
 
 /// Returns the fingerprints of a chain's certificates; `None` if there are none.
-fn prints_cell<'a>(
+fn fingerprints_cell<'a>(
     alloc: Global,
     chain: &[CertificateSummary],
 ) -> Result<Option<Cell<'a>>, AllocError> {
-    let mut prints = Vec::with_capacity(alloc, chain.len())?;
+    let mut fingerprints = Vec::with_capacity(alloc, chain.len())?;
     for one in chain {
-        prints.push(one.sha256)?;
+        fingerprints.push(one.sha256)?;
     }
-    Ok(some_texts(Texts::Digests(prints)))
+    Ok(some_texts(Texts::Digests(fingerprints)))
 }
 
 /// Returns which certificates of a chain can't be parsed, and why, such as `0:verify`; `None` if
@@ -148,8 +148,7 @@ fn match_cell<'a>(
     }
 }
 
-/// Passes a field to `to`: the certificates of both sides. An empty chain has no lengths and no
-/// fingerprints.
+/// Passes a field of [`Chain`] to `to`. An empty chain has no lengths and no fingerprints.
 pub fn compute_chain<'a, T: TakesCell<'a>>(
     context: &mut FieldContext<'a>,
     field: &Chain,

@@ -1,9 +1,9 @@
 //! The fields of a log of TLS connections, and how each is computed.
 //!
-//! [`FIELDS`](fields::FIELDS) are those of a connection: [`compute`](connection::tell) computes
-//! them from its [`Summary`](summary::Summary). [`PARTS`](columns::PARTS) are those of a message,
-//! and [`DETAILS`](columns::DETAILS) those of a certificate. Fields have the names in Zeek's logs
-//! where these have them.
+//! [`FIELDS`](fields::FIELDS) are those of a connection: [`compute`](connection::compute) computes
+//! them from its [`Summary`](summary::Summary). [`MESSAGE_FIELDS`](columns::MESSAGE_FIELDS) are
+//! those of a message, and [`CERTIFICATE_FIELDS`](columns::CERTIFICATE_FIELDS) those of a
+//! certificate. Fields have the names in Zeek's logs where these have them.
 //!
 //! This crate has no clauses, only tests.
 #![tactic(auto)]
@@ -13,9 +13,9 @@ pub mod columns;
 pub mod connection;
 pub mod context;
 pub mod fields;
+mod fingerprints;
 mod hellos;
-pub mod listed;
+pub mod joined_lists;
 pub mod names;
-mod prints;
-pub mod stamps;
 pub mod summary;
+pub mod timestamps;

@@ -3,7 +3,7 @@
 //! A [`Cell`](cell::Cell) is the value of one field, and a [`Row`](cell::Row) the named values of a
 //! line. A cell borrows what it shows ([`Text`](text::Text), [`Texts`](lists::Texts)): its text is
 //! formatted when it is written. [`Object`](objects::Object) builds a JSON object field by field,
-//! and [`TextCache`](known_texts::KnownTexts) caches fields that were written before.
+//! and [`TextCache`](text_cache::TextCache) caches fields that were written before.
 //!
 //! This crate has no clauses, only tests.
 #![tactic(auto)]

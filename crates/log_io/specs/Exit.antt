@@ -9,7 +9,7 @@ status_of Closed = 0
 status_of Broken = 1
 status_of Failed = 3
 
--- That of a run over two inputs.
+-- The exit of a run over two inputs.
 abbrev pub worse : Exit → Exit → Exit
 worse Failed other = Failed
 worse Closed Failed = Failed

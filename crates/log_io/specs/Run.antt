@@ -51,7 +51,7 @@ EndsBy old new (Ok u) = IsReadWhole old new
 EndsBy old new (Err (Capture text)) = HasNoWholeCapture old
 EndsBy old new (Err f) = ⊤
 
--- It exits as `Clean` if all was read, as `Broken` if the capture is at fault.
+-- A run exits as `Clean` if all was read, as `Broken` if the capture is at fault.
 abbrev pub Exits : Option Bytes → Option Bytes → Exit → Type 0
 Exits old new exit.Clean = IsReadWhole old new
 Exits old new exit.Broken = HasNoWholeCapture old
@@ -65,18 +65,18 @@ ExitsBy f exit.Closed = f ≡ Closed
 ExitsBy f exit.Broken = IsOfCapture f
 ExitsBy f exit.Failed = f ≡ Closed → ⊥
 
--- It isn't a capture that is at fault.
+-- The exit isn't that of a faulty capture.
 abbrev pub IsNotOfCapture : Exit → Type 0
 IsNotOfCapture exit.Broken = ⊥
 IsNotOfCapture e = ⊤
 
--- Without a value, the run failed.
+-- If the result has no value, the run failed.
 abbrev pub HasFailed : {A : Type 0} → Result A Exit → Type 0
 HasFailed (Ok a) = ⊤
 HasFailed (Err exit.Failed) = ⊤
 HasFailed (Err e) = ⊥
 
--- It exits as before, or fails.
+-- The exit stays the same, or is `Failed`.
 abbrev pub IsAsBefore : Exit → Exit → Type 0
 IsAsBefore e exit.Failed = ⊤
 IsAsBefore e e' = e' ≡ e

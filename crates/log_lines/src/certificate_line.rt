@@ -1,7 +1,7 @@
 //! The line of a certificate.
-use log_fields::certificates::{certificate_of, certified_cell, fault_name};
-use log_fields::columns::{CertificateLineField, DETAILS};
-use log_fields::connection::end_cell;
+use log_fields::certificates::{certificate_cell, certificate_of, fault_name};
+use log_fields::columns::{CERTIFICATE_FIELDS, CertificateLineField};
+use log_fields::connection::identity_cell;
 use log_fields::context::Moment;
 use log_fields::names::sender_name;
 use log_fields::summary::Summary;
@@ -21,56 +21,56 @@ fn fault_cell(bytes: &[u8]) -> Option<Cell<'static>> {
 }
 
 /// Returns a field of a certificate that was completed at this moment.
-fn detail_cell(
+fn certificate_line_cell(
     moment: Moment<'_>,
-    presented: &SentCertificate,
+    sent: &SentCertificate,
     certificate: &Option<Certificate<'_>>,
-    detail: &CertificateLineField,
+    field: &CertificateLineField,
 ) -> Result<Option<Cell<'static>>, AllocError> {
     let alloc = moment.alloc;
-    let bytes = presented.bytes.as_slice();
-    match detail {
-        CertificateLineField::End(field) => end_cell(moment, field),
-        CertificateLineField::Side => Ok(Some(name_cell(sender_name(presented.direction)))),
-        CertificateLineField::Place => Ok(Some(Cell::Number(presented.place))),
-        CertificateLineField::Print => some_text(hexadecimal(
+    let bytes = sent.bytes.as_slice();
+    match field {
+        CertificateLineField::Identity(field) => identity_cell(moment, field),
+        CertificateLineField::Side => Ok(Some(name_cell(sender_name(sent.direction)))),
+        CertificateLineField::Place => Ok(Some(Cell::Number(sent.place))),
+        CertificateLineField::Fingerprint => some_text(hexadecimal(
             alloc,
             Sha256::digest(bytes).as_slice(),
         )),
         CertificateLineField::Length => Ok(Some(Cell::Number(bytes.len() as u64))),
         CertificateLineField::Certificate(field) => match certificate {
-            Some(certificate) => certified_cell(alloc, certificate, field),
+            Some(certificate) => certificate_cell(alloc, certificate, field),
             None => Ok(None),
         },
         CertificateLineField::IsServers => Ok(some_mark(
-            presented.direction == Direction::FromServer && presented.place == 0,
+            sent.direction == Direction::FromServer && sent.place == 0,
         )),
         CertificateLineField::IsClients => Ok(some_mark(
-            presented.direction == Direction::ToServer && presented.place == 0,
+            sent.direction == Direction::ToServer && sent.place == 0,
         )),
         CertificateLineField::Fault => Ok(fault_cell(bytes)),
     }
 }
 
 /// Returns the line of a certificate that was completed at this moment, with the fields at these
-/// places of [`DETAILS`].
+/// places of [`CERTIFICATE_FIELDS`].
 pub fn certificate_row(
     alloc: Global,
     places: &[usize],
     summary: &Summary<'_>,
     time: u64,
-    presented: &SentCertificate,
+    sent: &SentCertificate,
 ) -> Result<Row<'static>, AllocError> {
     let moment = Moment {
         alloc,
         summary,
         time,
     };
-    let certificate = certificate_of(Some(presented.bytes.as_slice()));
+    let certificate = certificate_of(Some(sent.bytes.as_slice()));
     let mut cells = Vec::with_capacity(alloc, places.len())?;
     for place in places {
-        if let Some((name, _, detail)) = DETAILS.get(*place) {
-            let cell = detail_cell(moment, presented, &certificate, detail)?;
+        if let Some((name, _, field)) = CERTIFICATE_FIELDS.get(*place) {
+            let cell = certificate_line_cell(moment, sent, &certificate, field)?;
             cells.push((*name, cell))?;
         }
     }

@@ -2,7 +2,7 @@
 
 /// A format of lines.
 #[derive(Clone, Copy, Debug, PartialEq, Eq)]
-pub enum Format {
+pub enum LineFormat {
     /// A JSON object.
     Json,
     /// A record of comma-separated values (RFC 4180), behind one with the names.
@@ -45,7 +45,7 @@ macro_rules! names_of {
 /// Expands to the formats in the table's order.
 macro_rules! variants_of {
     ($($name:literal $format:ident $has_own:literal;)*) => {
-        &[$(Format::$format),*]
+        &[$(LineFormat::$format),*]
     };
 }
 
@@ -53,7 +53,7 @@ macro_rules! variants_of {
 macro_rules! name_of {
     ($of:tt; $($name:literal $format:ident $has_own:literal;)*) => {
         match $of {
-            $(Format::$format => $name,)*
+            $(LineFormat::$format => $name,)*
         }
     };
 }
@@ -62,7 +62,7 @@ macro_rules! name_of {
 macro_rules! has_own {
     ($of:tt; $($name:literal $format:ident $has_own:literal;)*) => {
         match $of {
-            $(Format::$format => $has_own,)*
+            $(LineFormat::$format => $has_own,)*
         }
     };
 }
@@ -71,13 +71,13 @@ macro_rules! has_own {
 pub static FORMAT_NAMES: &[&str] = formats!(names_of);
 
 /// The format of lines if none is named: the first of [`FORMAT_NAMES`].
-pub const DEFAULT_FORMAT: Format = Format::Json;
+pub const DEFAULT_FORMAT: LineFormat = LineFormat::Json;
 
-static FORMATS: &[Format] = formats!(variants_of);
+static FORMATS: &[LineFormat] = formats!(variants_of);
 
-impl Format {
+impl LineFormat {
     /// Returns the format of this name.
-    pub fn named(name: &str) -> Option<Format> {
+    pub fn from_name(name: &str) -> Option<LineFormat> {
         FORMATS.iter().find(|format| format.name() == name).copied()
     }
 

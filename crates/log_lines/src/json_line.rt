@@ -18,17 +18,17 @@ const PART_LEN: usize = 512;
 
 /// Adds a field to a JSON object, under its name, unless it is missing.
 #[derive(Drop)]
-struct Adds<'o> {
+struct FieldWriter<'o> {
     alloc: Global,
     line: &'o mut Object,
     place: usize,
     name: &'static str,
-    known: &'o RefCell<TextCache>,
+    cache: &'o RefCell<TextCache>,
 }
 
-impl Adds<'_> {
-    /// Returns the field with this value, apart from the line.
-    fn written<T: Serialize>(&self, value: &T) -> Result<Vec<u8>, AllocError> {
+impl FieldWriter<'_> {
+    /// Returns the text of the field with this value, apart from the line.
+    fn field_text<T: Serialize>(&self, value: &T) -> Result<Vec<u8>, AllocError> {
         let mut part = Object::over(self.alloc, Vec::new(self.alloc), PART_LEN)?;
         part.add(self.name, value)?;
         Ok(part.into_fields())
@@ -36,40 +36,40 @@ impl Adds<'_> {
 
     /// Adds a list: its cached text if there is one.
     fn add_texts(&mut self, texts: &Texts<'_>) -> Result<(), AllocError> {
-        if let Ok(known) = self.known.try_borrow() {
-            if let Some(text) = known.list(self.place, texts) {
+        if let Ok(cache) = self.cache.try_borrow() {
+            if let Some(text) = cache.list(self.place, texts) {
                 return self.line.add_fields(self.alloc, text);
             }
         }
         if !texts.are_numbers() {
             return self.line.add(self.name, texts);
         }
-        let text = self.written(texts)?;
+        let text = self.field_text(texts)?;
         self.line.add_fields(self.alloc, text.as_slice())?;
         // (without memory for the cache the line is complete all the same)
-        if let Ok(mut known) = self.known.try_borrow_mut() {
-            let _kept = known.cache_list(self.alloc, self.place, texts, text.as_slice());
+        if let Ok(mut cache) = self.cache.try_borrow_mut() {
+            let _kept = cache.cache_list(self.alloc, self.place, texts, text.as_slice());
         }
         Ok(())
     }
 
     /// Adds a list of codes: its cached text if there is one.
     fn add_codes(&mut self, codes: &[u8]) -> Result<(), AllocError> {
-        if let Ok(known) = self.known.try_borrow() {
-            if let Some(text) = known.codes(self.place, codes) {
+        if let Ok(cache) = self.cache.try_borrow() {
+            if let Some(text) = cache.codes(self.place, codes) {
                 return self.line.add_fields(self.alloc, text);
             }
         }
-        let text = self.written(&Numbers::Codes(codes))?;
+        let text = self.field_text(&Numbers::Codes(codes))?;
         self.line.add_fields(self.alloc, text.as_slice())?;
-        if let Ok(mut known) = self.known.try_borrow_mut() {
-            let _kept = known.cache_codes(self.alloc, self.place, codes, text.as_slice());
+        if let Ok(mut cache) = self.cache.try_borrow_mut() {
+            let _kept = cache.cache_codes(self.alloc, self.place, codes, text.as_slice());
         }
         Ok(())
     }
 }
 
-impl<'a> TakesCell<'a> for Adds<'_> {
+impl<'a> TakesCell<'a> for FieldWriter<'_> {
     #[inline(always)]
     fn take(&mut self, cell: Option<Cell<'a>>) -> Result<(), AllocError> {
         match &cell {
@@ -93,20 +93,20 @@ impl<'a> TakesCell<'a> for Adds<'_> {
 #[inline(always)]
 fn add_field<'a>(
     context: &mut FieldContext<'a>,
-    known: &RefCell<TextCache>,
+    cache: &RefCell<TextCache>,
     place: usize,
     name: &'static str,
     field: &Field,
     line: &mut Object,
 ) -> Result<(), AllocError> {
-    let mut adds = Adds {
+    let mut writer = FieldWriter {
         alloc: context.alloc,
         line,
         place,
         name,
-        known,
+        cache,
     };
-    compute(context, field, &mut adds)
+    compute(context, field, &mut writer)
 }
 
 /// Returns the certificate that a field describes, if it was sent.
@@ -140,27 +140,27 @@ fn places_beside<'p>(field: &Field, places: &'p [usize]) -> &'p [usize] {
 /// Adds the fields of a certificate at these places: their cached text if there is one.
 fn add_certificate<'a>(
     context: &mut FieldContext<'a>,
-    known: &RefCell<TextCache>,
+    cache: &RefCell<TextCache>,
     places: &[usize],
     certificate: &[u8],
     line: &mut Object,
 ) -> Result<(), AllocError> {
     let alloc = context.alloc;
-    if let Ok(known) = known.try_borrow() {
-        if let Some(text) = known.certificate(places, certificate) {
+    if let Ok(cache) = cache.try_borrow() {
+        if let Some(text) = cache.certificate(places, certificate) {
             return line.add_fields(alloc, text);
         }
     }
     let mut part = Object::over(alloc, Vec::new(alloc), PART_LEN)?;
     for place in places {
         if let Some((name, _, field)) = fields().get(*place) {
-            add_field(context, known, *place, *name, field, &mut part)?;
+            add_field(context, cache, *place, *name, field, &mut part)?;
         }
     }
     let text = part.into_fields();
     line.add_fields(alloc, text.as_slice())?;
-    if let Ok(mut known) = known.try_borrow_mut() {
-        let _kept = known.cache_certificate(alloc, places, certificate, text.as_slice());
+    if let Ok(mut cache) = cache.try_borrow_mut() {
+        let _kept = cache.cache_certificate(alloc, places, certificate, text.as_slice());
     }
     Ok(())
 }

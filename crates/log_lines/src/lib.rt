@@ -5,7 +5,7 @@
 //! [`Style::message_line`] that of a message, and [`Style::certificate_line`] that of a
 //! certificate.
 //!
-//! This crate has no clauses, only tests.
+//! Of what lines have, this crate has no clauses, only tests.
 #![tactic(auto)]
 
 mod certificate_line;
@@ -14,5 +14,5 @@ mod json_line;
 mod message_line;
 mod style;
 
-pub use format::{DEFAULT_FORMAT, FORMAT_NAMES, Format};
+pub use format::{DEFAULT_FORMAT, FORMAT_NAMES, LineFormat};
 pub use style::{LineKind, Lines, Style, StyleError};

@@ -1,9 +1,12 @@
 //! Which lines a log has, and how they are written.
+ghost use Rattle.std.specs.Prelude.{◌≡◌, IfOk};
+ghost use Rattle.log_lines.specs.Style.{has_chains as has_chains_in, kind_of};
+
 use crate::certificate_line::certificate_row;
-use crate::format::Format;
+use crate::format::LineFormat;
 use crate::json_line::json_line;
 use crate::message_line::message_row;
-use log_fields::columns::{DETAILS, PARTS};
+use log_fields::columns::{CERTIFICATE_FIELDS, MESSAGE_FIELDS};
 use log_fields::connection::row_of;
 use log_fields::context::FieldContext;
 use log_fields::fields::fields;
@@ -38,9 +41,9 @@ pub enum LineKind {
 pub enum Lines {
     /// Each connection, at its end: places in [`fields`].
     Connections(Vec<usize>),
-    /// Each message, when it is complete: places in [`PARTS`].
+    /// Each message, when it is complete: places in [`MESSAGE_FIELDS`].
     Messages(Vec<usize>),
-    /// Each certificate, when it is complete: places in [`DETAILS`].
+    /// Each certificate, when it is complete: places in [`CERTIFICATE_FIELDS`].
     Certificates(Vec<usize>),
 }
 
@@ -48,7 +51,7 @@ pub enum Lines {
 #[derive(Drop)]
 pub struct Style {
     /// The format of lines.
-    pub format: Format,
+    pub format: LineFormat,
     /// How comma-separated values write texts that a spreadsheet takes for formulas.
     pub formulas: Formulas,
     /// What gets a line.
@@ -67,15 +70,15 @@ pub enum StyleError<'a> {
     /// A connection's line has no field of this name.
     UnknownField(&'a str),
     /// A message's line has no field of this name.
-    UnknownPart(&'a str),
+    UnknownMessageField(&'a str),
     /// A certificate's line has no field of this name.
-    UnknownDetail(&'a str),
+    UnknownCertificateField(&'a str),
     /// Both messages and certificates should get lines.
     TwoKinds,
     /// Fields were chosen for a format with fixed fields.
-    FieldsOfFormat(Format),
+    FieldsOfFormat(LineFormat),
     /// Messages or certificates should get lines in a format for connections only.
-    KindOfFormat(Format),
+    KindOfFormat(LineFormat),
     /// This field is named twice.
     DoubledField(&'a str),
     /// Memory ran out.
@@ -89,7 +92,7 @@ impl From<AllocError> for StyleError<'_> {
 }
 
 /// Where all fields are listed.
-const TOLD: &str = "docs/TLSLOG.md and the manual page have all";
+const FIELD_LISTS: &str = "docs/TLSLOG.md and the manual page have all";
 
 /// Writes the field name nearest to `name`, or where all fields are listed.
 fn write_nearest<T, W: fmt::Write>(
@@ -99,7 +102,7 @@ fn write_nearest<T, W: fmt::Write>(
 ) -> fmt::Result {
     match nearest(table, name) {
         Some(field) => write!(f, ": did you mean {field}?"),
-        None => write!(f, ": {TOLD}"),
+        None => write!(f, ": {FIELD_LISTS}"),
     }
 }
 
@@ -110,25 +113,25 @@ impl Display for StyleError<'_> {
                 write!(f, "a connection has no field {name}")?;
                 write_nearest(fields(), name, f)
             }
-            StyleError::UnknownPart(name) => {
+            StyleError::UnknownMessageField(name) => {
                 write!(f, "a message has no field {name}")?;
-                write_nearest(PARTS, name, f)
+                write_nearest(MESSAGE_FIELDS, name, f)
             }
-            StyleError::UnknownDetail(name) => {
+            StyleError::UnknownCertificateField(name) => {
                 write!(f, "a certificate has no field {name}")?;
-                write_nearest(DETAILS, name, f)
+                write_nearest(CERTIFICATE_FIELDS, name, f)
             }
             StyleError::TwoKinds => {
-                f.write_str("--messages and --certificates don't go together")
+                f.write_str("--messages and --certificates can't be combined")
             }
             StyleError::FieldsOfFormat(format) => write!(
                 f,
-                "--fields doesn't go with --format {}, which has fields of its own",
+                "--fields can't be combined with --format {}, which has fixed fields",
                 format.name()
             ),
             StyleError::KindOfFormat(format) => write!(
                 f,
-                "--format {} is of connections: neither --messages nor --certificates goes with it",
+                "--format {} prints connections: it can't be combined with --messages or --certificates",
                 format.name()
             ),
             StyleError::DoubledField(name) => write!(f, "the field {name} is named twice"),
@@ -148,7 +151,7 @@ fn all_places(alloc: Global, count: usize) -> Result<Vec<usize>, AllocError> {
 
 /// Returns the places of the fields with these names, in the same order, or all places if no names
 /// are given.
-fn chosen<'a, T>(
+fn places_of<'a, T>(
     alloc: Global,
     table: &[Column<T>],
     names: Option<&'a str>,
@@ -174,21 +177,21 @@ fn chosen<'a, T>(
 impl Lines {
     /// Returns the lines of this kind, with the fields whose names are given, separated by `,`, or
     /// all if none are given.
-    pub fn new(
-        alloc: Global,
-        kind: LineKind,
-        names: Option<&str>,
-    ) -> Result<Lines, StyleError<'_>> {
+    pub fn new(alloc: Global, kind: LineKind, names: Option<&str>) -> Result<Lines, StyleError<'_>>
+        ensures { IfOk result (λ lines. kind_of lines ≡ kind) }
+    {
         match kind {
-            LineKind::Connections => Ok(Lines::Connections(chosen(alloc, fields(), names)?)),
-            LineKind::Messages => match chosen(alloc, PARTS, names) {
+            LineKind::Connections => Ok(Lines::Connections(places_of(alloc, fields(), names)?)),
+            LineKind::Messages => match places_of(alloc, MESSAGE_FIELDS, names) {
                 Ok(places) => Ok(Lines::Messages(places)),
-                Err(StyleError::UnknownField(name)) => Err(StyleError::UnknownPart(name)),
+                Err(StyleError::UnknownField(name)) => Err(StyleError::UnknownMessageField(name)),
                 Err(e) => Err(e),
             },
-            LineKind::Certificates => match chosen(alloc, DETAILS, names) {
+            LineKind::Certificates => match places_of(alloc, CERTIFICATE_FIELDS, names) {
                 Ok(places) => Ok(Lines::Certificates(places)),
-                Err(StyleError::UnknownField(name)) => Err(StyleError::UnknownDetail(name)),
+                Err(StyleError::UnknownField(name)) => Err(StyleError::UnknownCertificateField(
+                    name,
+                )),
                 Err(e) => Err(e),
             },
         }
@@ -202,10 +205,16 @@ fn zeek_header(alloc: Global, lines: &Lines, opened: i64) -> Result<String, Allo
             zeek::header(alloc, "ssl", opened, fields(), places.as_slice())
         }
         Lines::Messages(places) => {
-            zeek::header(alloc, "tls_messages", opened, PARTS, places.as_slice())
+            zeek::header(
+                alloc,
+                "tls_messages",
+                opened,
+                MESSAGE_FIELDS,
+                places.as_slice(),
+            )
         }
         Lines::Certificates(places) => {
-            zeek::header(alloc, "x509", opened, DETAILS, places.as_slice())
+            zeek::header(alloc, "x509", opened, CERTIFICATE_FIELDS, places.as_slice())
         }
     }
 }
@@ -214,8 +223,13 @@ fn zeek_header(alloc: Global, lines: &Lines, opened: i64) -> Result<String, Allo
 fn zeek_line(alloc: Global, lines: &Lines, row: &Row<'_>) -> Result<String, AllocError> {
     match lines {
         Lines::Connections(places) => zeek::line(alloc, fields(), places.as_slice(), row),
-        Lines::Messages(places) => zeek::line(alloc, PARTS, places.as_slice(), row),
-        Lines::Certificates(places) => zeek::line(alloc, DETAILS, places.as_slice(), row),
+        Lines::Messages(places) => zeek::line(alloc, MESSAGE_FIELDS, places.as_slice(), row),
+        Lines::Certificates(places) => zeek::line(
+            alloc,
+            CERTIFICATE_FIELDS,
+            places.as_slice(),
+            row,
+        ),
     }
 }
 
@@ -223,8 +237,8 @@ fn zeek_line(alloc: Global, lines: &Lines, row: &Row<'_>) -> Result<String, Allo
 fn csv_header(alloc: Global, lines: &Lines) -> Result<Vec<u8>, AllocError> {
     match lines {
         Lines::Connections(places) => comma::header(alloc, fields(), places.as_slice()),
-        Lines::Messages(places) => comma::header(alloc, PARTS, places.as_slice()),
-        Lines::Certificates(places) => comma::header(alloc, DETAILS, places.as_slice()),
+        Lines::Messages(places) => comma::header(alloc, MESSAGE_FIELDS, places.as_slice()),
+        Lines::Certificates(places) => comma::header(alloc, CERTIFICATE_FIELDS, places.as_slice()),
     }
 }
 
@@ -234,12 +248,15 @@ impl Style {
     /// A format with fixed fields is for connections only, and writes all of its fields.
     pub fn new(
         alloc: Global,
-        format: Format,
+        format: LineFormat,
         formulas: Formulas,
         kind: LineKind,
         names: Option<&str>,
         suites: Suites,
-    ) -> Result<Style, StyleError<'_>> {
+    ) -> Result<Style, StyleError<'_>>
+        ensures { IfOk result (λ style. (style.format ≡ format) × (style.formulas ≡ formulas)
+            × (kind_of style.lines ≡ kind) × (style.suites ≡ suites)) }
+    {
         if format.has_own_fields() {
             if kind != LineKind::Connections {
                 return Err(StyleError::KindOfFormat(format));
@@ -259,18 +276,20 @@ impl Style {
     }
 
     /// Returns whether the line of a connection has the certificates of its chains.
-    pub fn has_chains(&self) -> bool {
-        self.format == Format::Suricata
+    pub fn has_chains(&self) -> bool
+        ensures { result ≡ has_chains_in self.now.format }
+    {
+        self.format == LineFormat::Suricata
     }
 
     /// Returns what comes before all lines, without its last line break, if there is something.
     /// `opened` is the log's start, in seconds since 1970-01-01 00:00 UTC.
     pub fn header(&self, alloc: Global, opened: i64) -> Result<Option<Vec<u8>>, AllocError> {
         match self.format {
-            Format::Json | Format::Suricata | Format::Ecs => Ok(None),
-            Format::Text => Ok(Some(log_text::header(alloc)?)),
-            Format::Csv => Ok(Some(csv_header(alloc, &self.lines)?)),
-            Format::Zeek => Ok(Some(zeek_header(alloc, &self.lines, opened)?.into_bytes())),
+            LineFormat::Json | LineFormat::Suricata | LineFormat::Ecs => Ok(None),
+            LineFormat::Text => Ok(Some(log_text::header(alloc)?)),
+            LineFormat::Csv => Ok(Some(csv_header(alloc, &self.lines)?)),
+            LineFormat::Zeek => Ok(Some(zeek_header(alloc, &self.lines, opened)?.into_bytes())),
         }
     }
 
@@ -278,8 +297,12 @@ impl Style {
     /// `closed` is the log's end, in seconds since 1970-01-01 00:00 UTC.
     pub fn footer(&self, alloc: Global, closed: i64) -> Result<Option<Vec<u8>>, AllocError> {
         match self.format {
-            Format::Zeek => Ok(Some(zeek::footer(alloc, closed)?.into_bytes())),
-            Format::Json | Format::Csv | Format::Text | Format::Suricata | Format::Ecs => Ok(None),
+            LineFormat::Zeek => Ok(Some(zeek::footer(alloc, closed)?.into_bytes())),
+            LineFormat::Json
+            | LineFormat::Csv
+            | LineFormat::Text
+            | LineFormat::Suricata
+            | LineFormat::Ecs => Ok(None),
         }
     }
 
@@ -295,9 +318,10 @@ impl Style {
     /// Returns a line, without its line break.
     fn line(&self, alloc: Global, row: &Row<'_>) -> Result<Vec<u8>, AllocError> {
         match self.format {
-            Format::Json | Format::Text | Format::Suricata | Format::Ecs => json_row(alloc, row),
-            Format::Csv => comma::line(alloc, row, self.formulas),
-            Format::Zeek => Ok(zeek_line(alloc, &self.lines, row)?.into_bytes()),
+            LineFormat::Json | LineFormat::Text | LineFormat::Suricata | LineFormat::Ecs =>
+                json_row(alloc, row),
+            LineFormat::Csv => comma::line(alloc, row, self.formulas),
+            LineFormat::Zeek => Ok(zeek_line(alloc, &self.lines, row)?.into_bytes()),
         }
     }
 
@@ -311,11 +335,11 @@ impl Style {
         room: Vec<u8>,
     ) -> Result<Vec<u8>, AllocError> {
         match self.format {
-            Format::Text => log_text::line(self.context(alloc, summary)),
-            Format::Suricata => log_suricata::line(self.context(alloc, summary)),
-            Format::Ecs => log_ecs::line(self.context(alloc, summary)),
-            Format::Json => json_line(alloc, self, places, summary, room),
-            Format::Csv | Format::Zeek => {
+            LineFormat::Text => log_text::line(self.context(alloc, summary)),
+            LineFormat::Suricata => log_suricata::line(self.context(alloc, summary)),
+            LineFormat::Ecs => log_ecs::line(self.context(alloc, summary)),
+            LineFormat::Json => json_line(alloc, self, places, summary, room),
+            LineFormat::Csv | LineFormat::Zeek => {
                 let row = row_of(&mut self.context(alloc, summary), places)?;
                 self.line(alloc, &row)
             }
@@ -323,30 +347,30 @@ impl Style {
     }
 
     /// Returns the line of a message that was completed at this time, with the fields at these
-    /// places of [`PARTS`], without its line break.
+    /// places of [`MESSAGE_FIELDS`], without its line break.
     pub fn message_line(
         &self,
         alloc: Global,
         places: &[usize],
         summary: &Summary<'_>,
         time: u64,
-        spoken: SentMessage,
+        sent: SentMessage,
     ) -> Result<Vec<u8>, AllocError> {
-        let row = message_row(alloc, places, summary, time, spoken)?;
+        let row = message_row(alloc, places, summary, time, sent)?;
         self.line(alloc, &row)
     }
 
     /// Returns the line of a certificate that was completed at this time, with the fields at these
-    /// places of [`DETAILS`], without its line break.
+    /// places of [`CERTIFICATE_FIELDS`], without its line break.
     pub fn certificate_line(
         &self,
         alloc: Global,
         places: &[usize],
         summary: &Summary<'_>,
         time: u64,
-        presented: &SentCertificate,
+        sent: &SentCertificate,
     ) -> Result<Vec<u8>, AllocError> {
-        let row = certificate_row(alloc, places, summary, time, presented)?;
+        let row = certificate_row(alloc, places, summary, time, sent)?;
         self.line(alloc, &row)
     }
 }

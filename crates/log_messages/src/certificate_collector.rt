@@ -1,4 +1,9 @@
 //! The unencrypted certificates of both sides, each kept until its line is written.
+ghost use Rattle.std.specs.Prelude.{◌≡◌, ◌++◌, [], map, OnOk};
+ghost use Rattle.std.specs.Option.{option_map};
+ghost use Rattle.tls_flow.specs.Bytes.{view_heard};
+ghost use Rattle.log_messages.specs.Certificates.{certificates_of, sent_in, view_sent};
+
 use std::alloc::{AllocError, Global};
 use std::mem;
 use tls_base::TlsHandshakeType;
@@ -25,7 +30,9 @@ pub struct CertificateCollector {
 
 impl CertificateCollector {
     /// Returns one that keeps nothing yet.
-    pub fn new(alloc: Global) -> CertificateCollector {
+    pub fn new(alloc: Global) -> CertificateCollector
+        ensures { result.kept.items ≡ [] }
+    {
         CertificateCollector {
             alloc,
             kept: Vec::new(alloc),
@@ -39,7 +46,11 @@ impl CertificateCollector {
         &mut self,
         direction: Direction,
         message: Option<&HandshakeMessage<'_>>,
-    ) -> Result<(), AllocError> {
+    ) -> Result<(), AllocError>
+        ensures { OnOk result (map view_sent self.new.kept.items ≡ map view_sent self.old.kept.items
+            ++ sent_in direction
+            (certificates_of (option_map (λ m. view_heard m.now) message.entry))) }
+    {
         let Some(message) = message else {
             return Ok(());
         };
@@ -64,7 +75,10 @@ impl CertificateCollector {
     }
 
     /// Removes the certificates that are kept, and returns them.
-    pub fn take(&mut self) -> Vec<SentCertificate> {
+    pub fn take(&mut self) -> Vec<SentCertificate>
+        ensures taken { result.items ≡ self.old.kept.items }
+        ensures none { self.new.kept.items ≡ [] }
+    {
         mem::replace(&mut self.kept, Vec::new(self.alloc))
     }
 }

@@ -1,5 +1,10 @@
 //! The certificate lists of both sides, kept until the connection's line is written.
-use std::alloc::Global;
+ghost use Rattle.std.specs.Prelude.{◌≡◌, [], OnErr, OnOk};
+ghost use Rattle.std.specs.Option.{option_map};
+ghost use Rattle.tls_flow.specs.Bytes.{view_heard};
+ghost use Rattle.log_messages.specs.Certificates.{KeepsLast, capacity_of, certificates_of, list_of, opposite};
+
+use std::alloc::{AllocError, Global};
 use tls_base::TlsHandshakeType;
 use tls_flow::{Direction, HandshakeMessage};
 use tls_hs::certificates;
@@ -14,7 +19,10 @@ pub struct CertificateLists {
 
 impl CertificateLists {
     /// Returns one that keeps no list yet.
-    pub fn new(alloc: Global) -> CertificateLists {
+    pub fn new(alloc: Global) -> CertificateLists
+        ensures client { result.client.items ≡ [] }
+        ensures server { result.server.items ≡ [] }
+    {
         CertificateLists {
             alloc,
             client: Vec::new(alloc),
@@ -23,21 +31,48 @@ impl CertificateLists {
     }
 
     /// Keeps the list of a message in place of its sender's earlier one, if the message is a
-    /// Certificate. If memory is refused, the sender has no list: a connection doesn't end for it.
-    pub fn add_message(&mut self, direction: Direction, message: Option<&HandshakeMessage<'_>>) {
+    /// Certificate.
+    ///
+    /// `AllocError` if memory runs out; the sender then has no list.
+    pub fn add_message(
+        &mut self,
+        direction: Direction,
+        message: Option<&HandshakeMessage<'_>>,
+    ) -> Result<(), AllocError>
+        ensures kept { OnOk result (KeepsLast direction
+            (certificates_of (option_map (λ m. view_heard m.now) message.entry)) self.old
+            self.new) }
+        ensures none { OnErr result (list_of direction self.new ≡ []) }
+        ensures others { list_of (opposite direction) self.new
+            ≡ list_of (opposite direction) self.old }
+    {
         let Some(message) = message else {
-            return;
+            return Ok(());
         };
         if message.msg_type != TlsHandshakeType::Certificate {
-            return;
+            return Ok(());
         }
         let Ok((_, chain)) = certificates(message.body) else {
-            return;
+            return Ok(());
         };
-        let mut list = Vec::new(self.alloc);
-        if list.extend_from_slice(chain.bytes()).is_err() {
-            list = Vec::new(self.alloc);
+        match Vec::from_slice(self.alloc, chain.bytes()) {
+            Ok(list) => {
+                self.keep(direction, list);
+                Ok(())
+            }
+            Err(e) => {
+                self.keep(direction, Vec::new(self.alloc));
+                Err(e)
+            }
         }
+    }
+
+    /// Keeps a list in place of its sender's earlier one.
+    fn keep(&mut self, direction: Direction, list: Vec<u8>)
+        ensures kept { list_of direction self.new ≡ list.items }
+        ensures others { list_of (opposite direction) self.new
+            ≡ list_of (opposite direction) self.old }
+    {
         match direction {
             Direction::ToServer => self.client = list,
             Direction::FromServer => self.server = list,
@@ -46,7 +81,9 @@ impl CertificateLists {
 
     /// Returns the list of that direction's sender: certificates in DER, its own first, each after
     /// 3 bytes of length. It is empty if none is kept.
-    pub fn of(&self, direction: Direction) -> &[u8] {
+    pub fn of(&self, direction: Direction) -> &[u8]
+        ensures { result.now ≡ list_of direction self.now }
+    {
         match direction {
             Direction::ToServer => self.client.as_slice(),
             Direction::FromServer => self.server.as_slice(),
@@ -54,7 +91,9 @@ impl CertificateLists {
     }
 
     /// Returns how many bytes of memory the lists take.
-    pub fn capacity(&self) -> usize {
+    pub fn capacity(&self) -> usize
+        ensures { result ≡ capacity_of self.now }
+    {
         self.client
             .capacity()
             .saturating_add(self.server.capacity())

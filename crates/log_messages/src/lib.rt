@@ -9,5 +9,5 @@ mod message_collector;
 
 pub use certificate_collector::{CertificateCollector, SentCertificate};
 pub use certificate_lists::CertificateLists;
-pub use message_collector::{Body, MessageCollector, NamedMessage, SentMessage};
+pub use message_collector::{MessageCollector, MessageJson, NamedMessage, SentMessage};
 pub use tls_json::SuiteText;

@@ -1,24 +1,31 @@
 //! The unencrypted messages of both sides, each kept until its line is written.
+ghost use Rattle.std.specs.Prelude.{◌≡◌, [], IfOk, OnOk, is_some};
+ghost use Rattle.std.specs.Result.{IsOkAnd};
+ghost use Rattle.log_messages.specs.Messages.{Keeps, KeepsNext, count_of, counting, is_by_number, messages_of, one_more, type_in_datagram, type_in_stream, type_of_side, writes_numbers};
+ghost use Rattle.tls_flow.specs.declared.symbol.Direction.TheVariants.{ToServer, FromServer};
+
 use serde::Serialize;
 use std::alloc::{AllocError, Global};
 use std::mem;
 use tls_base::{TlsHandshakeType, TlsMessageAlert, TlsRecordType};
 use tls_flow::{Direction, HandshakeMessage};
-use tls_json::{AlertMessage, ChangeCipherSpec, Chosen, HeartbeatMessage, Message, SuiteText};
+use tls_json::{
+    AlertJson, ChangeCipherSpecJson, HandshakeJson, HeartbeatJson, NegotiatedParameters, SuiteText,
+};
 use tls_stream::SideEvent;
 
-/// The fields of a message.
+/// A message as JSON.
 #[derive(Drop, Serialize)]
 #[serde(untagged)]
-pub enum Body {
+pub enum MessageJson {
     /// A handshake message.
-    Handshake(Message),
+    Handshake(HandshakeJson),
     /// An alert.
-    Alert(AlertMessage),
+    Alert(AlertJson),
     /// A ChangeCipherSpec.
-    Change(ChangeCipherSpec),
+    ChangeCipherSpec(ChangeCipherSpecJson),
     /// A heartbeat.
-    Heartbeat(HeartbeatMessage),
+    Heartbeat(HeartbeatJson),
 }
 
 /// A message with its type and name.
@@ -28,8 +35,8 @@ pub struct NamedMessage {
     pub content_type: TlsRecordType,
     /// Its name, if it is registered.
     pub name: Option<&'static str>,
-    /// Its fields; `None` if its header isn't whole.
-    pub body: Option<Box<Body>>,
+    /// The message as JSON; `None` if its header isn't whole.
+    pub json: Option<Box<MessageJson>>,
 }
 
 /// A message, its sender and its place.
@@ -40,7 +47,7 @@ pub struct SentMessage {
     /// The number of messages that its sender sent before it.
     pub place: u64,
     /// The message.
-    pub word: NamedMessage,
+    pub message: NamedMessage,
 }
 
 impl NamedMessage {
@@ -48,43 +55,57 @@ impl NamedMessage {
         alloc: Global,
         content_type: TlsRecordType,
         name: Option<&'static str>,
-        body: Body,
-    ) -> Result<NamedMessage, AllocError> {
+        json: MessageJson,
+    ) -> Result<NamedMessage, AllocError>
+        ensures { IfOk result (λ message. message.content_type ≡ content_type) }
+    {
         Ok(NamedMessage {
             content_type,
             name,
-            body: Some(Box::new(alloc, body)?),
+            json: Some(Box::new(alloc, json)?),
         })
     }
 
     /// Returns a message that is named after its record's type.
-    fn alone(
+    fn of_record(
         alloc: Global,
         content_type: TlsRecordType,
-        body: Body,
-    ) -> Result<NamedMessage, AllocError> {
-        NamedMessage::new(alloc, content_type, content_type.registered_name(), body)
+        json: MessageJson,
+    ) -> Result<NamedMessage, AllocError>
+        ensures { IfOk result (λ message. message.content_type ≡ content_type) }
+    {
+        NamedMessage::new(alloc, content_type, content_type.registered_name(), json)
     }
 }
 
 /// Returns a ChangeCipherSpec (RFC 5246, section 7.1).
-fn change_word(alloc: Global) -> Result<NamedMessage, AllocError> {
-    NamedMessage::alone(
+fn change_message(alloc: Global) -> Result<NamedMessage, AllocError>
+    ensures { IfOk result (λ message. message.content_type.0 ≡ 20) }
+{
+    NamedMessage::of_record(
         alloc,
         TlsRecordType::ChangeCipherSpec,
-        Body::Change(ChangeCipherSpec::ONLY),
+        MessageJson::ChangeCipherSpec(ChangeCipherSpecJson::ONLY),
     )
 }
 
-fn alert_word(alloc: Global, alert: &TlsMessageAlert) -> Result<NamedMessage, AllocError> {
-    let alert = AlertMessage::new(alert.severity, alert.code);
-    NamedMessage::alone(alloc, TlsRecordType::Alert, Body::Alert(alert))
+fn alert_message(alloc: Global, alert: &TlsMessageAlert) -> Result<NamedMessage, AllocError>
+    ensures { IfOk result (λ message. message.content_type.0 ≡ 21) }
+{
+    let alert = AlertJson::new(alert.severity, alert.code);
+    NamedMessage::of_record(alloc, TlsRecordType::Alert, MessageJson::Alert(alert))
 }
 
 /// Returns a heartbeat (RFC 6520, section 4), by the fragment of its record.
-fn heartbeat_word(alloc: Global, fragment: &[u8]) -> Result<NamedMessage, AllocError> {
-    let heartbeat = HeartbeatMessage::new(alloc, fragment)?;
-    NamedMessage::alone(alloc, TlsRecordType::Heartbeat, Body::Heartbeat(heartbeat))
+fn heartbeat_message(alloc: Global, fragment: &[u8]) -> Result<NamedMessage, AllocError>
+    ensures { IfOk result (λ message. message.content_type.0 ≡ 24) }
+{
+    let heartbeat = HeartbeatJson::new(alloc, fragment)?;
+    NamedMessage::of_record(
+        alloc,
+        TlsRecordType::Heartbeat,
+        MessageJson::Heartbeat(heartbeat),
+    )
 }
 
 /// Returns the name of a handshake message of TLS, given with its header.
@@ -94,60 +115,92 @@ fn handshake_name(message: &[u8]) -> Option<&'static str> {
 }
 
 /// Returns a handshake message of TLS, given with its header and, if it is whole, parsed. If it is
-/// a ServerHello, `chosen` becomes what it chose.
-fn handshake_word(
+/// a ServerHello, `negotiated` becomes what it chose.
+fn handshake_message(
     alloc: Global,
     suite_text: SuiteText,
-    chosen: &mut Option<Chosen>,
+    negotiated: &mut Option<NegotiatedParameters>,
     bytes: &[u8],
     message: Option<&HandshakeMessage<'_>>,
-) -> Result<NamedMessage, AllocError> {
+) -> Result<NamedMessage, AllocError>
+    ensures { IfOk result (λ named. named.content_type.0 ≡ 22) }
+{
     let name = handshake_name(bytes);
     let Some(message) = message else {
         return Ok(NamedMessage {
             content_type: TlsRecordType::Handshake,
             name,
-            body: None,
+            json: None,
         });
     };
-    if let Some(choice) = Chosen::of(message) {
-        *chosen = Some(choice);
+    if let Some(parameters) = NegotiatedParameters::of(message) {
+        *negotiated = Some(parameters);
     }
-    let read = Message::of(alloc, suite_text, *chosen, message)?;
-    NamedMessage::new(alloc, TlsRecordType::Handshake, name, Body::Handshake(read))
+    let json = HandshakeJson::of(alloc, suite_text, *negotiated, message)?;
+    NamedMessage::new(
+        alloc,
+        TlsRecordType::Handshake,
+        name,
+        MessageJson::Handshake(json),
+    )
 }
 
-/// Returns a handshake message of DTLS with its number. If it is a ServerHello, `chosen` becomes
-/// what it chose.
-fn handshake_word_of_datagrams(
+/// Returns a handshake message of DTLS with its number. If it is a ServerHello, `negotiated`
+/// becomes what it chose.
+fn handshake_message_of_datagrams(
     alloc: Global,
     suite_text: SuiteText,
-    chosen: &mut Option<Chosen>,
+    negotiated: &mut Option<NegotiatedParameters>,
     message_seq: u16,
     message: &HandshakeMessage<'_>,
-) -> Result<NamedMessage, AllocError> {
-    if let Some(choice) = Chosen::of(message) {
-        *chosen = Some(choice);
+) -> Result<NamedMessage, AllocError>
+    ensures { IfOk result (λ named. named.content_type.0 ≡ 22) }
+{
+    if let Some(parameters) = NegotiatedParameters::of(message) {
+        *negotiated = Some(parameters);
     }
     let name = message.msg_type.registered_name();
-    let read = Message::of_datagram_message(alloc, suite_text, *chosen, message_seq, message)?;
-    NamedMessage::new(alloc, TlsRecordType::Handshake, name, Body::Handshake(read))
+    let json = HandshakeJson::of_datagram_message(
+        alloc,
+        suite_text,
+        *negotiated,
+        message_seq,
+        message,
+    )?;
+    NamedMessage::new(
+        alloc,
+        TlsRecordType::Handshake,
+        name,
+        MessageJson::Handshake(json),
+    )
 }
 
 /// Messages that are kept until they are taken, and what further ones depend on.
 #[derive(Drop)]
 struct CollectedMessages {
     suite_text: SuiteText,
-    // What the last ServerHello chose: key exchanges after it are parsed by it.
-    chosen: Option<Chosen>,
+    // The parameters of the last ServerHello, by which later key exchanges are parsed.
+    negotiated: Option<NegotiatedParameters>,
     client_count: u64,
     server_count: u64,
-    spoken: Vec<SentMessage>,
+    messages: Vec<SentMessage>,
 }
 
 impl CollectedMessages {
     /// Returns the place of the next message in that direction, and counts it.
-    fn next_place(&mut self, direction: Direction) -> u64 {
+    fn next_place(&mut self, direction: Direction) -> u64
+        ensures place { result ≡ count_of direction self.old }
+        ensures client { self.new.client_count ≡ counting direction
+            (one_more (count_of direction self.old)) self.old.client_count self.old.server_count
+            ToServer }
+        ensures server { self.new.server_count ≡ counting direction
+            (one_more (count_of direction self.old)) self.old.client_count self.old.server_count
+            FromServer }
+        ensures same { self.new ≡ record self.old {
+          client_count = self.new.client_count;
+          server_count = self.new.server_count;
+        } }
+    {
         match direction {
             Direction::ToServer => {
                 let place = self.client_count;
@@ -166,14 +219,17 @@ impl CollectedMessages {
     fn keep(
         &mut self,
         direction: Direction,
-        word: Result<NamedMessage, AllocError>,
-    ) -> Result<(), AllocError> {
-        let word = word?;
+        message: Result<NamedMessage, AllocError>,
+    ) -> Result<(), AllocError>
+        ensures { OnOk result (IsOkAnd message
+            (λ message. KeepsNext direction message.content_type.0 self.old self.new)) }
+    {
+        let message = message?;
         let place = self.next_place(direction);
-        self.spoken.push(SentMessage {
+        self.messages.push(SentMessage {
             direction,
             place,
-            word,
+            message,
         })?;
         Ok(())
     }
@@ -185,16 +241,24 @@ impl CollectedMessages {
         direction: Direction,
         event: &tls_stream::Event<'_>,
         message: Option<&HandshakeMessage<'_>>,
-    ) -> Result<(), AllocError> {
+    ) -> Result<(), AllocError>
+        ensures { OnOk result (Keeps direction (type_in_stream event.now) self.old self.new) }
+    {
         match event {
             tls_stream::Event::Handshake(bytes) => {
-                let word = handshake_word(alloc, self.suite_text, &mut self.chosen, bytes, message);
-                self.keep(direction, word)
+                let named = handshake_message(
+                    alloc,
+                    self.suite_text,
+                    &mut self.negotiated,
+                    bytes,
+                    message,
+                );
+                self.keep(direction, named)
             }
-            tls_stream::Event::ChangeCipherSpec => self.keep(direction, change_word(alloc)),
-            tls_stream::Event::Alert(alert) => self.keep(direction, alert_word(alloc, alert)),
+            tls_stream::Event::ChangeCipherSpec => self.keep(direction, change_message(alloc)),
+            tls_stream::Event::Alert(alert) => self.keep(direction, alert_message(alloc, alert)),
             tls_stream::Event::Heartbeat(fragment) => {
-                self.keep(direction, heartbeat_word(alloc, fragment))
+                self.keep(direction, heartbeat_message(alloc, fragment))
             }
             tls_stream::Event::ApplicationData(_) => Ok(()),
             tls_stream::Event::Encrypted(_) => Ok(()),
@@ -208,24 +272,27 @@ impl CollectedMessages {
         direction: Direction,
         event: &dtls_stream::Event<'_>,
         message: Option<&HandshakeMessage<'_>>,
-    ) -> Result<(), AllocError> {
+    ) -> Result<(), AllocError>
+        ensures { OnOk result (Keeps direction
+            (type_in_datagram event.now (is_some message.entry)) self.old self.new) }
+    {
         match event {
             dtls_stream::Event::Handshake(whole) => {
                 let Some(message) = message else {
                     return Ok(());
                 };
                 let number = whole.message_seq;
-                let word = handshake_word_of_datagrams(
+                let named = handshake_message_of_datagrams(
                     alloc,
                     self.suite_text,
-                    &mut self.chosen,
+                    &mut self.negotiated,
                     number,
                     message,
                 );
-                self.keep(direction, word)
+                self.keep(direction, named)
             }
-            dtls_stream::Event::ChangeCipherSpec => self.keep(direction, change_word(alloc)),
-            dtls_stream::Event::Alert(alert) => self.keep(direction, alert_word(alloc, alert)),
+            dtls_stream::Event::ChangeCipherSpec => self.keep(direction, change_message(alloc)),
+            dtls_stream::Event::Alert(alert) => self.keep(direction, alert_message(alloc, alert)),
             dtls_stream::Event::Encrypted(_) => Ok(()),
             dtls_stream::Event::Refused(_, _) | dtls_stream::Event::Fault(_) => Ok(()),
         }
@@ -241,15 +308,18 @@ pub struct MessageCollector {
 
 impl MessageCollector {
     /// Returns one that keeps nothing yet. Cipher suites are written as `suite_text` says.
-    pub fn new(alloc: Global, suite_text: SuiteText) -> MessageCollector {
+    pub fn new(alloc: Global, suite_text: SuiteText) -> MessageCollector
+        ensures none { messages_of result ≡ [] }
+        ensures numbers { writes_numbers result ≡ is_by_number suite_text }
+    {
         MessageCollector {
             alloc,
             kept: CollectedMessages {
                 suite_text,
-                chosen: None,
+                negotiated: None,
                 client_count: 0,
                 server_count: 0,
-                spoken: Vec::new(alloc),
+                messages: Vec::new(alloc),
             },
         }
     }
@@ -259,10 +329,13 @@ impl MessageCollector {
     pub fn on_stream_event(
         &mut self,
         direction: Direction,
-        said: &SideEvent<'_>,
+        event: &SideEvent<'_>,
         message: Option<&HandshakeMessage<'_>>,
-    ) -> Result<(), AllocError> {
-        match said {
+    ) -> Result<(), AllocError>
+        ensures { OnOk result
+            (Keeps direction (type_of_side event.now) self.old.kept self.new.kept) }
+    {
+        match event {
             SideEvent::Event(event) => self
                 .kept
                 .add_stream_event(self.alloc, direction, event, message),
@@ -277,13 +350,19 @@ impl MessageCollector {
         direction: Direction,
         event: &dtls_stream::Event<'_>,
         message: Option<&HandshakeMessage<'_>>,
-    ) -> Result<(), AllocError> {
+    ) -> Result<(), AllocError>
+        ensures { OnOk result (Keeps direction
+            (type_in_datagram event.now (is_some message.entry)) self.old.kept self.new.kept) }
+    {
         self.kept
             .add_datagram_event(self.alloc, direction, event, message)
     }
 
     /// Removes the messages that are kept, and returns them.
-    pub fn take(&mut self) -> Vec<SentMessage> {
-        mem::replace(&mut self.kept.spoken, Vec::new(self.alloc))
+    pub fn take(&mut self) -> Vec<SentMessage>
+        ensures taken { result.items ≡ messages_of self.old }
+        ensures none { messages_of self.new ≡ [] }
+    {
+        mem::replace(&mut self.kept.messages, Vec::new(self.alloc))
     }
 }

@@ -15,76 +15,79 @@ pub struct Choices<'a> {
     pub checksums: &'a [&'a str],
 }
 
-/// What an option takes. A value has a name in the help.
-enum Takes {
-    /// Nothing: it is a flag.
-    Nothing,
-    /// A value.
-    Value(&'static str),
-    /// A value, and its default.
-    ValueOr(&'static str, &'static str),
+/// The kind of an option's value. A value has a name in the help.
+enum ValueKind {
+    /// No value: the option is a flag.
+    Flag,
+    /// Any value.
+    Any(&'static str),
+    /// Any value, and the default.
+    WithDefault(&'static str, &'static str),
     /// One of the formats.
     Format(&'static str),
     /// One of the ways to treat checksums.
     Checksums(&'static str),
 }
 
-/// The options in the order of the help: name, what it takes, and its help.
-static OPTIONS: [(&str, Takes, &str); 12] = [
+/// The options in the order of the help: the name, the kind of value, and the help.
+static OPTIONS: [(&str, ValueKind, &str); 12] = [
     (
         "messages",
-        Takes::Nothing,
+        ValueKind::Flag,
         "Print a line per message, as it arrives, instead of per connection",
     ),
     (
         "certificates",
-        Takes::Nothing,
+        ValueKind::Flag,
         "Print a line per certificate, as it arrives, instead of per connection",
     ),
-    ("format", Takes::Format("FORMAT"), "Output format"),
+    ("format", ValueKind::Format("FORMAT"), "Output format"),
     (
         "fields",
-        Takes::Value("A,B,.."),
+        ValueKind::Any("A,B,.."),
         "Print these fields, in this order; all by default",
     ),
     (
         "ciphers",
-        Takes::Value("FILE"),
+        ValueKind::Any("FILE"),
         "Name cipher suites by this file, with lines like ff01:OUR_SUITE, before IANA's registry",
     ),
     (
         "numbers",
-        Takes::Nothing,
+        ValueKind::Flag,
         "Print cipher suites as numbers, like 0xc02f, unless --ciphers names them",
     ),
     (
         "csv-raw",
-        Takes::Nothing,
+        ValueKind::Flag,
         "With --format csv: omit the ' before text that a spreadsheet would run as a formula",
     ),
     (
         "checksums",
-        Takes::Checksums("WHICH"),
-        "Which packets with wrong checksums to drop: all (check), none (ignore), or all but those of a sender whose first packets are all wrong (auto)",
+        ValueKind::Checksums("WHICH"),
+        concat!(
+            "Which packets with wrong checksums to drop: all (check), none (ignore), ",
+            "or all but those of a sender whose first packets are all wrong (auto)",
+        ),
     ),
     (
         "join",
-        Takes::Nothing,
+        ValueKind::Flag,
         "Read all captures, in this order, as one that was split into files",
     ),
     (
         "part",
-        Takes::Value("K/N"),
+        ValueKind::Any("K/N"),
         "Log only part K of N of the connections, chosen by addresses and ports",
     ),
     (
         "by-network",
-        Takes::Nothing,
+        ValueKind::Flag,
         "Separate connections whose VLAN tags or tunnels differ",
     ),
     (
         "memory",
-        Takes::ValueOr("SIZE", "1G"),
+        ValueKind::WithDefault("SIZE", "1G"),
         "Memory limit, like 512M or 2G, or none; over it, the longest-idle connections are closed",
     ),
 ];
@@ -127,20 +130,20 @@ fn with_choices<'a>(option: Arg<'a>, choices: &'a [&'a str]) -> Arg<'a> {
 fn option<'a>(
     alloc: Global,
     name: &'a str,
-    takes: &Takes,
+    kind: &ValueKind,
     help: &'a str,
     choices: Choices<'a>,
 ) -> Arg<'a> {
-    match takes {
-        Takes::Nothing => flag(alloc, name, help),
-        Takes::Value(value) => option_with_value(alloc, name, value, help),
-        Takes::ValueOr(value, default) => {
+    match kind {
+        ValueKind::Flag => flag(alloc, name, help),
+        ValueKind::Any(value) => option_with_value(alloc, name, value, help),
+        ValueKind::WithDefault(value, default) => {
             option_with_value(alloc, name, value, help).default_value(default)
         }
-        Takes::Format(value) => {
+        ValueKind::Format(value) => {
             with_choices(option_with_value(alloc, name, value, help), choices.formats)
         }
-        Takes::Checksums(value) => {
+        ValueKind::Checksums(value) => {
             with_choices(
                 option_with_value(alloc, name, value, help),
                 choices.checksums,
@@ -156,8 +159,8 @@ fn command<'a>(alloc: Global, choices: Choices<'a>) -> Result<Command<'a>, Alloc
         .about("Logs the TLS and DTLS connections of packet captures, a line for each")
         .after_help(AFTER_OPTIONS)
         .arg(captures(alloc))?;
-    for (name, takes, help) in &OPTIONS {
-        command = command.arg(option(alloc, name, takes, help, choices))?;
+    for (name, kind, help) in &OPTIONS {
+        command = command.arg(option(alloc, name, kind, help, choices))?;
     }
     Ok(command)
 }

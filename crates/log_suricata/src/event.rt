@@ -5,12 +5,12 @@ use connection_ids::flow_id;
 use connections::{Protocol, Side};
 use layouts::Items;
 use log_fields::columns::CertificateField;
-use log_fields::connection::{cell_of, end_cell, microseconds};
+use log_fields::connection::{cell_of, identity_cell, microseconds};
 use log_fields::context::{FieldContext, Moment, OwnCertificate};
-use log_fields::fields::{End, Field, Named, Offer, Print};
-use log_fields::listed::listed_cell;
-use log_fields::stamps::stamp_cell;
+use log_fields::fields::{Field, Fingerprint, Identity, Negotiation, Offer};
+use log_fields::joined_lists::joined_list_cell;
 use log_fields::summary::Summary;
+use log_fields::timestamps::timestamp_cell;
 use log_formats::cell::{Cell, PrintCell, Row};
 use log_formats::lists::Texts;
 use log_formats::objects::{LINE_LEN, json_bytes};
@@ -38,12 +38,12 @@ enum OwnField {
     NotAfter,
 }
 
-/// A field of the object `tls`.
-enum Said {
-    /// The value of one of the log's fields.
-    Same(Field),
+/// The value of a field of the object `tls` or `client`, by its source.
+enum Value {
+    /// A field of the connection's line.
+    Field(Field),
     /// A field of a side's own certificate.
-    Own(Side, OwnField),
+    OwnField(Side, OwnField),
     /// A side's own certificate, whole.
     Certificate(Side),
     /// All certificates that a side sent.
@@ -53,7 +53,7 @@ enum Said {
     Resumed,
     Ja3,
     Ja3s,
-    Chosen,
+    NextProtocol,
 }
 
 /// The name of the field that has a side's own certificate.
@@ -63,56 +63,83 @@ const CERTIFICATE: &str = "certificate";
 const CHAIN: &str = "chain";
 
 /// The fields of the object `tls` before the object `client`, in order.
-static TLS: &[(&str, Said)] = &[
-    ("subject", Said::Own(Side::Responder, OwnField::Subject)),
-    ("issuerdn", Said::Own(Side::Responder, OwnField::Issuer)),
-    ("subjectaltname", Said::AlternativeNames),
-    ("session_resumed", Said::Resumed),
-    ("serial", Said::Own(Side::Responder, OwnField::Serial)),
+static TLS: &[(&str, Value)] = &[
+    (
+        "subject",
+        Value::OwnField(Side::Responder, OwnField::Subject),
+    ),
+    (
+        "issuerdn",
+        Value::OwnField(Side::Responder, OwnField::Issuer),
+    ),
+    ("subjectaltname", Value::AlternativeNames),
+    ("session_resumed", Value::Resumed),
+    ("serial", Value::OwnField(Side::Responder, OwnField::Serial)),
     (
         "fingerprint",
-        Said::Own(Side::Responder, OwnField::Fingerprint),
+        Value::OwnField(Side::Responder, OwnField::Fingerprint),
     ),
-    ("sni", Said::Same(Field::Named(Named::ServerName))),
-    ("version", Said::Version),
-    ("notbefore", Said::Own(Side::Responder, OwnField::NotBefore)),
-    ("notafter", Said::Own(Side::Responder, OwnField::NotAfter)),
-    (CERTIFICATE, Said::Certificate(Side::Responder)),
-    (CHAIN, Said::Chain(Side::Responder)),
-    ("ja3", Said::Ja3),
-    ("ja3s", Said::Ja3s),
-    ("ja4", Said::Same(Field::Print(Print::Ja4))),
+    (
+        "sni",
+        Value::Field(Field::Negotiation(Negotiation::ServerName)),
+    ),
+    ("version", Value::Version),
+    (
+        "notbefore",
+        Value::OwnField(Side::Responder, OwnField::NotBefore),
+    ),
+    (
+        "notafter",
+        Value::OwnField(Side::Responder, OwnField::NotAfter),
+    ),
+    (CERTIFICATE, Value::Certificate(Side::Responder)),
+    (CHAIN, Value::Chain(Side::Responder)),
+    ("ja3", Value::Ja3),
+    ("ja3s", Value::Ja3s),
+    ("ja4", Value::Field(Field::Fingerprint(Fingerprint::Ja4))),
 ];
 
 /// The fields of the object `tls` after the object `client`, in order.
-static PROTOCOLS: &[(&str, Said)] = &[
-    ("client_alpns", Said::Same(Field::Offer(Offer::Protocols))),
-    ("server_alpns", Said::Chosen),
+static PROTOCOLS: &[(&str, Value)] = &[
+    ("client_alpns", Value::Field(Field::Offer(Offer::Protocols))),
+    ("server_alpns", Value::NextProtocol),
 ];
 
 /// The fields of the object `client`, in order: those of the client's certificates.
-static CLIENT: &[(&str, Said)] = &[
-    ("subject", Said::Own(Side::Originator, OwnField::Subject)),
-    ("issuerdn", Said::Own(Side::Originator, OwnField::Issuer)),
+static CLIENT: &[(&str, Value)] = &[
+    (
+        "subject",
+        Value::OwnField(Side::Originator, OwnField::Subject),
+    ),
+    (
+        "issuerdn",
+        Value::OwnField(Side::Originator, OwnField::Issuer),
+    ),
     (
         "fingerprint",
-        Said::Own(Side::Originator, OwnField::Fingerprint),
+        Value::OwnField(Side::Originator, OwnField::Fingerprint),
     ),
-    ("serial", Said::Own(Side::Originator, OwnField::Serial)),
+    (
+        "serial",
+        Value::OwnField(Side::Originator, OwnField::Serial),
+    ),
     (
         "notbefore",
-        Said::Own(Side::Originator, OwnField::NotBefore),
+        Value::OwnField(Side::Originator, OwnField::NotBefore),
     ),
-    ("notafter", Said::Own(Side::Originator, OwnField::NotAfter)),
-    (CERTIFICATE, Said::Certificate(Side::Originator)),
-    (CHAIN, Said::Chain(Side::Originator)),
+    (
+        "notafter",
+        Value::OwnField(Side::Originator, OwnField::NotAfter),
+    ),
+    (CERTIFICATE, Value::Certificate(Side::Originator)),
+    (CHAIN, Value::Chain(Side::Originator)),
 ];
 
 /// An event: the fields that any event has, and the object `tls`. That contains the object
 /// `client`, if the client sent a certificate.
 #[derive(Drop)]
 struct Event<'a> {
-    front: Row<'static>,
+    common: Row<'static>,
     tls: Row<'a>,
     client: Option<Row<'a>>,
     protocols: Row<'a>,
@@ -123,7 +150,7 @@ impl Described for Event<'_> {}
 impl Serialize for Event<'_> {
     fn serialize<S: Serializer>(&self, out: &mut S) -> Result<(), S::Error> {
         out.begin_map(None)?;
-        self.front.serialize_fields(out)?;
+        self.common.serialize_fields(out)?;
         out.key("tls")?;
         out.begin_map(None)?;
         self.tls.serialize_fields(out)?;
@@ -156,7 +183,7 @@ fn with_colons(alloc: Global, digits: &str) -> Result<String, AllocError> {
 }
 
 /// Returns the places of the separators in a name: of each `,` and `+` that isn't escaped.
-fn places_of_signs(alloc: Global, text: &[u8]) -> Result<Vec<usize>, AllocError> {
+fn separator_places(alloc: Global, text: &[u8]) -> Result<Vec<usize>, AllocError> {
     let mut places = Vec::new(alloc);
     let mut is_escaped = false;
     for (place, byte) in text.iter().enumerate() {
@@ -179,7 +206,7 @@ fn add_ascii(text: &mut String, bytes: Option<&[u8]>) -> Result<(), AllocError> 
 /// Reverses a name: RFC 4514 writes the last set of attributes first, Suricata the first.
 fn forward_name(alloc: Global, text: &[u8]) -> Result<String, AllocError> {
     let mut forward = String::new(alloc);
-    let places = places_of_signs(alloc, text)?;
+    let places = separator_places(alloc, text)?;
     let mut end = text.len();
     for place in places.as_slice().iter().rev() {
         add_ascii(&mut forward, text.get(place.saturating_add(1)..end))?;
@@ -329,25 +356,25 @@ fn own_cell<'a>(
 }
 
 /// Writes a fingerprint and the text that it is the digest of.
-fn print_cell<'a>(
+fn ja3_cell<'a>(
     alloc: Global,
     context: &mut FieldContext<'_>,
-    hash: Print,
-    string: Print,
+    hash: Fingerprint,
+    string: Fingerprint,
 ) -> Result<Option<Cell<'a>>, AllocError> {
-    let hash = cell_of(context, &Field::Print(hash))?;
-    let string = cell_of(context, &Field::Print(string))?;
+    let hash = cell_of(context, &Field::Fingerprint(hash))?;
+    let string = cell_of(context, &Field::Fingerprint(string))?;
     match (hash, string) {
         (Some(Cell::Text(Text::Owned(hash))), Some(Cell::Text(Text::Owned(string)))) => {
-            let print = Box::new(alloc, PrintCell { hash, string })?;
-            Ok(Some(Cell::Print(print)))
+            let fingerprint = Box::new(alloc, PrintCell { hash, string })?;
+            Ok(Some(Cell::Print(fingerprint)))
         }
         _ => Ok(None),
     }
 }
 
 /// Writes the protocol that the server chose, as a list of one.
-fn chosen_cell<'a>(
+fn next_protocol_cell<'a>(
     alloc: Global,
     handshake: &HandshakeSummary,
 ) -> Result<Option<Cell<'a>>, AllocError> {
@@ -359,26 +386,26 @@ fn chosen_cell<'a>(
     Ok(Some(Cell::Texts(Texts::Owned(all))))
 }
 
-/// Writes a field of the object `tls`.
-fn said_cell<'a>(
+/// Writes a field of the object `tls` or `client`.
+fn value_cell<'a>(
     alloc: Global,
     context: &mut FieldContext<'a>,
-    said: &Said,
+    value: &Value,
 ) -> Result<Option<Cell<'a>>, AllocError> {
     let summary = context.summary;
-    match said {
-        Said::Same(field) => cell_of(context, field),
-        Said::Own(side, field) => own_cell(alloc, context, *side, *field),
-        Said::Certificate(side) => {
+    match value {
+        Value::Field(field) => cell_of(context, field),
+        Value::OwnField(side, field) => own_cell(alloc, context, *side, *field),
+        Value::Certificate(side) => {
             Ok(certificate_cell(alloc, own_bytes(summary.handshake, *side)))
         }
-        Said::Chain(side) => Ok(chain_cell(alloc, chain_bytes(summary, *side))),
-        Said::AlternativeNames => listed_cell(context, &NAMES),
-        Said::Version => Ok(version_cell(summary.handshake)),
-        Said::Resumed => Ok(some_mark(summary.is_resumed)),
-        Said::Ja3 => print_cell(alloc, context, Print::Ja3, Print::Ja3Text),
-        Said::Ja3s => print_cell(alloc, context, Print::Ja3s, Print::Ja3sText),
-        Said::Chosen => chosen_cell(alloc, summary.handshake),
+        Value::Chain(side) => Ok(chain_cell(alloc, chain_bytes(summary, *side))),
+        Value::AlternativeNames => joined_list_cell(context, &NAMES),
+        Value::Version => Ok(version_cell(summary.handshake)),
+        Value::Resumed => Ok(some_mark(summary.is_resumed)),
+        Value::Ja3 => ja3_cell(alloc, context, Fingerprint::Ja3, Fingerprint::Ja3Text),
+        Value::Ja3s => ja3_cell(alloc, context, Fingerprint::Ja3s, Fingerprint::Ja3sText),
+        Value::NextProtocol => next_protocol_cell(alloc, summary.handshake),
     }
 }
 
@@ -400,7 +427,7 @@ fn flow_number(summary: &Summary<'_>) -> u64 {
 }
 
 /// Writes the fields that any event has.
-fn front_row(alloc: Global, summary: &Summary<'_>) -> Result<Row<'static>, AllocError> {
+fn common_row(alloc: Global, summary: &Summary<'_>) -> Result<Row<'static>, AllocError> {
     let time = summary.first_time;
     let moment = Moment {
         alloc,
@@ -408,35 +435,35 @@ fn front_row(alloc: Global, summary: &Summary<'_>) -> Result<Row<'static>, Alloc
         time,
     };
     let mut cells = Vec::with_capacity(alloc, 9)?;
-    cells.push(("timestamp", stamp_cell(alloc, time, ZONE)?))?;
+    cells.push(("timestamp", timestamp_cell(alloc, time, ZONE)?))?;
     cells.push(("flow_id", Some(Cell::Number(flow_number(summary)))))?;
     cells.push(("event_type", Some(name_cell("tls"))))?;
-    for (name, end) in FRONT {
-        cells.push((*name, end_cell(moment, end)?))?;
+    for (name, field) in ADDRESSES {
+        cells.push((*name, identity_cell(moment, field)?))?;
     }
     cells.push(("proto", Some(name_cell(proto_name(summary.protocol)))))?;
-    let community_id = end_cell(moment, &End::CommunityId)?;
+    let community_id = identity_cell(moment, &Identity::CommunityId)?;
     cells.push(("community_id", community_id))?;
     Ok(Row { cells })
 }
 
 /// The fields of a connection's addresses and ports.
-static FRONT: &[(&str, End)] = &[
-    ("src_ip", End::Originator),
-    ("src_port", End::OriginatorPort),
-    ("dest_ip", End::Responder),
-    ("dest_port", End::ResponderPort),
+static ADDRESSES: &[(&str, Identity)] = &[
+    ("src_ip", Identity::Originator),
+    ("src_port", Identity::OriginatorPort),
+    ("dest_ip", Identity::Responder),
+    ("dest_port", Identity::ResponderPort),
 ];
 
 /// Writes these fields of the object `tls` or `client`.
 fn tls_row<'a>(
     alloc: Global,
     context: &mut FieldContext<'a>,
-    fields: &'static [(&'static str, Said)],
+    fields: &'static [(&'static str, Value)],
 ) -> Result<Row<'a>, AllocError> {
     let mut cells = Vec::with_capacity(alloc, fields.len())?;
-    for (name, said) in fields {
-        cells.push((*name, said_cell(alloc, context, said)?))?;
+    for (name, value) in fields {
+        cells.push((*name, value_cell(alloc, context, value)?))?;
     }
     Ok(Row { cells })
 }
@@ -478,7 +505,7 @@ pub fn line(context: FieldContext<'_>) -> Result<Vec<u8>, AllocError> {
     let (alloc, summary) = (context.alloc, context.summary);
     let mut context = context;
     let mut event = Event {
-        front: front_row(alloc, summary)?,
+        common: common_row(alloc, summary)?,
         tls: tls_row(alloc, &mut context, TLS)?,
         client: client_row(alloc, &mut context)?,
         protocols: tls_row(alloc, &mut context, PROTOCOLS)?,

@@ -3,7 +3,7 @@
 use connections::End;
 use log_fields::connection::{cell_of, microseconds};
 use log_fields::context::FieldContext;
-use log_fields::fields::{Course, Field, Named, Print};
+use log_fields::fields::{Field, Fingerprint, Lifecycle, Negotiation};
 use log_fields::summary::Summary;
 use log_formats::cell::Cell;
 use log_formats::objects::json_text;
@@ -14,14 +14,14 @@ use x509_text::time_text;
 /// A missing value.
 const UNSET: &str = "-";
 
-/// The truncated part of a value.
-const CUT: &str = "..";
+/// What stands for the truncated part of a value.
+const ELLIPSIS: &str = "..";
 
-/// What a column shows.
+/// The value of a column.
 #[derive(Clone, Copy)]
-enum Shown {
+enum ColumnValue {
     /// A field of the connection's line.
-    Same(Field),
+    Field(Field),
     /// The start time.
     Time,
     /// The originator's address.
@@ -36,48 +36,48 @@ enum Shown {
 
 /// Which end of a truncated value is kept.
 #[derive(Clone, Copy)]
-enum Left {
+enum KeptEnd {
     Front,
     Back,
 }
 
-/// The columns: the name, the width in characters, which end of a truncated value is kept, and what
-/// it shows.
-static COLUMNS: [(&str, usize, Left, Shown); 10] = [
-    ("time (UTC)", 14, Left::Front, Shown::Time),
-    ("client", 15, Left::Back, Shown::Client),
-    ("server", 21, Left::Back, Shown::Server),
+/// The columns: the name, the width in characters, which end of a truncated value is kept, and the
+/// value.
+static COLUMNS: [(&str, usize, KeptEnd, ColumnValue); 10] = [
+    ("time (UTC)", 14, KeptEnd::Front, ColumnValue::Time),
+    ("client", 15, KeptEnd::Back, ColumnValue::Client),
+    ("server", 21, KeptEnd::Back, ColumnValue::Server),
     (
         "host",
         18,
-        Left::Back,
-        Shown::Same(Field::Named(Named::ServerName)),
+        KeptEnd::Back,
+        ColumnValue::Field(Field::Negotiation(Negotiation::ServerName)),
     ),
     (
         "version",
         7,
-        Left::Front,
-        Shown::Same(Field::Named(Named::Version)),
+        KeptEnd::Front,
+        ColumnValue::Field(Field::Negotiation(Negotiation::Version)),
     ),
-    ("suite", 18, Left::Back, Shown::Suite),
+    ("suite", 18, KeptEnd::Back, ColumnValue::Suite),
     (
         "alpn",
         6,
-        Left::Front,
-        Shown::Same(Field::Named(Named::NextProtocol)),
+        KeptEnd::Front,
+        ColumnValue::Field(Field::Negotiation(Negotiation::NextProtocol)),
     ),
     (
         "ja4",
         36,
-        Left::Front,
-        Shown::Same(Field::Print(Print::Ja4)),
+        KeptEnd::Front,
+        ColumnValue::Field(Field::Fingerprint(Fingerprint::Ja4)),
     ),
-    ("secs", 6, Left::Front, Shown::Duration),
+    ("secs", 6, KeptEnd::Front, ColumnValue::Duration),
     (
         "outcome",
         10,
-        Left::Front,
-        Shown::Same(Field::Course(Course::Outcome)),
+        KeptEnd::Front,
+        ColumnValue::Field(Field::Lifecycle(Lifecycle::Outcome)),
     ),
 ];
 
@@ -128,7 +128,10 @@ fn duration_text(alloc: Global, summary: &Summary<'_>) -> Result<String, AllocEr
 
 /// Returns the cipher suite without its `TLS_` prefix.
 fn suite_text(alloc: Global, context: &mut FieldContext<'_>) -> Result<String, AllocError> {
-    let text = cell_text(alloc, cell_of(context, &Field::Named(Named::Cipher))?)?;
+    let text = cell_text(
+        alloc,
+        cell_of(context, &Field::Negotiation(Negotiation::Cipher))?,
+    )?;
     match text.as_str().strip_prefix("TLS_") {
         Some(name) => String::from_str(alloc, name),
         None => Ok(text),
@@ -136,33 +139,33 @@ fn suite_text(alloc: Global, context: &mut FieldContext<'_>) -> Result<String, A
 }
 
 /// Returns the text of a column for a connection.
-fn shown_text(
+fn column_text(
     alloc: Global,
     context: &mut FieldContext<'_>,
-    shown: Shown,
+    value: ColumnValue,
 ) -> Result<String, AllocError> {
     let summary = context.summary;
-    match shown {
-        Shown::Same(field) => cell_text(alloc, cell_of(context, &field)?),
-        Shown::Time => time_of(alloc, summary),
-        Shown::Client => format!(in alloc; "{}", summary.originator.end.address),
-        Shown::Server => end_text(alloc, summary.responder.end),
-        Shown::Suite => suite_text(alloc, context),
-        Shown::Duration => duration_text(alloc, summary),
+    match value {
+        ColumnValue::Field(field) => cell_text(alloc, cell_of(context, &field)?),
+        ColumnValue::Time => time_of(alloc, summary),
+        ColumnValue::Client => format!(in alloc; "{}", summary.originator.end.address),
+        ColumnValue::Server => end_text(alloc, summary.responder.end),
+        ColumnValue::Suite => suite_text(alloc, context),
+        ColumnValue::Duration => duration_text(alloc, summary),
     }
 }
 
 /// Escapes each byte that isn't printable ASCII, so that no text contains a terminal's control
 /// sequences.
 fn printable(alloc: Global, text: &str) -> Result<String, AllocError> {
-    let mut shown = String::new(alloc);
+    let mut escaped = String::new(alloc);
     for byte in text.as_bytes() {
         match *byte {
-            b' '..=b'~' => shown.push(char::from(*byte))?,
-            other => shown.push_str(format!(in alloc; "\\x{other:02x}")?.as_str())?,
+            b' '..=b'~' => escaped.push(char::from(*byte))?,
+            other => escaped.push_str(format!(in alloc; "\\x{other:02x}")?.as_str())?,
         }
     }
-    Ok(shown)
+    Ok(escaped)
 }
 
 /// Appends these bytes, which are printable ASCII.
@@ -173,21 +176,26 @@ fn add_bytes(line: &mut String, bytes: &[u8]) -> Result<(), AllocError> {
     Ok(())
 }
 
-/// Appends a text of printable ASCII, truncated to `width` characters. `left` is the end that is
-/// kept.
-fn add_cut(line: &mut String, text: &[u8], width: usize, left: Left) -> Result<(), AllocError> {
-    let room = width.saturating_sub(CUT.len());
+/// Appends a text of printable ASCII. If it has more than `width` characters, an ellipsis replaces
+/// the end that isn't kept.
+fn add_truncated(
+    line: &mut String,
+    text: &[u8],
+    width: usize,
+    end: KeptEnd,
+) -> Result<(), AllocError> {
+    let room = width.saturating_sub(ELLIPSIS.len());
     if text.len() <= width {
         return add_bytes(line, text);
     }
-    match left {
-        Left::Front => {
+    match end {
+        KeptEnd::Front => {
             add_bytes(line, text.get(..room).unwrap_or(&[]))?;
-            line.push_str(CUT)
+            line.push_str(ELLIPSIS)
         }
-        Left::Back => {
+        KeptEnd::Back => {
             let begin = text.len().saturating_sub(room);
-            line.push_str(CUT)?;
+            line.push_str(ELLIPSIS)?;
             add_bytes(line, text.get(begin..).unwrap_or(&[]))
         }
     }
@@ -199,13 +207,13 @@ fn add_column(
     line: &mut String,
     text: &str,
     width: usize,
-    left: Left,
+    end: KeptEnd,
 ) -> Result<(), AllocError> {
     let text = printable(alloc, text)?;
     if !line.is_empty() {
         line.push(' ')?;
     }
-    add_cut(line, text.as_bytes(), width, left)?;
+    add_truncated(line, text.as_bytes(), width, end)?;
     for _ in text.len()..width {
         line.push(' ')?;
     }
@@ -227,8 +235,8 @@ fn without_end(line: String) -> Vec<u8> {
 /// Returns the line of column names, without a line break.
 pub fn header(alloc: Global) -> Result<Vec<u8>, AllocError> {
     let mut line = String::new(alloc);
-    for (name, width, left, _shown) in &COLUMNS {
-        add_column(alloc, &mut line, name, *width, *left)?;
+    for (name, width, end, _value) in &COLUMNS {
+        add_column(alloc, &mut line, name, *width, *end)?;
     }
     Ok(without_end(line))
 }
@@ -238,9 +246,9 @@ pub fn line(context: FieldContext<'_>) -> Result<Vec<u8>, AllocError> {
     let alloc = context.alloc;
     let mut context = context;
     let mut line = String::new(alloc);
-    for (_name, width, left, shown) in &COLUMNS {
-        let text = shown_text(alloc, &mut context, *shown)?;
-        add_column(alloc, &mut line, text.as_str(), *width, *left)?;
+    for (_name, width, end, value) in &COLUMNS {
+        let text = column_text(alloc, &mut context, *value)?;
+        add_column(alloc, &mut line, text.as_str(), *width, *end)?;
     }
     Ok(without_end(line))
 }

@@ -11,7 +11,7 @@ use std::fmt::{self, Display, Formatter};
 pub enum ConfigurationError<'a> {
     /// The value of an option is wrong.
     Option(OptionError<'a>),
-    /// Options don't go together, or a field is unknown.
+    /// Options can't be combined, or a field is unknown.
     Style(StyleError<'a>),
 }
 

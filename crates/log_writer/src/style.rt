@@ -1,14 +1,14 @@
 //! The style of lines that the options choose.
 use crate::configuration_error::ConfigurationError;
 use clap::ArgMatches;
-use log_lines::{DEFAULT_FORMAT, Format, LineKind, Style, StyleError};
+use log_lines::{DEFAULT_FORMAT, LineFormat, LineKind, Style, StyleError};
 use log_options::{formulas_of, suites_of};
 use std::rt::Runtime;
 
 /// Returns the format of lines, by `--format`.
-fn format_of(matches: &ArgMatches<'_>) -> Format {
+fn format_of(matches: &ArgMatches<'_>) -> LineFormat {
     let name = matches.get_str("format").unwrap_or(DEFAULT_FORMAT.name());
-    Format::named(name).unwrap_or(DEFAULT_FORMAT)
+    LineFormat::from_name(name).unwrap_or(DEFAULT_FORMAT)
 }
 
 /// Returns what is logged, by `--messages` and `--certificates`.

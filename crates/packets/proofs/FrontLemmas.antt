@@ -11,9 +11,9 @@ use Rattle.layouts.specs.Reading.{reading}
 use Rattle.layouts.proofs.StableLemmas.{Stays, stays}
 use Rattle.capture.specs.Pcap as pcap
 use Rattle.capture.specs.Pcapng.{Block, SECTION, next_block}
-use Rattle.packets.specs.Section.{Section, Heard, beginning, hear}
-use Rattle.packets.specs.Front.{Longer, State, Unknown, Pcap, Blocks, Captured, Other, Wait, Said, header_front}
-use Rattle.packets.specs.Front.{form_front, pcap_front, heard_front, block_front, front}
+use Rattle.packets.specs.Section.{Section, BlockResult, beginning, block_result}
+use Rattle.packets.specs.Front.{Longer, State, Unknown, Pcap, Blocks, Captured, Other, Wait, FrontResult, header_front}
+use Rattle.packets.specs.Front.{form_front, pcap_front, front_of_result, block_front, front}
 use Rattle.packets.proofs.LayoutLemmas.{LeavesEnd, LeavesLess, leaves, next_block_leaves, header_stable, packet_stable}
 use Rattle.packets.proofs.LayoutLemmas.{next_block_stays, header_less, packet_less, next_block_less}
 
@@ -44,16 +44,17 @@ pcap_longer format link x (Ok v) b e = ap (pcap_front format link) e
 pcap_longer format link x (Err (Broken k)) b e = ap (pcap_front format link) e
 pcap_longer format link x (Err (Lacks n)) b e = tt
 
-heard_longer : (r x : Bytes) (h : Heard) → Longer x (heard_front r h) (heard_front (r ++ x) h)
-heard_longer r x (Ok (Some p, s)) = refl
-heard_longer r x (Ok (None, s)) = refl
-heard_longer r x (Err e) = refl
+result_longer : (r x : Bytes) (h : BlockResult)
+    → Longer x (front_of_result r h) (front_of_result (r ++ x) h)
+result_longer r x (Ok (Some p, s)) = refl
+result_longer r x (Ok (None, s)) = refl
+result_longer r x (Err e) = refl
 
 block_longer : (s : Section) (x : Bytes) (a b : Answer Block) → Stays x a b
     → Longer x (block_front s a) (block_front s b)
 block_longer s x (Ok v) b e =
     subst (λ z. Longer x (block_front s (Ok v)) (block_front s z)) (sym e)
-    (heard_longer v.1 x (hear s v.0))
+    (result_longer v.1 x (block_result s v.0))
 block_longer s x (Err (Broken k)) b e = ap (block_front s) e
 block_longer s x (Err (Lacks n)) b e = tt
 
@@ -75,7 +76,7 @@ steps (Pcap format link) b = length b
 steps (Blocks s) b = length b
 
 -- An item leaves fewer steps behind it.
-abbrev pub Takes : ℕ → Said → Type 0
+abbrev pub Takes : ℕ → FrontResult → Type 0
 Takes n (Ok (Captured p r, s)) = steps s r < n
 Takes n (Ok (Other r, s)) = steps s r < n
 Takes n (Ok (Wait, s)) = ⊤
@@ -102,14 +103,14 @@ pcap_takes format link b (Ok v) short = short
 pcap_takes format link b (Err (Broken k)) short = tt
 pcap_takes format link b (Err (Lacks n)) short = tt
 
-heard_takes : (n : ℕ) (r : Bytes) (h : Heard) → length r < n → Takes n (heard_front r h)
-heard_takes n r (Ok (Some p, s)) short = short
-heard_takes n r (Ok (None, s)) short = short
-heard_takes n r (Err e) short = tt
+result_takes : (n : ℕ) (r : Bytes) (h : BlockResult) → length r < n → Takes n (front_of_result r h)
+result_takes n r (Ok (Some p, s)) short = short
+result_takes n r (Ok (None, s)) short = short
+result_takes n r (Err e) short = tt
 
 block_takes : (s : Section) (b : Bytes) (a : Answer Block) → LeavesLess b a
     → Takes (length b) (block_front s a)
-block_takes s b (Ok v) short = heard_takes (length b) v.1 (hear s v.0) short
+block_takes s b (Ok v) short = result_takes (length b) v.1 (block_result s v.0) short
 block_takes s b (Err (Broken k)) short = tt
 block_takes s b (Err (Lacks n)) short = tt
 
@@ -121,7 +122,7 @@ front_takes (Blocks s) b =
     block_takes s b (reading (next_block s.order) b) (next_block_less s.order b)
 
 -- With too few bytes the state doesn't change.
-abbrev pub Waits : State → Said → Type 0
+abbrev pub Waits : State → FrontResult → Type 0
 Waits s (Ok (Wait, t)) = t ≡ s
 Waits s y = ⊤
 
@@ -145,13 +146,13 @@ pcap_waits format link (Ok v) = tt
 pcap_waits format link (Err (Broken k)) = tt
 pcap_waits format link (Err (Lacks n)) = refl
 
-heard_waits : (s : State) (r : Bytes) (h : Heard) → Waits s (heard_front r h)
-heard_waits s r (Ok (Some p, t)) = tt
-heard_waits s r (Ok (None, t)) = tt
-heard_waits s r (Err e) = tt
+result_waits : (s : State) (r : Bytes) (h : BlockResult) → Waits s (front_of_result r h)
+result_waits s r (Ok (Some p, t)) = tt
+result_waits s r (Ok (None, t)) = tt
+result_waits s r (Err e) = tt
 
 block_waits : (s : Section) (a : Answer Block) → Waits (Blocks s) (block_front s a)
-block_waits s (Ok v) = heard_waits (Blocks s) v.1 (hear s v.0)
+block_waits s (Ok v) = result_waits (Blocks s) v.1 (block_result s v.0)
 block_waits s (Err (Broken k)) = tt
 block_waits s (Err (Lacks n)) = refl
 
@@ -161,45 +162,45 @@ front_waits (Pcap format link) b = pcap_waits format link (reading (pcap.packet 
 front_waits (Blocks s) b = block_waits s (reading (next_block s.order) b)
 
 -- The bytes behind the item are an end of all bytes.
-abbrev pub FiveTuple : Bytes → Said → Type 0
-FiveTuple b (Ok (Captured p r, s)) = EndsWith b r
-FiveTuple b (Ok (Other r, s)) = EndsWith b r
-FiveTuple b (Ok (Wait, s)) = ⊤
-FiveTuple b (Err e) = ⊤
+abbrev pub RestIsAnEnd : Bytes → FrontResult → Type 0
+RestIsAnEnd b (Ok (Captured p r, s)) = EndsWith b r
+RestIsAnEnd b (Ok (Other r, s)) = EndsWith b r
+RestIsAnEnd b (Ok (Wait, s)) = ⊤
+RestIsAnEnd b (Err e) = ⊤
 
-header_ends : (b : Bytes) (a : Answer pcap.Header) → LeavesEnd b a → FiveTuple b (header_front a)
+header_ends : (b : Bytes) (a : Answer pcap.Header) → LeavesEnd b a → RestIsAnEnd b (header_front a)
 header_ends b (Ok v) end = end
 header_ends b (Err (Broken k)) end = tt
 header_ends b (Err (Lacks n)) end = tt
 
-form_ends_picked : (t : Bool) (b : Bytes) → FiveTuple b
+form_ends_picked : (t : Bool) (b : Bytes) → RestIsAnEnd b
     (cond t (Ok (Other b, Blocks beginning)) (header_front (reading pcap.header b)))
 form_ends_picked true b = ([], refl)
 form_ends_picked false b =
     header_ends b (reading pcap.header b) (leaves pcap.header header_stable b)
 
-form_ends : (b : Bytes) (a : Answer ℕ) → FiveTuple b (form_front a b)
+form_ends : (b : Bytes) (a : Answer ℕ) → RestIsAnEnd b (form_front a b)
 form_ends b (Ok v) = form_ends_picked (v.0 == SECTION) b
 form_ends b (Err k) = tt
 
 pcap_ends : (format : pcap.Format) (link : ℕ) (b : Bytes) (a : Answer pcap.Packet) → LeavesEnd b a
-    → FiveTuple b (pcap_front format link a)
+    → RestIsAnEnd b (pcap_front format link a)
 pcap_ends format link b (Ok v) end = end
 pcap_ends format link b (Err (Broken k)) end = tt
 pcap_ends format link b (Err (Lacks n)) end = tt
 
-heard_ends : (b r : Bytes) (h : Heard) → EndsWith b r → FiveTuple b (heard_front r h)
-heard_ends b r (Ok (Some p, s)) end = end
-heard_ends b r (Ok (None, s)) end = end
-heard_ends b r (Err e) end = tt
+result_ends : (b r : Bytes) (h : BlockResult) → EndsWith b r → RestIsAnEnd b (front_of_result r h)
+result_ends b r (Ok (Some p, s)) end = end
+result_ends b r (Ok (None, s)) end = end
+result_ends b r (Err e) end = tt
 
 block_ends : (s : Section) (b : Bytes) (a : Answer Block) → LeavesEnd b a
-    → FiveTuple b (block_front s a)
-block_ends s b (Ok v) end = heard_ends b v.1 (hear s v.0) end
+    → RestIsAnEnd b (block_front s a)
+block_ends s b (Ok v) end = result_ends b v.1 (block_result s v.0) end
 block_ends s b (Err (Broken k)) end = tt
 block_ends s b (Err (Lacks n)) end = tt
 
-pub front_ends : (s : State) (b : Bytes) → FiveTuple b (front s b)
+pub front_ends : (s : State) (b : Bytes) → RestIsAnEnd b (front s b)
 front_ends Unknown b = form_ends b (reading (number 4) b)
 front_ends (Pcap format link) b =
     pcap_ends format link b (reading (pcap.packet format) b)

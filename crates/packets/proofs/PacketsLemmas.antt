@@ -2,11 +2,11 @@
 use Rattle.std.proofs.Common.{◌≡◌, ℕ, zero, suc, ◌<◌, ◌≤◌, [], ◌∷◌, ◌++◌, length, Ok, Err, refl, ◌∙◌, ap, arith}
 use Rattle.std.specs.Prelude.{⊤}
 use Rattle.layouts.specs.Bytes.{Bytes}
-use Rattle.packets.specs.Front.{Longer, State, Unknown, Pcap, Blocks, Captured, Other, Wait, Said, front}
+use Rattle.packets.specs.Front.{Longer, State, Unknown, Pcap, Blocks, Captured, Other, Wait, FrontResult, front}
 use Rattle.packets.specs.Packets.{Packets, Refused, followed, packets_in, packets_from}
 use Rattle.packets.proofs.FrontLemmas.{Takes, steps, front_longer, front_takes}
 
-followed_same : (a : Said) (b : Bytes) (n : ℕ) (f g : State → Bytes → Packets) → Takes n a
+followed_same : (a : FrontResult) (b : Bytes) (n : ℕ) (f g : State → Bytes → Packets) → Takes n a
     → ((s : State) (r : Bytes) → steps s r < n → f s r ≡ g s r) → followed a b f ≡ followed a b g
 followed_same (Ok (Captured p r, s)) b n f g less same = ap (λ x. (p ∷ x.0, x.1)) (same s r less)
 followed_same (Ok (Other r, s)) b n f g less same = same s r less
@@ -39,20 +39,21 @@ one_step s b =
     (omega (arith, few_steps t r)))
 
 -- The packets of all bytes, by the item at the front of the first of them.
-abbrev pub Stands : Bytes → Packets → Said → Type 0
+abbrev pub Stands : Bytes → Packets → FrontResult → Type 0
 Stands x all (Ok (Captured p r, s)) =
     all ≡ (p ∷ (packets_from s (r ++ x)).0, (packets_from s (r ++ x)).1)
 Stands x all (Ok (Other r, s)) = all ≡ packets_from s (r ++ x)
 Stands x all (Ok (Wait, s)) = ⊤
 Stands x all (Err e) = all ≡ ([], Refused e)
 
-stands_by : (x b : Bytes) (a y : Said) → Longer x a y → Stands x (followed y b packets_from) a
+stands_by : (x b : Bytes) (a y : FrontResult) → Longer x a y
+    → Stands x (followed y b packets_from) a
 stands_by x b (Ok (Captured p r, s)) y e = ap (λ z. followed z b packets_from) e
 stands_by x b (Ok (Other r, s)) y e = ap (λ z. followed z b packets_from) e
 stands_by x b (Ok (Wait, s)) y e = tt
 stands_by x b (Err k) y e = ap (λ z. followed z b packets_from) e
 
-stands_same : (x : Bytes) (all all' : Packets) (a : Said) → all ≡ all' → Stands x all' a
+stands_same : (x : Bytes) (all all' : Packets) (a : FrontResult) → all ≡ all' → Stands x all' a
     → Stands x all a
 stands_same x all all' (Ok (Captured p r, s)) e h = e ∙ h
 stands_same x all all' (Ok (Other r, s)) e h = e ∙ h

@@ -6,7 +6,7 @@ use Rattle.std.specs.Io.KnownBytes.{Consumes, IsAtEnd}
 use Rattle.std.proofs.lemmas.List.{append-nil}
 use Rattle.layouts.specs.Bytes.{Bytes}
 use Rattle.packets.specs.Section.{Packet}
-use Rattle.packets.specs.Front.{State, Unknown, Captured, Other, Wait, Said, front}
+use Rattle.packets.specs.Front.{State, Unknown, Captured, Other, Wait, FrontResult, front}
 use Rattle.packets.specs.Held.{Came}
 use Rattle.packets.specs.Packets.{End, Packets, Whole, BrokenOff, Refused, end_of, followed, packets_from, packets_of}
 use Rattle.packets.specs.Visit.{Adds, AddsAll, AddsFront, Failed, IsCause, IsEnd, Went}
@@ -14,7 +14,7 @@ use Rattle.packets.specs.declared.reader.CaptureError.{CaptureError}
 use Rattle.packets.specs.declared.reader.CaptureError.TheVariants as error
 use Rattle.packets.specs.declared.visit.VisitError.{VisitError}
 use Rattle.packets.specs.declared.visit.VisitError.TheVariants as visit
-use Rattle.packets.proofs.FrontLemmas.{FiveTuple, Waits, front_ends, front_waits, last_bytes}
+use Rattle.packets.proofs.FrontLemmas.{RestIsAnEnd, Waits, front_ends, front_waits, last_bytes}
 use Rattle.packets.proofs.PacketsLemmas.{Stands, stands, one_step}
 
 pub adds_none : (old : Option (List Packet)) → Adds old old []
@@ -75,8 +75,8 @@ split_same : (all p q : Packets) (some : List Packet) → Splits all some p → 
 split_same all p q some h e = subst (Splits all some) e h
 
 -- a packet was visited, or another item was skipped
-went_by : (a : Said) (old mid new : Option (List Packet)) (known left : Option Bytes) (s s' : State)
-    (b b' : Bytes) → ((ys : Bytes) → Stands ys (packets_from s (b ++ ys)) a)
+went_by : (a : FrontResult) (old mid new : Option (List Packet)) (known left : Option Bytes)
+    (s s' : State) (b b' : Bytes) → ((ys : Bytes) → Stands ys (packets_from s (b ++ ys)) a)
     → IsOn old mid known left s b
     → Went a mid new s s' b b' true → IsOn old new known left s' b'
 went_by (Ok (Captured p r, t)) old mid new known left s s' b b' by on (adds, is, holds) = record {
@@ -115,7 +115,7 @@ on_went old mid new known left s s' b b' on goes =
     goes
 
 -- More bytes are needed.
-abbrev pub Wants : Said → Type 0
+abbrev pub Wants : FrontResult → Type 0
 Wants (Ok (Wait, t)) = ⊤
 Wants a = ⊥
 
@@ -126,7 +126,7 @@ pub record HasWaited (old new : Option (List Packet)) (s s' : State) (b b' : Byt
   pub held : b' ≡ b
   pub wants : Wants (front s b)
 
-waited_by : (a : Said) (old new : Option (List Packet)) (s s' : State) (b b' : Bytes)
+waited_by : (a : FrontResult) (old new : Option (List Packet)) (s s' : State) (b b' : Bytes)
     → front s b ≡ a
     → Went a old new s s' b b' false → HasWaited old new s s' b b'
 waited_by (Ok (Wait, t)) old new s s' b b' e (adds, is, holds) =
@@ -233,7 +233,7 @@ failed E old mid new known left s b visit.BrokenOff on h = absurd h
 failed E old mid new known left s b (visit.Reading k) on h = absurd h
 failed E old mid new known left s b visit.Endless on h = absurd h
 
-by_wait : (s : State) (b : Bytes) (a : Said) → Wants a → Waits s a
+by_wait : (s : State) (b : Bytes) (a : FrontResult) → Wants a → Waits s a
     → followed a b packets_from ≡ ([], end_of s b)
 by_wait s b (Ok (Wait, t)) wants e = ap (λ u. ([], end_of u b)) e
 by_wait s b (Ok (Captured p r, t)) wants e = absurd wants
@@ -325,14 +325,14 @@ read_cause E old now known left (Refused k) (Err visit.Endless) over is = absurd
 read_cause E old now known left (Refused k) (Err (visit.Visitor e)) over is = absurd is
 
 -- The item at the front is taken off, and the bytes behind it are left.
-taken_by : (a : Said) (old new : Option (List Packet)) (s : State) (b : Bytes) (p : Packet)
+taken_by : (a : FrontResult) (old new : Option (List Packet)) (s : State) (b : Bytes) (p : Packet)
     (r : Bytes) (t : State)
-    (b' : Bytes) → FiveTuple b a → a ≡ Ok (Captured p r, t) → Adds old new (p ∷ [])
+    (b' : Bytes) → RestIsAnEnd b a → a ≡ Ok (Captured p r, t) → Adds old new (p ∷ [])
     → b' ≡ drop (length b - length r) b
     → Went a old new s t b b' true
 taken_by a old new s b p r t b' ends e adds is =
     subst (λ z. Went z old new s t b b' true) (sym e)
-    (adds, refl, is ∙ last_bytes b r (subst (FiveTuple b) e ends))
+    (adds, refl, is ∙ last_bytes b r (subst (RestIsAnEnd b) e ends))
 
 pub packet_taken : (old new : Option (List Packet)) (s : State) (b : Bytes) (p : Packet) (r : Bytes)
     (t : State)
@@ -347,7 +347,7 @@ pub other_taken : (old : Option (List Packet)) (s : State) (b r : Bytes) (t : St
     → Went (front s b) old old s t b b' true
 other_taken old s b r t b' e is =
     subst (λ z. Went z old old s t b b' true) (sym e)
-    (adds_none old, refl, is ∙ last_bytes b r (subst (FiveTuple b) e (front_ends s b)))
+    (adds_none old, refl, is ∙ last_bytes b r (subst (RestIsAnEnd b) e (front_ends s b)))
 
 -- a step of the visit that took an item
 pub on_if_went : (old mid new : Option (List Packet)) (known left : Option Bytes) (s s' : State)

@@ -7,12 +7,12 @@ use Rattle.layouts.specs.Meaning.{Answer, Lacks, Broken}
 use Rattle.layouts.specs.Reading.{reading}
 use Rattle.capture.specs.Pcap as pcap
 use Rattle.capture.specs.Pcapng.{Block, SECTION, next_block}
-use Rattle.packets.specs.Section.{Packet, Section, Heard, view_packet, view_section, beginning, hear}
+use Rattle.packets.specs.Section.{Packet, Section, BlockResult, view_packet, view_section, beginning, block_result}
 use Rattle.packets.specs.declared.reader.Form as stored
 use Rattle.packets.specs.declared.reader.Packet as lent
 use Rattle.packets.specs.declared.reader.Form.TheVariants as form
-use Rattle.packets.specs.declared.reader.Step as rust
-use Rattle.packets.specs.declared.reader.Step.TheVariants as step
+use Rattle.packets.specs.declared.reader.CaptureStep as rust
+use Rattle.packets.specs.declared.reader.CaptureStep.TheVariants as step
 use Rattle.packets.specs.declared.reader.CaptureError.{CaptureError}
 use Rattle.packets.specs.declared.reader.CaptureError.TheVariants as error
 
@@ -33,30 +33,30 @@ pub data Front : Type 0 where
   Other : Bytes → Front
   Wait : Front
 
-abbrev pub view_step : rust.Step → Front
+abbrev pub view_step : rust.CaptureStep → Front
 view_step (step.Packet p rest) = Captured (view_packet p) rest.now
 view_step (step.Other rest) = Other rest.now
 view_step step.Wait = Wait
 
 -- The item at the front, and the state behind it; or an error.
-abbrev pub Said : Type 0
-Said = Result (Front × State) CaptureError
+abbrev pub FrontResult : Type 0
+FrontResult = Result (Front × State) CaptureError
 
 -- The header of a pcap file.
-abbrev pub header_front : Answer pcap.Header → Said
+abbrev pub header_front : Answer pcap.Header → FrontResult
 header_front (Ok x) = Ok (Other x.1, Pcap x.0.format x.0.link_type)
 header_front (Err (Lacks n)) = Ok (Wait, Unknown)
 header_front (Err (Broken kind)) = Err error.NoCapture
 
 -- A pcapng file begins with the type of a Section Header Block, which is left for the section's
 -- parser. Any other capture begins with a pcap header.
-abbrev pub form_front : Answer ℕ → Bytes → Said
+abbrev pub form_front : Answer ℕ → Bytes → FrontResult
 form_front (Err e) b = Ok (Wait, Unknown)
 form_front (Ok x) b = if x.0 == SECTION then
     Ok (Other b, Blocks beginning) else header_front (reading pcap.header b)
 
 -- A packet of a pcap file.
-abbrev pub pcap_front : pcap.Format → ℕ → Answer pcap.Packet → Said
+abbrev pub pcap_front : pcap.Format → ℕ → Answer pcap.Packet → FrontResult
 pcap_front format link (Ok x) = Ok (
   Captured (record {
     time = x.0.time;
@@ -70,26 +70,26 @@ pcap_front format link (Err (Lacks n)) = Ok (Wait, Pcap format link)
 pcap_front format link (Err (Broken kind)) = Err error.Broken
 
 -- A block's result, and the bytes behind it.
-abbrev pub heard_front : Bytes → Heard → Said
-heard_front rest (Ok (Some p, s)) = Ok (Captured p rest, Blocks s)
-heard_front rest (Ok (None, s)) = Ok (Other rest, Blocks s)
-heard_front rest (Err e) = Err e
+abbrev pub front_of_result : Bytes → BlockResult → FrontResult
+front_of_result rest (Ok (Some p, s)) = Ok (Captured p rest, Blocks s)
+front_of_result rest (Ok (None, s)) = Ok (Other rest, Blocks s)
+front_of_result rest (Err e) = Err e
 
 -- A block of a section.
-abbrev pub block_front : Section → Answer Block → Said
-block_front s (Ok x) = heard_front x.1 (hear s x.0)
+abbrev pub block_front : Section → Answer Block → FrontResult
+block_front s (Ok x) = front_of_result x.1 (block_result s x.0)
 block_front s (Err (Lacks n)) = Ok (Wait, Blocks s)
 block_front s (Err (Broken kind)) = Err error.Broken
 
 -- The item at the front of these bytes, by the state behind the bytes before them.
-abbrev pub front : State → Bytes → Said
+abbrev pub front : State → Bytes → FrontResult
 front Unknown b = form_front (reading (number 4) b) b
 front (Pcap format link) b = pcap_front format link (reading (pcap.packet format) b)
 front (Blocks s) b = block_front s (reading (next_block s.order) b)
 
 -- When x follows the bytes, the item at their front is the same, and the bytes behind it end with
 -- x. Too few bytes may become enough.
-abbrev pub Longer : Bytes → Said → Said → Type 0
+abbrev pub Longer : Bytes → FrontResult → FrontResult → Type 0
 Longer x (Ok (Captured p r, s)) y = y ≡ Ok (Captured p (r ++ x), s)
 Longer x (Ok (Other r, s)) y = y ≡ Ok (Other (r ++ x), s)
 Longer x (Ok (Wait, s)) y = ⊤
@@ -98,16 +98,17 @@ Longer x (Err e) y = y ≡ Err e
 -- A call returns what a definition gives, or runs out of memory. An error changes nothing.
 abbrev pub Answers : {X Y S : Type 0} → (X → Y) → Result (Y × S) CaptureError → S
     → Result X CaptureError → S → Type 0
-Answers view said old (Ok x) new = said ≡ Ok (view x, new)
-Answers view said old (Err error.OutOfMemory) new = new ≡ old
-Answers view said old (Err e) new = (said ≡ Err e) × (new ≡ old)
+Answers view expected old (Ok x) new = expected ≡ Ok (view x, new)
+Answers view expected old (Err error.OutOfMemory) new = new ≡ old
+Answers view expected old (Err e) new = (expected ≡ Err e) × (new ≡ old)
 
 -- A call that returns a packet of a section, or an error that changes nothing.
-abbrev pub AnswersPacket : Heard → Section → Result lent.Packet CaptureError → Section → Type 0
-AnswersPacket said old r new = Answers (λ p. Some (view_packet p)) said old r new
+abbrev pub AnswersPacket : BlockResult → Section → Result lent.Packet CaptureError → Section
+    → Type 0
+AnswersPacket expected old r new = Answers (λ p. Some (view_packet p)) expected old r new
 
 -- The recognized format and the bytes behind it; none if bytes are missing.
-abbrev pub IsForm : Said → Result (Option (stored.Form × Bor (List ℕ))) CaptureError → Type 0
-IsForm said (Ok (Some x)) = said ≡ Ok (Other x.1.now, view_form x.0)
-IsForm said (Ok None) = said ≡ Ok (Wait, Unknown)
-IsForm said (Err e) = said ≡ Err e
+abbrev pub IsForm : FrontResult → Result (Option (stored.Form × Bor (List ℕ))) CaptureError → Type 0
+IsForm expected (Ok (Some x)) = expected ≡ Ok (Other x.1.now, view_form x.0)
+IsForm expected (Ok None) = expected ≡ Ok (Wait, Unknown)
+IsForm expected (Err e) = expected ≡ Err e

@@ -2,7 +2,7 @@
 use Rattle.std.specs.Prelude.{ℕ, zero, suc, List, [], ◌∷◌, length, Ok, Err}
 use Rattle.layouts.specs.Bytes.{Bytes}
 use Rattle.packets.specs.Section.{Packet}
-use Rattle.packets.specs.Front.{State, Unknown, Captured, Other, Wait, Said, front}
+use Rattle.packets.specs.Front.{State, Unknown, Captured, Other, Wait, FrontResult, front}
 use Rattle.packets.specs.declared.reader.CaptureError.{CaptureError}
 use Rattle.packets.specs.declared.reader.CaptureError.TheVariants as error
 
@@ -23,7 +23,7 @@ end_of s [] = Whole
 end_of s (b ∷ bs) = BrokenOff
 
 -- The item at the front of these bytes, and then what `more` finds behind it.
-abbrev pub followed : Said → Bytes → (State → Bytes → Packets) → Packets
+abbrev pub followed : FrontResult → Bytes → (State → Bytes → Packets) → Packets
 followed (Ok (Captured p rest, s)) b more = (p ∷ (more s rest).0, (more s rest).1)
 followed (Ok (Other rest, s)) b more = more s rest
 followed (Ok (Wait, s)) b more = ([], end_of s b)

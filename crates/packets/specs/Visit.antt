@@ -3,7 +3,7 @@ use Rattle.std.specs.Prelude.{◌≡◌, List, [], ◌∷◌, ◌++◌, Option, 
 use Rattle.std.specs.Io.KnownBytes.{IsAtEnd}
 use Rattle.layouts.specs.Bytes.{Bytes}
 use Rattle.packets.specs.Section.{Packet}
-use Rattle.packets.specs.Front.{State, Said, Captured, Other, Wait}
+use Rattle.packets.specs.Front.{State, FrontResult, Captured, Other, Wait}
 use Rattle.packets.specs.Packets.{End, Packets, Whole, BrokenOff, Refused}
 use Rattle.packets.specs.declared.reader.CaptureError.TheVariants as error
 use Rattle.packets.specs.declared.visit.FrontError.{FrontError}
@@ -25,28 +25,27 @@ Visits old new (Err e) p = Adds old new []
 
 -- The item at the front was visited and taken off the bytes: true. It isn't all there and nothing
 -- changed: false.
-abbrev pub Went : Said → Option (List Packet) → Option (List Packet) → State → State → Bytes → Bytes
-    → Bool → Type 0
+abbrev pub Went : FrontResult → Option (List Packet) → Option (List Packet) → State → State → Bytes
+    → Bytes → Bool → Type 0
 Went (Ok (Captured p rest, s)) old new t t' b b' true =
     Adds old new (p ∷ []) × (t' ≡ s) × (b' ≡ rest)
 Went (Ok (Other rest, s)) old new t t' b b' true = Adds old new [] × (t' ≡ s) × (b' ≡ rest)
 Went (Ok (Wait, s)) old new t t' b b' false = Adds old new [] × (t' ≡ t) × (b' ≡ b)
-Went said old new t t' b b' went = ⊥
+Went expected old new t t' b b' went = ⊥
 
 -- The item at the front could not be visited: it breaks a rule, memory ran out, or the visitor
 -- refused it.
-abbrev pub Failed : {E : Type 0} → Said → Option (List Packet) → Option (List Packet)
+abbrev pub Failed : {E : Type 0} → FrontResult → Option (List Packet) → Option (List Packet)
     → VisitError E → Type 0
-Failed said old new (visit.Capture error.OutOfMemory) = Adds old new []
-Failed said old new (visit.Capture e) = Adds old new [] × (said ≡ Err e)
-Failed said old new (visit.Visitor e) = Adds old new []
-Failed said old new e = ⊥
+Failed expected old new (visit.Capture error.OutOfMemory) = Adds old new []
+Failed expected old new (visit.Capture e) = Adds old new [] × (expected ≡ Err e)
+Failed expected old new (visit.Visitor e) = Adds old new []
+Failed expected old new e = ⊥
 
-abbrev pub Goes : {E : Type 0} → Said → Option (List Packet) → Option (List Packet) → State → State
-    → Bytes → Bytes
-    → Result Bool (VisitError E) → Type 0
-Goes said old new t t' b b' (Ok went) = Went said old new t t' b b' went
-Goes said old new t t' b b' (Err e) = Failed said old new e
+abbrev pub Goes : {E : Type 0} → FrontResult → Option (List Packet) → Option (List Packet) → State
+    → State → Bytes → Bytes → Result Bool (VisitError E) → Type 0
+Goes expected old new t t' b b' (Ok went) = Went expected old new t t' b b' went
+Goes expected old new t t' b b' (Err e) = Failed expected old new e
 
 -- The error of the whole visit for an item that can't be visited.
 abbrev pub visit_error : {E : Type 0} → FrontError E → VisitError E
@@ -57,7 +56,7 @@ abbrev pub as_visited : {A E : Type 0} → Result A (FrontError E) → Result A 
 as_visited (Ok a) = Ok a
 as_visited (Err e) = Err (visit_error e)
 
--- Some of the packets were visited, from the first on.
+-- A prefix of the packets was visited.
 abbrev pub AddsFront : Option (List Packet) → Option (List Packet) → Packets → Type 0
 AddsFront old new all = (some others : List Packet) × (all.0 ≡ some ++ others) × Adds old new some
 

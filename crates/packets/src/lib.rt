@@ -19,5 +19,5 @@ mod visit;
 
 pub use buffer::Buffer;
 pub use owned_packet::{OwnedPacket, read_packets};
-pub use reader::{Capture, CaptureError, Packet, Step};
+pub use reader::{Capture, CaptureError, CaptureStep, Packet};
 pub use visit::{PacketVisitor, VisitError, visit_packets};

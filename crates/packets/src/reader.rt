@@ -42,7 +42,7 @@ pub struct Packet<'a> {
 
 /// The item at the front of a capture's bytes.
 #[derive(Clone, Copy, Debug, PartialEq)]
-pub enum Step<'a> {
+pub enum CaptureStep<'a> {
     /// A packet, and the bytes behind it.
     Packet(Packet<'a>, &'a [u8]),
     /// An item without a packet, and the bytes behind it.
@@ -114,12 +114,12 @@ fn form_of(alloc: Global, i: &[u8]) -> Result<Option<(Form, &[u8])>, CaptureErro
 }
 
 /// Parses a packet of a pcap file.
-fn pcap_step(i: &[u8], format: Format, link_type: u16) -> Result<Step<'_>, CaptureError>
+fn pcap_step(i: &[u8], format: Format, link_type: u16) -> Result<CaptureStep<'_>, CaptureError>
     ensures { let s = Pcap (view_format format) link_type in
         Answers view_step (front s i.now) s result s }
 {
     match parse_pcap_packet(i, format) {
-        Ok((rest, packet)) => Ok(Step::Packet(
+        Ok((rest, packet)) => Ok(CaptureStep::Packet(
             Packet {
                 time: packet.time,
                 link_type,
@@ -128,23 +128,23 @@ fn pcap_step(i: &[u8], format: Format, link_type: u16) -> Result<Step<'_>, Captu
             },
             rest,
         )),
-        Err(Err::Incomplete(_)) => Ok(Step::Wait),
+        Err(Err::Incomplete(_)) => Ok(CaptureStep::Wait),
         Err(_) => Err(CaptureError::Broken),
     }
 }
 
 /// Parses a block of a pcapng file.
-fn block_step<'a>(section: &mut Section, i: &'a [u8]) -> Result<Step<'a>, CaptureError>
+fn block_step<'a>(section: &mut Section, i: &'a [u8]) -> Result<CaptureStep<'a>, CaptureError>
     ensures { let s = view_section section.old in
         Answers view_step (block_front s (reading (next_block s.order) i.now)) (Blocks s) result
         (Blocks (view_section section.new)) }
 {
     match parse_block(i, section.order) {
-        Ok((rest, block)) => match section.hear(block)? {
-            Some(packet) => Ok(Step::Packet(packet, rest)),
-            None => Ok(Step::Other(rest)),
+        Ok((rest, block)) => match section.process(block)? {
+            Some(packet) => Ok(CaptureStep::Packet(packet, rest)),
+            None => Ok(CaptureStep::Other(rest)),
         },
-        Err(Err::Incomplete(_)) => Ok(Step::Wait),
+        Err(Err::Incomplete(_)) => Ok(CaptureStep::Wait),
         Err(_) => Err(CaptureError::Broken),
     }
 }
@@ -176,16 +176,16 @@ impl Capture {
     /// - `OutOfMemory` if there is no memory for an interface.
     ///
     /// An error leaves the reader as it was.
-    pub fn step<'a>(&mut self, i: &'a [u8]) -> Result<Step<'a>, CaptureError>
+    pub fn step<'a>(&mut self, i: &'a [u8]) -> Result<CaptureStep<'a>, CaptureError>
         ensures { Answers view_step (front self.old i.now) self.old result self.new }
     {
         match &mut self.form {
             Form::Unknown => match form_of(self.alloc, i)? {
                 Some((form, rest)) => {
                     self.form = form;
-                    Ok(Step::Other(rest))
+                    Ok(CaptureStep::Other(rest))
                 }
-                None => Ok(Step::Wait),
+                None => Ok(CaptureStep::Wait),
             },
             Form::Pcap(format, link_type) => pcap_step(i, *format, *link_type),
             Form::Blocks(section) => block_step(section, i),

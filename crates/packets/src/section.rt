@@ -15,8 +15,8 @@ ghost use Rattle.packets.specs.Section.{
   beginning,
   begun,
   described,
-  hear,
-  heard_by_kind,
+  block_result,
+  result_by_kind,
   simple,
   timed,
   timed_of,
@@ -90,9 +90,9 @@ impl Section {
     /// Returns a packet with its time converted from the units of its interface.
     fn timed<'a>(&mut self, packet: BlockPacket<'a>) -> Result<Packet<'a>, CaptureError>
         ensures { let s = view_section self.old in
-            let said = timed_of s (view_block_packet packet.entry)
+            let expected = timed_of s (view_block_packet packet.entry)
             (slice_get s.interfaces packet.entry.interface) in
-            AnswersPacket said s result (view_section self.new) }
+            AnswersPacket expected s result (view_section self.new) }
     {
         let Some(interface) = self.interfaces.get(packet.interface as usize).copied() else {
             return Err(CaptureError::Broken);
@@ -147,9 +147,9 @@ impl Section {
     }
 
     /// Processes a block by its type: returns its packet, or notes what it describes.
-    fn hear_by_kind<'a>(&mut self, block: Block<'a>) -> Result<Option<Packet<'a>>, CaptureError>
+    fn process_by_kind<'a>(&mut self, block: Block<'a>) -> Result<Option<Packet<'a>>, CaptureError>
         ensures { Answers (option_map view_packet)
-            (heard_by_kind (view_section self.old) (view_block block.entry))
+            (result_by_kind (view_section self.old) (view_block block.entry))
             (view_section self.old) result (view_section self.new) }
     {
         match block.kind {
@@ -169,12 +169,15 @@ impl Section {
     }
 
     /// Processes a block. An error leaves the section as it was.
-    pub(crate) fn hear<'a>(&mut self, block: Block<'a>) -> Result<Option<Packet<'a>>, CaptureError>
+    pub(crate) fn process<'a>(
+        &mut self,
+        block: Block<'a>,
+    ) -> Result<Option<Packet<'a>>, CaptureError>
         ensures { Answers (option_map view_packet)
-            (hear (view_section self.old) (view_block block.entry))
+            (block_result (view_section self.old) (view_block block.entry))
             (view_section self.old) result (view_section self.new) }
     {
-        let packet = self.hear_by_kind(block)?;
+        let packet = self.process_by_kind(block)?;
         self.order = block.order;
         Ok(packet)
     }

@@ -7,7 +7,7 @@ ghost use Rattle.packets.specs.Packets.{Whole, end_of, packets_of};
 ghost use Rattle.packets.specs.Visit.{as_visited, visit_error, AddsAll, Goes, IsCause, IsEnd, StaysSound, Visits};
 
 use crate::buffer::Buffer;
-use crate::reader::{Capture, CaptureError, Packet, Step};
+use crate::reader::{Capture, CaptureError, CaptureStep, Packet};
 use std::alloc::Global;
 use std::io::{self, Read};
 
@@ -76,7 +76,7 @@ fn visit_front<V: PacketVisitor>(
         (as_visited result) }
 {
     match capture.step(buffer.held()) {
-        Ok(Step::Packet(packet, rest)) => {
+        Ok(CaptureStep::Packet(packet, rest)) => {
             let left = rest.len();
             match visitor.visit(packet) {
                 Ok(()) => {
@@ -86,12 +86,12 @@ fn visit_front<V: PacketVisitor>(
                 Err(e) => Err(FrontError::Visitor(e)),
             }
         }
-        Ok(Step::Other(rest)) => {
+        Ok(CaptureStep::Other(rest)) => {
             let left = rest.len();
             buffer.keep_last(left);
             Ok(true)
         }
-        Ok(Step::Wait) => Ok(false),
+        Ok(CaptureStep::Wait) => Ok(false),
         Err(e) => Err(FrontError::Capture(e)),
     }
 }

@@ -93,7 +93,8 @@ module _ {H F : Type 0} (header : Layout H) (len : H → ℕ) (raw : H → Bytes
         → reading raw_record_of b ≡ reading
         (after_raw_header header len (λ _. rest) raw raw h) (drop n b)
     after_long b h e =
-        ap (λ a. a and_then λ x. reading (after_raw_header header len (λ _. rest) raw raw x.0) x.1) e
+        ap
+        (λ a. a and_then λ x. reading (after_raw_header header len (λ _. rest) raw raw x.0) x.1) e
 
     -- A raw record is refused as too large exactly if its length is.
     never_broken : (h : H) (r : Bytes)

@@ -84,7 +84,8 @@ encrypted_record_of n = do
   test (nat_le 16 n) LengthValue
   block n
 
--- As long as the header says, or else the rest of the datagram.
+-- The encrypted record: as many bytes as the header's length, or without one the rest of the
+-- datagram.
 unfoldable pub encrypted_record : Option ℕ → Layout Bytes
 encrypted_record (Some n) = encrypted_record_of n
 encrypted_record None = left >>= encrypted_record_of

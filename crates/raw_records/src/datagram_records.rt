@@ -46,7 +46,8 @@ impl<'a> Iterator for DatagramRecords<'a> {
     ghost next_gives = { YieldsFirstBy view_datagram_record
         (λ s. items_in (datagram_record13 s.connection_id_len) s.left.now) };
 
-    ghost remaining = { item_count (λ s. items_in (datagram_record13 s.connection_id_len) s.left.now) };
+    ghost remaining = { item_count
+        (λ s. items_in (datagram_record13 s.connection_id_len) s.left.now) };
 
     #[tactic(auto, using(layouts::proofs::ItemsLemmas::items_first, layouts::proofs::ItemsLemmas::items_none, layouts::proofs::ItemsLemmas::items_still, layouts::proofs::ItemsLemmas::items_shorter))]
     fn next(&mut self) -> Option<DatagramRecord<'a>> {

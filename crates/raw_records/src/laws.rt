@@ -38,7 +38,8 @@ pub fn raw_record_is_refused_by_its_length()
 #[tactic(auto, using(crate::proofs::FurtherLemmas::header_decides, crate::proofs::FurtherLemmas::header_counts_down))]
 pub fn record_header_with_further_bytes()
     ensures decides { (b s : Bytes) → AreBytes b → AreBytes s → Decides tls.record_header b s }
-    ensures counts_down { (b s : Bytes) → AreBytes b → AreBytes s → CountsDown tls.record_header b s }
+    ensures counts_down { (b s : Bytes) → AreBytes b → AreBytes s
+        → CountsDown tls.record_header b s }
 {}
 
 /// Further bytes after a record whose fragment isn't parsed, encrypted or not, change neither its
@@ -56,5 +57,6 @@ pub fn raw_record_with_further_bytes()
 #[tactic(auto, using(crate::proofs::DtlsFurtherLemmas::header_decides, crate::proofs::DtlsFurtherLemmas::header_counts_down))]
 pub fn dtls_record_header_with_further_bytes()
     ensures decides { (b s : Bytes) → AreBytes b → AreBytes s → Decides dtls.record_header b s }
-    ensures counts_down { (b s : Bytes) → AreBytes b → AreBytes s → CountsDown dtls.record_header b s }
+    ensures counts_down { (b s : Bytes) → AreBytes b → AreBytes s
+        → CountsDown dtls.record_header b s }
 {}

@@ -138,7 +138,7 @@ pub(crate) fn append_front(
     Ok(())
 }
 
-/// Appends bytes for positions of one page to `out`, but a byte that is present in place of the
+/// Appends bytes for positions of one page to `out`: the byte that is present there, or else the
 /// given one.
 fn append_over_page(
     pages: &Pages,

@@ -25,11 +25,11 @@ use Rattle.tls_stream.specs.Item.{Event as Said}
 use Rattle.tls_flow.specs.Table.{outcome_at}
 use Rattle.tls_flow.specs.declared.symbol.Direction.{Direction as Side}
 use Rattle.tls_flow.specs.declared.symbol.Direction.TheVariants.{ToServer, FromServer}
-use Rattle.tls_stream.specs.Conversations.{IsPast}
-use Rattle.tls_stream.specs.declared.conversation.Conversation.{Conversation}
-use Rattle.tls_analyzer.specs.History.{history}
+use Rattle.tls_stream.specs.Readers.{IsPast}
+use Rattle.tls_stream.specs.declared.conversation_reader.ConversationReader.{ConversationReader}
+use Rattle.tls_observer.specs.History.{history}
 use Rattle.tls_analyzer.specs.Hearing.{known_of}
-use Rattle.tls_analyzer.specs.Noting.{Known, has_sealed, known}
+use Rattle.tls_observer.specs.Noting.{Known, has_sealed, known}
 use Rattle.tls_analyzer.specs.Analyzers.{
   AreHeard,
   IsFollowed,
@@ -116,12 +116,12 @@ over_of t u s p heard =
     ∙ ap (λ (k : Known). over_by (hearing_behind (hearing t s) heard.said)
     (outcome_at k.flow.state)) heard.known
 
-left_further : (s : Side) (vs : List Said) (q : Bytes) (c d : Conversation) → IsLeft true s vs c d
+left_further : (s : Side) (vs : List Said) (q : Bytes) (c d : ConversationReader) → IsLeft true s vs c d
     → IsLeft true s vs (further c s q) d
 left_further ToServer vs q c d left = left
 left_further FromServer vs q c d left = left
 
-left_longer : (b : Bool) (s : Side) (vs ws : List Said) (c d : Conversation) → IsLeft b s ws c d
+left_longer : (b : Bool) (s : Side) (vs ws : List Said) (c d : ConversationReader) → IsLeft b s ws c d
     → IsLeft b s (ws ++ vs) c d
 left_longer true s vs ws c d left = left
 left_longer false s vs ws c d (same, inl none) = (same, inl none)
@@ -135,14 +135,14 @@ over_still t m s p q first over = record {
   begun = further first.begun s q;
   behind = further first.behind s q;
   said = first.said;
-  fed = fed_further t.conversation_state.conversation first.begun s p q first.fed;
+  fed = fed_further t.conversation_state.reader first.begun s p q first.fed;
   past = past_further first.begun first.behind s first.said q first.past;
   heard = first.heard;
   left = subst
-      (λ b. IsLeft b s first.said (further first.behind s q) m.conversation_state.conversation)
+      (λ b. IsLeft b s first.said (further first.behind s q) m.conversation_state.reader)
       (sym over)
-      (left_further s first.said q first.behind m.conversation_state.conversation
-      (subst (λ b. IsLeft b s first.said first.behind m.conversation_state.conversation) over
+      (left_further s first.said q first.behind m.conversation_state.reader
+      (subst (λ b. IsLeft b s first.said first.behind m.conversation_state.reader) over
       first.left));
   known = first.known;
   history = first.history;
@@ -154,11 +154,11 @@ both_followed : (t m u : Analyzer) (s : Side) (p q : Bytes) (first : IsFollowed 
     → IsFollowed m s q u
     → IsFollowed t s (p ++ q) u
 both_followed t m u s p q first over last =
-    let left : IsLeft false s first.said first.behind m.conversation_state.conversation =
-    subst (λ b. IsLeft b s first.said first.behind m.conversation_state.conversation) over
+    let left : IsLeft false s first.said first.behind m.conversation_state.reader =
+    subst (λ b. IsLeft b s first.said first.behind m.conversation_state.reader) over
     first.left in
-    let whole = joined t.conversation_state.conversation first.begun
-    m.conversation_state.conversation last.begun
+    let whole = joined t.conversation_state.reader first.begun
+    m.conversation_state.reader last.begun
     last.behind s p q first.said
     last.said first.fed
     (subst (λ c. IsPast first.begun s first.said c) (sym left.0) first.past) last.fed last.past in
@@ -179,8 +179,8 @@ both_followed t m u s p q first over last =
           (over_behind (hearing t s) s (known_of t.conversation_state) (last.said ++ first.said))
           s first.said
           last.said last.behind
-          u.conversation_state.conversation
-          (subst (λ b. IsLeft b s last.said last.behind u.conversation_state.conversation)
+          u.conversation_state.reader
+          (subst (λ b. IsLeft b s last.said last.behind u.conversation_state.reader)
           (ap (λ h. over_behind h s (known_of m.conversation_state) last.said) at_hearing
           ∙ ap (λ k. over_behind (hearing_behind (hearing t s) first.said) s k last.said)
           first.known

@@ -34,19 +34,18 @@ use Rattle.tls_stream.specs.Events.{events, fed, with_more}
 use Rattle.tls_stream.specs.Stream as stream
 use Rattle.tls_stream.specs.declared.fault.Fault.{Fault}
 use Rattle.tls_stream.proofs.DirectionLemmas.{fed_twice}
-use Rattle.tls_flow.specs.Steps.{follow}
 use Rattle.tls_flow.specs.declared.event.FlowEvent.{FlowEvent}
 use Rattle.tls_flow.specs.declared.symbol.Direction.{Direction as Side}
 use Rattle.tls_flow.specs.declared.symbol.Direction.TheVariants.{ToServer, FromServer}
-use Rattle.tls_stream.specs.Conversations.{IsBehind, IsPast, IsFedBy, IsToldIf, ear, other, tells}
+use Rattle.tls_stream.specs.Readers.{IsBehind, IsPast, IsFedBy, IsToldIf, ear, other, tells}
 use Rattle.tls_stream.specs.Ears.{IsFirst, SaysAs, says, says_by, told}
 use Rattle.tls_stream.specs.FlowEvents.{chooses_tls13, event_of}
-use Rattle.tls_stream.specs.declared.conversation.Conversation.{Conversation}
+use Rattle.tls_stream.specs.declared.conversation_reader.ConversationReader.{ConversationReader}
 use Rattle.tls_stream.specs.declared.side_reader.SideReader.{SideReader}
 use Rattle.tls_stream.specs.declared.side_reader.Standing.{Standing}
 use Rattle.tls_stream.specs.declared.side_reader.Standing.TheVariants.{Speaks, AtFault, Over}
-use Rattle.tls_analyzer.specs.History.{history, letter_of, with_letter}
-use Rattle.tls_analyzer.specs.Noting.{has_sealed, is_sealed}
+use Rattle.tls_observer.specs.History.{history, letter_of, with_letter}
+use Rattle.tls_observer.specs.Noting.{has_sealed, is_sealed}
 
 -- The side with another piece.
 abbrev pub with_piece : SideReader → Bytes → SideReader
@@ -84,12 +83,12 @@ first_further : (e f : SideReader) (v : Said) (q : Bytes) → IsFirst e v f
 first_further e f v q first t = says_further e q t ∙ first (q ++ t)
     ∙ ap (λ vs. v ∷ vs) (sym (says_further f q t))
 
--- The conversation with another piece of this side.
-abbrev pub further : Conversation → Side → Bytes → Conversation
+-- The reader with another piece of this side.
+abbrev pub further : ConversationReader → Side → Bytes → ConversationReader
 further c ToServer q = record c { client = with_piece c.client q }
 further c FromServer q = record c { server = with_piece c.server q }
 
-behind_further : (c d : Conversation) (s : Side) (v : Said) (q : Bytes) → IsBehind c s v d
+behind_further : (c d : ConversationReader) (s : Side) (v : Said) (q : Bytes) → IsBehind c s v d
     → IsBehind (further c s q) s v (further d s q)
 behind_further c d ToServer v q behind = record {
   side = (
@@ -99,7 +98,6 @@ behind_further c d ToServer v q behind = record {
   );
   other = behind.other;
   is_tls13 = behind.is_tls13;
-  flow = behind.flow;
 }
 behind_further c d FromServer v q behind = record {
   side = (
@@ -109,36 +107,34 @@ behind_further c d FromServer v q behind = record {
   );
   other = behind.other;
   is_tls13 = behind.is_tls13;
-  flow = behind.flow;
 }
 
-pub past_further : (c d : Conversation) (s : Side) (vs : List Said) (q : Bytes) → IsPast c s vs d
+pub past_further : (c d : ConversationReader) (s : Side) (vs : List Said) (q : Bytes) → IsPast c s vs d
     → IsPast (further c s q) s vs (further d s q)
 past_further c d s [] q past = ap (λ x. further x s q) past
 past_further c d s (v ∷ vs) q past =
     (further past.0 s q, past_further c past.0 s vs q past.1, behind_further past.0 d s v q past.2)
 
-past_on : (c m d : Conversation) (s : Side) (vs ws : List Said) → IsPast c s vs m → IsPast m s ws d
+past_on : (c m d : ConversationReader) (s : Side) (vs ws : List Said) → IsPast c s vs m → IsPast m s ws d
     → IsPast c s (ws ++ vs) d
 past_on c m d s vs [] first last = subst (λ x. IsPast c s vs x) (sym last) first
 past_on c m d s vs (w ∷ ws) first last = (last.0, past_on c m last.0 s vs ws first last.1, last.2)
 
 -- Both say the same whatever follows of this side, and are equal otherwise.
-record IsAlike (s : Side) (c d : Conversation) : Type 0 where
+record IsAlike (s : Side) (c d : ConversationReader) : Type 0 where
   side : SaysAs (ear c s) (ear d s)
   other : ear c (other s) ≡ ear d (other s)
   is_tls13 : c.is_tls13 ≡ d.is_tls13
-  flow : c.flow ≡ d.flow
 
 told_alike : (b : Bool) (e f g : SideReader) → IsToldIf b e f → SaysAs f g → IsToldIf b e g
 told_alike true e f g same alike = λ t. same t ∙ alike t
 told_alike false e f g same alike = λ t. same t ∙ alike t
 
-tells_alike : (c d : Conversation) (e : FlowEvent) → c.is_tls13 ≡ d.is_tls13 → tells d e ≡ tells c e
+tells_alike : (c d : ConversationReader) (e : FlowEvent) → c.is_tls13 ≡ d.is_tls13 → tells d e ≡ tells c e
 tells_alike c d e same =
     ap (λ b. not b && chooses_tls13 e.symbol.kind e.symbol.direction) (sym same)
 
-behind_last : (c m d : Conversation) (s : Side) (v : Said) → IsBehind c s v m → IsAlike s m d
+behind_last : (c m d : ConversationReader) (s : Side) (v : Said) → IsBehind c s v m → IsAlike s m d
     → IsBehind c s v d
 behind_last c m d s v behind alike = record {
   side = (
@@ -149,10 +145,9 @@ behind_last c m d s v behind alike = record {
   other = subst (λ x. IsToldIf (tells c (event_of s v)) (ear c (other s)) x) alike.other
       behind.other;
   is_tls13 = sym alike.is_tls13 ∙ behind.is_tls13;
-  flow = sym alike.flow ∙ behind.flow;
 }
 
-behind_first : (c m d : Conversation) (s : Side) (v : Said) → IsAlike s c m → IsBehind m s v d
+behind_first : (c m d : ConversationReader) (s : Side) (v : Said) → IsAlike s c m → IsBehind m s v d
     → IsBehind c s v d
 behind_first c m d s v alike behind =
     let same : tells m (event_of s v) ≡ tells c (event_of s v) =
@@ -167,10 +162,9 @@ behind_first c m d s v alike behind =
           (subst (λ b. IsToldIf b (ear m (other s)) (ear d (other s))) same behind.other);
       is_tls13 = behind.is_tls13 ∙ ap (λ b. b || tells m (event_of s v)) (sym alike.is_tls13)
           ∙ ap (λ b. c.is_tls13 || b) same;
-      flow = behind.flow ∙ ap (λ x. follow x (event_of s v)) (sym alike.flow);
     }
 
-past_first : (c m d : Conversation) (s : Side) (v : Said) (vs : List Said) → IsAlike s c m
+past_first : (c m d : ConversationReader) (s : Side) (v : Said) (vs : List Said) → IsAlike s c m
     → IsPast m s (v ∷ vs) d
     → IsPast c s (v ∷ vs) d
 past_first c m d s v [] alike past =
@@ -178,56 +172,51 @@ past_first c m d s v [] alike past =
 past_first c m d s v (w ∷ ws) alike past =
     (past.0, past_first c m past.0 s w ws alike past.1, past.2)
 
--- A conversation that was fed a piece says what it says with that piece.
-fed_alike : (c d : Conversation) (s : Side) (q : Bytes) → IsFedBy c s q d
+-- A reader that was fed a piece says what it says with that piece.
+fed_alike : (c d : ConversationReader) (s : Side) (q : Bytes) → IsFedBy c s q d
     → IsAlike s (further c s q) d
 fed_alike c d ToServer q fed = record {
   side = λ t. says_further c.client q t ∙ fed.side t;
   other = sym fed.other;
   is_tls13 = sym fed.is_tls13;
-  flow = sym fed.flow;
 }
 fed_alike c d FromServer q fed = record {
   side = λ t. says_further c.server q t ∙ fed.side t;
   other = sym fed.other;
   is_tls13 = sym fed.is_tls13;
-  flow = sym fed.flow;
 }
 
-pub fed_further : (c d : Conversation) (s : Side) (p q : Bytes) → IsFedBy c s p d
+pub fed_further : (c d : ConversationReader) (s : Side) (p q : Bytes) → IsFedBy c s p d
     → IsFedBy c s (p ++ q) (further d s q)
 fed_further c d ToServer p q fed = record {
   side = λ t. ap (says c.client) (append_assoc p q t) ∙ fed.side (q ++ t)
       ∙ sym (says_further d.client q t);
   other = fed.other;
   is_tls13 = fed.is_tls13;
-  flow = fed.flow;
 }
 fed_further c d FromServer p q fed = record {
   side = λ t. ap (says c.server) (append_assoc p q t) ∙ fed.side (q ++ t)
       ∙ sym (says_further d.server q t);
   other = fed.other;
   is_tls13 = fed.is_tls13;
-  flow = fed.flow;
 }
 
-fed_on : (c m d : Conversation) (s : Side) (p q : Bytes) → IsFedBy c s p m → IsFedBy m s q d
+fed_on : (c m d : ConversationReader) (s : Side) (p q : Bytes) → IsFedBy c s p m → IsFedBy m s q d
     → IsFedBy c s (p ++ q) d
 fed_on c m d s p q first last = record {
   side = λ t. ap (says (ear c s)) (append_assoc p q t) ∙ first.side (q ++ t) ∙ last.side t;
   other = last.other ∙ first.other;
   is_tls13 = last.is_tls13 ∙ first.is_tls13;
-  flow = last.flow ∙ first.flow;
 }
 
 -- What two pieces say is what both say joined.
-pub record IsJoined (c : Conversation) (s : Side) (p : Bytes) (vs : List Said)
-    (d : Conversation) : Type 0 where
-  pub begun : Conversation
+pub record IsJoined (c : ConversationReader) (s : Side) (p : Bytes) (vs : List Said)
+    (d : ConversationReader) : Type 0 where
+  pub begun : ConversationReader
   pub fed : IsFedBy c s p begun
   pub past : IsPast begun s vs d
 
-pub joined : (c a m b d : Conversation) (s : Side) (p q : Bytes) (vs ws : List Said)
+pub joined : (c a m b d : ConversationReader) (s : Side) (p q : Bytes) (vs ws : List Said)
     → IsFedBy c s p a
     → IsPast a s vs m → IsFedBy m s q b
     → IsPast b s ws d → IsJoined c s (p ++ q) (ws ++ vs) d

@@ -33,12 +33,12 @@ use Rattle.tls_stream.specs.Item.{Event as Said}
 use Rattle.tls_flow.specs.Table.{outcome_at}
 use Rattle.tls_flow.specs.declared.symbol.Direction.{Direction as Side}
 use Rattle.tls_flow.specs.declared.symbol.Direction.TheVariants.{ToServer, FromServer}
-use Rattle.tls_stream.specs.Conversations.{IsFedBy, IsPast, ear}
+use Rattle.tls_stream.specs.Readers.{IsFedBy, IsPast, ear}
 use Rattle.tls_stream.specs.Ears.{IsReady, first_in, front_of, says}
-use Rattle.tls_stream.specs.declared.conversation.Conversation.{Conversation}
+use Rattle.tls_stream.specs.declared.conversation_reader.ConversationReader.{ConversationReader}
 use Rattle.tls_analyzer.specs.Hearing.{IsFed, IsNextTaken, IsNoted, known_of}
-use Rattle.tls_analyzer.specs.History.{history, letter_of, with_letter}
-use Rattle.tls_analyzer.specs.Noting.{Known, has_sealed, is_sealed, known}
+use Rattle.tls_observer.specs.History.{history, letter_of, with_letter}
+use Rattle.tls_observer.specs.Noting.{Known, has_sealed, is_sealed, known}
 use Rattle.tls_analyzer.specs.Analyzers.{
   AreHeard,
   IsFollowed,
@@ -63,10 +63,10 @@ use Rattle.tls_analyzer.proofs.AnalyzerLemmas.{hearing_is, sealed_twice, with_ag
 
 -- The side was fed, and n events were taken, before none of which it was over.
 pub record IsOn (t : Analyzer) (s : Side) (p : Bytes) (u : Analyzer) (n : ℕ) : Type 0 where
-  pub begun : Conversation
+  pub begun : ConversationReader
   pub said : List Said
-  pub fed : IsFedBy t.conversation_state.conversation s p begun
-  pub past : IsPast begun s said u.conversation_state.conversation
+  pub fed : IsFedBy t.conversation_state.reader s p begun
+  pub past : IsPast begun s said u.conversation_state.reader
   pub heard : AreHeard (hearing t s) s (known_of t.conversation_state) said
   pub known : known_of u.conversation_state ≡ known s (known_of t.conversation_state) said
   pub history : u.conversation_state.history.items ≡ history s
@@ -74,7 +74,7 @@ pub record IsOn (t : Analyzer) (s : Side) (p : Bytes) (u : Analyzer) (n : ℕ) :
   pub same : u ≡ with_hearing (record t { conversation_state = u.conversation_state }) s
       (hearing_behind (hearing t s) said)
   pub count : length said ≡ n
-  pub ready : IsReady (ear u.conversation_state.conversation s)
+  pub ready : IsReady (ear u.conversation_state.reader s)
 
 with_same : (t : Analyzer) (s : Side) (h : ConversationState)
     → record t { conversation_state = h } ≡ with_hearing (record t { conversation_state = h }) s
@@ -84,12 +84,12 @@ with_same t FromServer h = refl
 
 pub on_begun : (t : Analyzer) (h : ConversationState) (s : Side) (p : Bytes)
     → IsFed t.conversation_state s p h
-    → IsReady (ear h.conversation s)
+    → IsReady (ear h.reader s)
     → IsOn t s p (record t { conversation_state = h }) 0
 on_begun t h s p fed ready = record {
-  begun = h.conversation;
+  begun = h.reader;
   said = [];
-  fed = fed.conversation;
+  fed = fed.reader;
   past = refl;
   heard = tt;
   known = known_same t.conversation_state h fed.flow fed.handshake;
@@ -175,15 +175,15 @@ next_same t u h s p n b on =
 on_some : (t u w : Analyzer) (s : Side) (p : Bytes) (n : ℕ) (v : Said) → IsOn t s p u n
     → is_over u s ≡ false
     → IsNoted u.conversation_state s v w.conversation_state
-    → (IsReady (ear u.conversation_state.conversation s)
-    → IsReady (ear w.conversation_state.conversation s))
+    → (IsReady (ear u.conversation_state.reader s)
+    → IsReady (ear w.conversation_state.reader s))
     → w ≡ next_analyzer u s w.conversation_state (is_sealed v)
     → IsOn t s p w (n + 1)
 on_some t u w s p n v on clear noted_it kept same = record {
   begun = on.begun;
   said = v ∷ on.said;
   fed = on.fed;
-  past = (u.conversation_state.conversation, on.past, noted_it.behind);
+  past = (u.conversation_state.reader, on.past, noted_it.behind);
   heard = (sym (over_is t u s p n on) ∙ clear, on.heard);
   known = known_next s u.conversation_state w.conversation_state
       (known s (known_of t.conversation_state) on.said) v noted_it on.known;
@@ -196,12 +196,12 @@ on_some t u w s p n v on clear noted_it kept same = record {
 -- An event was removed.
 pub on_next : (t u w : Analyzer) (s : Side) (p : Bytes) (n : ℕ) → IsOn t s p u n
     → is_over u s ≡ false
-    → IsTaken (front_of (ear u.conversation_state.conversation s)) u s true w
-    → (IsReady (ear u.conversation_state.conversation s)
-    → IsReady (ear w.conversation_state.conversation s))
+    → IsTaken (front_of (ear u.conversation_state.reader s)) u s true w
+    → (IsReady (ear u.conversation_state.reader s)
+    → IsReady (ear w.conversation_state.reader s))
     → IsOn t s p w (n + 1)
 on_next t u w s p n on clear taken kept =
-    go (front_of (ear u.conversation_state.conversation s)) taken
+    go (front_of (ear u.conversation_state.reader s)) taken
   where
     go : (o : Option Said) → IsTaken o u s true w → IsOn t s p w (n + 1)
     go (Some v) some = on_some t u w s p n v on clear some.1 kept some.2
@@ -211,22 +211,22 @@ silent : (vs : List Said) → first_in vs ≡ None → vs ≡ []
 silent [] e = refl
 silent (v ∷ vs) e = absurd cc
 
-left_by : (b : Bool) (s : Side) (vs : List Said) (c : Conversation) → b ≡ false
+left_by : (b : Bool) (s : Side) (vs : List Said) (c : ConversationReader) → b ≡ false
     → (says (ear c s) [] ≡ [])
     ⊎ (2 ^ 64 - 1 ≤ length vs) → IsLeft b s vs c c
 left_by b s vs c clear all = subst (λ b. IsLeft b s vs c c) (sym clear) (refl, all)
 
-over_left : (b : Bool) (s : Side) (vs : List Said) (c : Conversation) → b ≡ true → IsLeft b s vs c c
-over_left b s vs c over = subst (λ b. IsLeft b s vs c c) (sym over) (refl, refl, refl)
+over_left : (b : Bool) (s : Side) (vs : List Said) (c : ConversationReader) → b ≡ true → IsLeft b s vs c c
+over_left b s vs c over = subst (λ b. IsLeft b s vs c c) (sym over) (refl, refl)
 
 on_left : (t u : Analyzer) (s : Side) (p : Bytes) (n : ℕ) (on : IsOn t s p u n)
     → IsLeft (over_behind (hearing t s) s (known_of t.conversation_state) on.said) s on.said
-    u.conversation_state.conversation
-    u.conversation_state.conversation
+    u.conversation_state.reader
+    u.conversation_state.reader
     → IsFollowed t s p u
 on_left t u s p n on left = record {
   begun = on.begun;
-  behind = u.conversation_state.conversation;
+  behind = u.conversation_state.reader;
   said = on.said;
   fed = on.fed;
   past = on.past;
@@ -242,32 +242,32 @@ pub on_over : (t u : Analyzer) (s : Side) (p : Bytes) (n : ℕ) → IsOn t s p u
     → IsFollowed t s p u
 on_over t u s p n on over = on_left t u s p n on
     (over_left (over_behind (hearing t s) s (known_of t.conversation_state) on.said) s on.said
-    u.conversation_state.conversation
+    u.conversation_state.reader
     (sym (over_is t u s p n on) ∙ over))
 
 on_clear : (t u : Analyzer) (s : Side) (p : Bytes) (n : ℕ) (on : IsOn t s p u n)
     → is_over u s ≡ false
-    → (says (ear u.conversation_state.conversation s) [] ≡ []) ⊎ (2 ^ 64 - 1 ≤ length on.said)
+    → (says (ear u.conversation_state.reader s) [] ≡ []) ⊎ (2 ^ 64 - 1 ≤ length on.said)
     → IsFollowed t s p u
 on_clear t u s p n on clear all = on_left t u s p n on
     (left_by (over_behind (hearing t s) s (known_of t.conversation_state) on.said) s on.said
-    u.conversation_state.conversation
+    u.conversation_state.reader
     (sym (over_is t u s p n on) ∙ clear) all)
 
 -- The side has no event for now.
 pub on_none : (t u w : Analyzer) (s : Side) (p : Bytes) (n : ℕ) → IsOn t s p u n
     → is_over u s ≡ false
-    → IsTaken (front_of (ear u.conversation_state.conversation s)) u s false w → IsFollowed t s p w
+    → IsTaken (front_of (ear u.conversation_state.reader s)) u s false w → IsFollowed t s p w
 on_none t u w s p n on clear taken =
-    go (front_of (ear u.conversation_state.conversation s)) refl taken
+    go (front_of (ear u.conversation_state.reader s)) refl taken
   where
-    go : (o : Option Said) → o ≡ front_of (ear u.conversation_state.conversation s)
+    go : (o : Option Said) → o ≡ front_of (ear u.conversation_state.reader s)
         → IsTaken o u s false w
         → IsFollowed t s p w
     go (Some v) front some = absurd cc
     go None front none = subst (λ x. IsFollowed t s p x) (sym none.1)
         (on_clear t u s p n on clear
-        (inl (silent (says (ear u.conversation_state.conversation s) []) (on.ready ∙ sym front))))
+        (inl (silent (says (ear u.conversation_state.reader s) []) (on.ready ∙ sym front))))
 
 -- As many events were taken as are counted.
 pub on_end : (t u : Analyzer) (s : Side) (p : Bytes) (n : ℕ) → IsOn t s p u n → n ≡ 2 ^ 64 - 1

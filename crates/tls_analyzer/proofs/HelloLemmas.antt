@@ -9,7 +9,7 @@ use Rattle.tls_summary.specs.HandshakeSummary.{HandshakeSummary, KeepsHellos, vi
 use Rattle.tls_summary.proofs.HelloLemmas.{alert_keeps, bytes_keep, keeps_on, stays}
 use Rattle.tls_detection.specs.Front.{begins_tls}
 use Rattle.tls_analyzer.specs.Hearing.{known_of}
-use Rattle.tls_analyzer.specs.Noting.{Known, known, noted}
+use Rattle.tls_observer.specs.Noting.{Known, known, noted}
 use Rattle.tls_analyzer.specs.Analyzers.{
   IsFirstBy,
   IsHeardBy,

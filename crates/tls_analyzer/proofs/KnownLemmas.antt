@@ -5,7 +5,7 @@ use Rattle.tls_flow.specs.declared.flow.Flow.{Flow}
 use Rattle.tls_flow.specs.declared.symbol.Direction.{Direction as Side}
 use Rattle.tls_summary.specs.HandshakeSummary.{HandshakeSummary, view_summary}
 use Rattle.tls_analyzer.specs.Hearing.{IsNoted, known_of}
-use Rattle.tls_analyzer.specs.Noting.{Known, followed, known, known_by}
+use Rattle.tls_observer.specs.Noting.{Known, followed, known, known_by}
 use Rattle.tls_analyzer.specs.declared.conversation_state.ConversationState.{ConversationState}
 
 abbrev both : Flow → HandshakeSummary → Known

@@ -6,7 +6,4 @@ mod FollowLemmas
 mod FirstLemmas
 mod TurnLemmas
 mod HelloLemmas
-mod DatagramLemmas
 mod RecordLemmas
-mod ChangeLemmas
-mod HeardLemmas

@@ -8,16 +8,16 @@ use Rattle.tls_flow.specs.Table.{is_waiting, outcome_at}
 use Rattle.tls_flow.specs.declared.symbol.Direction.{Direction as Side}
 use Rattle.tls_flow.specs.declared.symbol.Direction.TheVariants.{ToServer, FromServer}
 use Rattle.tls_flow.specs.declared.state.Outcome.{Outcome}
-use Rattle.tls_stream.specs.Conversations.{IsBegun, IsFedBy, IsPast, ear, other}
+use Rattle.tls_stream.specs.Readers.{IsBegun, IsFedBy, IsPast, ear, other}
 use Rattle.tls_stream.specs.Ears.{says}
-use Rattle.tls_stream.specs.declared.conversation.Conversation.{Conversation}
+use Rattle.tls_stream.specs.declared.conversation_reader.ConversationReader.{ConversationReader}
 use Rattle.tls_summary.specs.HandshakeSummary.{nothing, view_summary}
 use Rattle.tls_detection.specs.Front.{begins_tls}
 use Rattle.tls_stream.specs.Events.{default_limit}
-use Rattle.tls_analyzer.specs.Hearing.{IsHelloNoted, IsNoted, known_of, turns}
+use Rattle.tls_analyzer.specs.Hearing.{IsHelloNoted, IsNoted, known_of, turns, with_fault}
 use Rattle.ssl2_hello.specs.ClientHello as ssl2
-use Rattle.tls_analyzer.specs.History.{history}
-use Rattle.tls_analyzer.specs.Noting.{Known, has_sealed, is_sealed, known}
+use Rattle.tls_observer.specs.History.{history}
+use Rattle.tls_observer.specs.Noting.{Known, has_sealed, is_sealed, known}
 use Rattle.tls_analyzer.specs.declared.analyzer.SideState.{SideState}
 use Rattle.tls_analyzer.specs.declared.analyzer.SideState.TheVariants.{Unknown, Clear, Encrypted, Other}
 use Rattle.tls_analyzer.specs.declared.analyzer.Analyzer.{Analyzer}
@@ -27,7 +27,7 @@ abbrev pub hearing : Analyzer → Side → SideState
 hearing t ToServer = t.client
 hearing t FromServer = t.server
 
--- It isn't decided yet whether the side is TLS; and it is.
+-- Whether a side is undecided; and, below, whether it is TLS.
 abbrev pub is_unknown_by : SideState → Bool
 is_unknown_by Unknown = true
 is_unknown_by _ = false
@@ -62,7 +62,7 @@ Waits t s w u = (v : Vec ℕ) × (v.items ≡ w) × (u ≡ with_waiting t s v)
 
 -- Nothing was read.
 pub record IsNew (t : Analyzer) : Type 0 where
-  pub begun : IsBegun default_limit t.conversation_state.conversation
+  pub begun : IsBegun default_limit t.conversation_state.reader
   pub flow : t.conversation_state.flow ≡ silence
   pub handshake : view_summary t.conversation_state.handshake ≡ nothing
   pub history : t.conversation_state.history.items ≡ []
@@ -108,22 +108,21 @@ AreHeard h s k (v ∷ vs) = (over_behind h s k vs ≡ false) × AreHeard h s k v
 
 -- What is left: for a side that is over, anything; for another, nothing for now, unless 2^64 - 1
 -- events were taken.
-abbrev pub IsLeft : Bool → Side → List Said → Conversation → Conversation → Type 0
+abbrev pub IsLeft : Bool → Side → List Said → ConversationReader → ConversationReader → Type 0
 IsLeft true s vs c d = (ear d (other s) ≡ ear c (other s)) × (d.is_tls13 ≡ c.is_tls13)
-    × (d.flow ≡ c.flow)
 IsLeft false s vs c d = (d ≡ c) × ((says (ear c s) [] ≡ []) ⊎ (2 ^ 64 - 1 ≤ length vs))
 
 -- A side that isn't over gets another piece. Each of its events is followed and recorded, in order,
 -- up to the one that ends the side.
 pub record IsFollowed (t : Analyzer) (s : Side) (p : Bytes) (u : Analyzer) : Type 0 where
-  pub begun : Conversation
-  pub behind : Conversation
+  pub begun : ConversationReader
+  pub behind : ConversationReader
   pub said : List Said
-  pub fed : IsFedBy t.conversation_state.conversation s p begun
+  pub fed : IsFedBy t.conversation_state.reader s p begun
   pub past : IsPast begun s said behind
   pub heard : AreHeard (hearing t s) s (known_of t.conversation_state) said
   pub left : IsLeft (over_behind (hearing t s) s (known_of t.conversation_state) said) s said behind
-      u.conversation_state.conversation
+      u.conversation_state.reader
   pub known : known_of u.conversation_state ≡ known s (known_of t.conversation_state) said
   pub history : u.conversation_state.history.items ≡ history s
       t.conversation_state.history.items said
@@ -174,11 +173,15 @@ IsHeardInSsl2 t s x u = IsHelloNoted t.conversation_state s x u.conversation_sta
     × (u ≡ with_hearing (record t { conversation_state = u.conversation_state; is_tls = true }) s
     Clear)
 
--- The side isn't TLS, whatever it sends: it is treated as if it had sent 5 bytes that are no header
--- of a record.
+-- The analyzer after a fault of the side, unless the side was over.
+abbrev pub with_fault_unless : Bool → Analyzer → Side → Analyzer
+with_fault_unless true t s = t
+with_fault_unless false t s =
+    record t { conversation_state = with_fault s t.conversation_state }
+
+-- The side isn't TLS, whatever it sends: that counts as a fault, and the side is skipped.
 abbrev pub IsHeardAsNone : Analyzer → Side → Analyzer → Type 0
-IsHeardAsNone t s u = (n : Analyzer) × IsNext t s (0 ∷ 0 ∷ 0 ∷ 0 ∷ 0 ∷ []) n
-    × (u ≡ with_hearing n s Other)
+IsHeardAsNone t s u = u ≡ with_hearing (with_fault_unless (is_over t s) t s) s Other
 
 -- These pieces are read in order, each of its side.
 abbrev pub AreHeardOn : Analyzer → List (Side × Bytes) → Analyzer → Type 0

@@ -4,14 +4,14 @@ use Rattle.layouts.specs.Bytes.{Bytes}
 use Rattle.tls_stream.specs.Item.{Event as Said}
 use Rattle.tls_flow.specs.declared.symbol.Direction.{Direction as Side}
 use Rattle.tls_flow.specs.declared.symbol.Direction.TheVariants.{ToServer, FromServer}
-use Rattle.tls_stream.specs.Conversations.{IsBehind, IsFedBy}
+use Rattle.tls_stream.specs.Readers.{IsBehind, IsFedBy}
 use Rattle.tls_summary.specs.HandshakeSummary.{asked_in_ssl2, view_summary}
 use Rattle.tls_flow.specs.Events.{plain}
 use Rattle.tls_flow.specs.declared.symbol.Kind.TheVariants as kind
 use Rattle.ssl2_hello.specs.ClientHello as ssl2
 use Rattle.std.specs.Str.{byte}
-use Rattle.tls_analyzer.specs.History.{history, letter_of, with_letter}
-use Rattle.tls_analyzer.specs.Noting.{Known, followed, is_sealed, noted, stepped}
+use Rattle.tls_observer.specs.History.{history, letter_of, with_letter}
+use Rattle.tls_observer.specs.Noting.{Known, followed, is_sealed, noted, stepped}
 use Rattle.tls_analyzer.specs.declared.conversation_state.ConversationState.{ConversationState}
 
 abbrev pub known_of : ConversationState → Known
@@ -20,7 +20,7 @@ known_of h = record { flow = h.flow; handshake = view_summary h.handshake }
 -- The side gets another piece, and nothing is recorded.
 pub record IsFed (h : ConversationState) (s : Side) (p : Bytes)
     (i : ConversationState) : Type 0 where
-  pub conversation : IsFedBy h.conversation s p i.conversation
+  pub reader : IsFedBy h.reader s p i.reader
   pub flow : i.flow ≡ h.flow
   pub handshake : i.handshake ≡ h.handshake
   pub history : i.history ≡ h.history
@@ -28,7 +28,7 @@ pub record IsFed (h : ConversationState) (s : Side) (p : Bytes)
 -- The side says v next, which is followed and recorded.
 pub record IsNoted (h : ConversationState) (s : Side) (v : Said)
     (i : ConversationState) : Type 0 where
-  pub behind : IsBehind h.conversation s v i.conversation
+  pub behind : IsBehind h.reader s v i.reader
   pub flow : i.flow ≡ followed s h.flow (view_summary h.handshake) v
   pub handshake : view_summary i.handshake ≡ noted s (view_summary h.handshake) v
   pub history : i.history.items ≡ with_letter s h.history.items (letter_of v)
@@ -37,10 +37,15 @@ pub record IsNoted (h : ConversationState) (s : Side) (v : Said)
 -- recorded like any other.
 pub record IsHelloNoted (h : ConversationState) (s : Side) (x : ssl2.ClientHello)
     (i : ConversationState) : Type 0 where
-  pub conversation : i.conversation ≡ h.conversation
+  pub reader : i.reader ≡ h.reader
   pub flow : i.flow ≡ stepped s h.flow (view_summary h.handshake) (plain kind.ClientHello s)
   pub handshake : view_summary i.handshake ≡ asked_in_ssl2 s x (view_summary h.handshake)
   pub history : i.history.items ≡ with_letter s h.history.items (Some (byte "c"))
+
+-- The side doesn't speak TLS, which is followed as a fault of it. Nothing is recorded.
+abbrev pub with_fault : Side → ConversationState → ConversationState
+with_fault s h =
+    record h { flow = stepped s h.flow (view_summary h.handshake) (plain kind.Unknown s) }
 
 -- The side's next event is removed, if there is one; the answer is whether it is encrypted.
 abbrev pub IsNextTaken : Option Said → ConversationState → Side → Option Bool

@@ -1,10 +1,4 @@
-pub mod Noting
-pub mod History
 pub mod Hearing
-pub mod Ends
-pub mod Datagrams
-pub mod Another
 pub mod Analyzers
 pub mod Records
-pub mod DatagramRecords
 pub mod Capacity

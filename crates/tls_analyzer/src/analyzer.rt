@@ -1,23 +1,22 @@
 //! The analyzer of a TLS connection.
 ghost use Rattle.std.specs.Prelude.{◌≡◌, ◌≤◌, ◌++◌, [], IfOk, OnOk, length};
 ghost use Rattle.ssl2_hello.specs.ClientHello.{view_client_hello as view_ssl2_hello};
-ghost use Rattle.tls_stream.specs.Conversations.{ear, views};
+ghost use Rattle.tls_stream.specs.Conversations.{views};
+ghost use Rattle.tls_stream.specs.Readers.{ear};
 ghost use Rattle.tls_stream.specs.Ears.{IsReady, front_of};
 ghost use Rattle.tls_summary.specs.HandshakeSummary.{view_summary};
 ghost use Rattle.tls_flow.specs.Table.{outcome_at};
+ghost use Rattle.tls_observer.specs.Ends.{is_established as established_by, is_resumed as resumed_by};
 ghost use Rattle.tls_analyzer.specs.Capacity.{capacity_of};
-ghost use Rattle.tls_analyzer.specs.Ends.{is_established as established_by, is_resumed as resumed_by};
 ghost use Rattle.tls_analyzer.specs.Analyzers.{IsFirstHeard, IsHeardAsNone, IsHeardInSsl2, IsHeardOn, IsNew, IsNext, IsTaken, IsAnalyzerOf, Waits, hearing as hearing_of, is_over as is_over_in, is_tls_on as is_tls_on_side, is_unknown as is_unknown_in, waiting as waiting_of, with_hearing};
 
-use crate::capacity::of_handshake;
 use crate::conversation_state::ConversationState;
-use crate::ends;
-use crate::observer::{NoObserver, Observer};
 use ssl2_hello::Ssl2ClientHello;
 use std::alloc::{AllocError, Global};
 use std::mem;
 use tls_detection::{HEADER_LEN, begins_tls};
 use tls_flow::{Direction, Outcome, Stop};
+use tls_observer::{NoObserver, Observer, ends, of_handshake};
 use tls_summary::HandshakeSummary;
 
 /// What is known of a side.
@@ -210,11 +209,11 @@ impl Analyzer {
         observer: &mut W,
     ) -> Result<bool, AllocError>
         ensures taken { IfOk result
-            (λ taken. IsTaken (front_of (ear self.old.conversation_state.conversation side))
+            (λ taken. IsTaken (front_of (ear self.old.conversation_state.reader side))
             self.old side taken
             self.new) }
-        ensures ready { OnOk result (IsReady (ear self.old.conversation_state.conversation side)
-            → IsReady (ear self.new.conversation_state.conversation side)) }
+        ensures ready { OnOk result (IsReady (ear self.old.conversation_state.reader side)
+            → IsReady (ear self.new.conversation_state.reader side)) }
     {
         match self.conversation_state.take_next(alloc, side, observer)? {
             Some(true) => {
@@ -322,16 +321,15 @@ impl Analyzer {
         Ok(())
     }
 
-    /// Treats a side that has sent nothing so far as one that isn't TLS. It counts as a fault, like
-    /// 5 bytes that are no header of a record, and the side is skipped.
-    ///
-    /// After `AllocError` there was no memory for it, and the analyzer can't be used any more.
-    pub fn skip_side(&mut self, alloc: Global, side: Direction) -> Result<(), AllocError>
-        ensures { OnOk result (IsHeardAsNone self.old side self.new) }
+    /// Treats a side that has sent nothing so far as one that isn't TLS: that counts as a fault, and
+    /// the side is skipped.
+    pub fn skip_side(&mut self, side: Direction)
+        ensures { IsHeardAsNone self.old side self.new }
     {
-        self.follow(alloc, side, &[0, 0, 0, 0, 0], &mut NoObserver)?;
+        if !self.is_over(side) {
+            self.conversation_state.follow_fault(side);
+        }
         self.set_side_state(side, SideState::Other);
-        Ok(())
     }
 
     /// Reads the next bytes of a side. The first ones are stored until there are 5, which decide

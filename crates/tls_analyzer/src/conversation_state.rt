@@ -2,33 +2,32 @@
 ghost use Rattle.std.specs.Prelude.{◌≡◌, [], IfOk, OnOk};
 ghost use Rattle.std.specs.Option.{option_map};
 ghost use Rattle.ssl2_hello.specs.ClientHello.{view_client_hello as view_ssl2_hello};
-ghost use Rattle.tls_stream.specs.Conversations.{IsBegun, ear};
+ghost use Rattle.tls_stream.specs.Readers.{IsBegun, ear};
 ghost use Rattle.tls_stream.specs.Ears.{IsReady, front_of};
 ghost use Rattle.tls_stream.specs.FlowEvents.{event_of, view_said};
 ghost use Rattle.tls_flow.specs.Bytes.{view_heard};
 ghost use Rattle.tls_summary.specs.HandshakeSummary.{nothing, view_summary};
 ghost use Rattle.tls_flow.specs.Steps.{silence};
-ghost use Rattle.tls_analyzer.specs.Noting.{followed, is_sealed, noted, noted_with, stepped};
-ghost use Rattle.tls_analyzer.specs.History.{letter_of, with_letter};
-ghost use Rattle.tls_analyzer.specs.Hearing.{IsFed, IsHelloNoted, IsNextTaken};
+ghost use Rattle.tls_observer.specs.Noting.{followed, is_sealed, noted, noted_with, stepped};
+ghost use Rattle.tls_observer.specs.History.{letter_of, with_letter};
+ghost use Rattle.tls_analyzer.specs.Hearing.{IsFed, IsHelloNoted, IsNextTaken, with_fault};
 
-use crate::history::{add_letter, stream_letter};
-use crate::observer::Observer;
 use ssl2_hello::Ssl2ClientHello;
 use std::alloc::{AllocError, Global};
-use tls_flow::{Direction, Flow, HandshakeMessage, Kind};
+use tls_flow::{Direction, Flow, FlowEvent, HandshakeMessage, Kind};
+use tls_observer::Observer;
+use tls_observer::history::{add_letter, stream_letter};
 use tls_stream::{
-    Conversation, DEFAULT_LIMIT, Event, SideEvent, stream_event_with, stream_message,
+    ConversationReader, DEFAULT_LIMIT, Event, SideEvent, stream_event_with, stream_message,
 };
 use tls_summary::{CertificateCache, HandshakeSummary};
 
 /// A conversation, and what is derived from its events.
 #[derive(Drop)]
 pub(crate) struct ConversationState {
-    // Both sides, as far as they were followed. The conversation's own flow follows every hello;
-    // `flow` below leaves out those that don't belong to the handshake.
-    pub(crate) conversation: Conversation,
-    // The flow of the handshake.
+    // Both sides, as far as they were read.
+    pub(crate) reader: ConversationReader,
+    // The flow of the handshake, without hellos that don't belong to it.
     pub(crate) flow: Flow,
     // The summary of both sides.
     pub(crate) handshake: HandshakeSummary,
@@ -48,12 +47,7 @@ fn is_encrypted(said: &SideEvent<'_>) -> bool
 
 /// Follows an event of a side, unless the summary before it shows that it is a hello that doesn't
 /// belong to the handshake.
-pub(crate) fn step(
-    flow: &mut Flow,
-    handshake: &HandshakeSummary,
-    side: Direction,
-    event: tls_flow::FlowEvent,
-)
+pub(crate) fn step(flow: &mut Flow, handshake: &HandshakeSummary, side: Direction, event: FlowEvent)
     ensures { flow.new ≡ stepped side flow.old (view_summary handshake.now) event }
 {
     if !handshake.is_stray(side, event.symbol.kind) {
@@ -101,7 +95,7 @@ fn tell<W: Observer>(
     side: Direction,
     said: &SideEvent<'_>,
     observer: &mut W,
-) -> Result<tls_flow::FlowEvent, AllocError>
+) -> Result<FlowEvent, AllocError>
     ensures flow { OnOk result
         (flow.new ≡ followed side flow.old (view_summary handshake.old) (view_said said.now)) }
     ensures handshake { OnOk result
@@ -124,13 +118,13 @@ fn tell<W: Observer>(
 impl ConversationState {
     /// An empty one. It doesn't allocate.
     pub(crate) fn new(alloc: Global) -> ConversationState
-        ensures begun { IsBegun DEFAULT_LIMIT result.conversation }
+        ensures begun { IsBegun DEFAULT_LIMIT result.reader }
         ensures unfollowed { result.flow ≡ silence }
         ensures unknown { view_summary result.handshake ≡ nothing }
         ensures unlettered { result.history.items ≡ [] }
     {
         ConversationState {
-            conversation: Conversation::new(alloc),
+            reader: ConversationReader::new(alloc),
             flow: Flow::new(),
             handshake: HandshakeSummary::new(),
             history: Vec::new(alloc),
@@ -140,9 +134,9 @@ impl ConversationState {
     /// Appends a piece of this side's stream.
     pub(crate) fn feed(&mut self, side: Direction, piece: &[u8]) -> Result<(), AllocError>
         ensures fed { OnOk result (IsFed self.old side piece.now self.new) }
-        ensures ready { OnOk result (IsReady (ear self.new.conversation side)) }
+        ensures ready { OnOk result (IsReady (ear self.new.reader side)) }
     {
-        self.conversation.feed(side, piece).map_err(|_e| AllocError)
+        self.reader.feed(side, piece).map_err(|_e| AllocError)
     }
 
     /// Follows and records a ClientHello of SSL 2.0's form, with which a side begins.
@@ -154,10 +148,18 @@ impl ConversationState {
     ) -> Result<(), AllocError>
         ensures { OnOk result (IsHelloNoted self.old side (view_ssl2_hello hello.now) self.new) }
     {
-        let event = tls_flow::FlowEvent::new(Kind::ClientHello, side);
+        let event = FlowEvent::new(Kind::ClientHello, side);
         step(&mut self.flow, &self.handshake, side, event);
         self.handshake.note_ssl2_hello(alloc, side, hello)?;
         add_letter(&mut self.history, side, Some(b'c'))
+    }
+
+    /// Follows a fault of a side that doesn't speak TLS. Nothing is recorded.
+    pub(crate) fn follow_fault(&mut self, side: Direction)
+        ensures { self.new ≡ with_fault side self.old }
+    {
+        let event = FlowEvent::new(Kind::Unknown, side);
+        step(&mut self.flow, &self.handshake, side, event);
     }
 
     /// Follows the side's next event, updates the summary and removes the event. Returns whether it
@@ -169,11 +171,11 @@ impl ConversationState {
         observer: &mut W,
     ) -> Result<Option<bool>, AllocError>
         ensures taken { IfOk result
-            (λ r. IsNextTaken (front_of (ear self.old.conversation side)) self.old side r self.new) }
+            (λ r. IsNextTaken (front_of (ear self.old.reader side)) self.old side r self.new) }
         ensures ready { OnOk result
-            (IsReady (ear self.old.conversation side) → IsReady (ear self.new.conversation side)) }
+            (IsReady (ear self.old.reader side) → IsReady (ear self.new.reader side)) }
     {
-        let (event, is_encrypted) = match self.conversation.front(side) {
+        let (event, is_encrypted) = match self.reader.front(side) {
             Some(said) => {
                 let (flow, handshake) = (&mut self.flow, &mut self.handshake);
                 let event = tell(
@@ -189,7 +191,7 @@ impl ConversationState {
             }
             None => return Ok(None),
         };
-        self.conversation.take_front_as(side, event);
+        self.reader.take_front(side, event);
         Ok(Some(is_encrypted))
     }
 }

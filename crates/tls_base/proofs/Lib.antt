@@ -1,4 +1,2 @@
 pub mod NameLemmas
 pub mod RisingLemmas
-pub mod SignatureLemmas
-pub mod FrontLemmas

@@ -7,10 +7,8 @@ pub mod ExtensionNumbers
 pub mod Constants
 pub mod Registered
 pub mod RegisteredSuites
-pub mod KeyExchange
 pub mod Alert
-pub mod Signature
-pub mod Timestamp
+pub mod Point
 pub mod Cipher
 pub mod SuiteExchange
 pub mod CipherTable

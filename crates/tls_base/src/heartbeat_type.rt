@@ -36,7 +36,8 @@ static NAMES: &[(u16, &str)] = names!(
 );
 
 impl fmt::Display for TlsHeartbeatMessageType {
-    ghost output = { λ v. Some (name (codes "TlsHeartbeatMessageType") heartbeat_message_types v.0) };
+    ghost output = { λ v. Some
+        (name (codes "TlsHeartbeatMessageType") heartbeat_message_types v.0) };
 
     fn fmt<W: fmt::Write>(&self, f: &mut fmt::Formatter<W>) -> fmt::Result {
         write_name(f, "TlsHeartbeatMessageType", NAMES, self.0 as u16)

@@ -1,11 +1,11 @@
-//! What several TLS structures share: numbers with names, key exchange, signatures, timestamps,
-//! alerts, and tables of cipher suites.
+//! What several TLS structures share: numbers with names, alerts, points of elliptic curves, and
+//! tables of cipher suites.
 //!
 //! The promises: each parse call returns the one answer of its layout, and a name is the one that a
 //! table has for the number. A type such as [`TlsVersion`] keeps any number that it reads, with or
 //! without a name.
 //!
-//! - `KeyExchange`, `Signature`, `Timestamp` and `Alert` in `specs/` define the layouts.
+//! - `Alert` and `Point` in `specs/` define the layouts.
 //! - `Names` defines how a number is looked up (`look_up`) and shown (`name`).
 //! - `Constants` and `ExtensionNumbers` have the names of constants, `Registered` and
 //!   `RegisteredSuites` those of IANA's registries.
@@ -23,8 +23,7 @@ mod cipher_table;
 mod compression_id;
 mod ct_version;
 mod curve_type;
-mod dh;
-mod ec;
+mod ec_point;
 mod extension_type;
 mod handshake_type;
 mod hash_algorithm;
@@ -35,13 +34,10 @@ mod psk_mode;
 mod record_type;
 mod registered_suites;
 mod sign_algorithm;
-mod signature;
 mod signature_scheme;
 mod sni_type;
 mod status_type;
 mod suite_exchange;
-mod timestamp;
-mod timestamp_view;
 mod version;
 
 pub use alert::TlsMessageAlert;
@@ -56,11 +52,7 @@ pub use cipher_table::{CipherSuiteNotFound, CipherTable, CipherTableError, Ciphe
 pub use compression_id::TlsCompressionID;
 pub use ct_version::CtVersion;
 pub use curve_type::ECCurveType;
-pub use dh::{ServerDHParams, parse_dh_params};
-pub use ec::{
-    ECCurve, ECParameters, ECParametersContent, ECPoint, ExplicitPrimeContent, ServerECDHParams,
-    parse_ec_parameters, parse_ecdh_params, parse_named_groups,
-};
+pub use ec_point::ECPoint;
 pub use extension_type::TlsExtensionType;
 pub use handshake_type::TlsHandshakeType;
 pub use hash_algorithm::HashAlgorithm;
@@ -70,17 +62,8 @@ pub use named_group::NamedGroup;
 pub use psk_mode::PskKeyExchangeMode;
 pub use record_type::TlsRecordType;
 pub use sign_algorithm::SignAlgorithm;
-pub use signature::{
-    DigitallySigned, SignatureAndHashAlgorithm, parse_content_and_signature,
-    parse_digitally_signed, parse_digitally_signed_old,
-};
 pub use signature_scheme::SignatureScheme;
 pub use sni_type::SNIType;
 pub use status_type::CertificateStatusType;
 pub use suite_exchange::{KeyExchange, Public};
-pub use timestamp::{
-    CtExtensions, CtLogID, SignedCertificateTimestamp, parse_ct_signed_certificate_timestamp,
-    parse_ct_signed_certificate_timestamp_list,
-};
-pub use timestamp_view::certificate_timestamps;
 pub use version::TlsVersion;

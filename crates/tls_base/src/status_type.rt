@@ -30,7 +30,8 @@ impl CertificateStatusType {
 static NAMES: &[(u16, &str)] = names!(CertificateStatusType: OCSP);
 
 impl fmt::Display for CertificateStatusType {
-    ghost output = { λ v. Some (name (codes "CertificateStatusType") certificate_status_types v.0) };
+    ghost output = { λ v. Some
+        (name (codes "CertificateStatusType") certificate_status_types v.0) };
 
     fn fmt<W: fmt::Write>(&self, f: &mut fmt::Formatter<W>) -> fmt::Result {
         write_name(f, "CertificateStatusType", NAMES, self.0 as u16)

@@ -197,7 +197,11 @@ tls13_states false true = refl
 tls13_states false false = refl
 
 states_pass : (o : Outcome) → AllStatesPass (state_test o)
-states_pass = elim [ outcome.Tls13 retried early ↦ tls13_states retried early | outcome.Full ↦ refl | _ ↦ refl ]
+states_pass = elim [
+  | outcome.Tls13 retried early ↦ tls13_states retried early
+  | outcome.Full ↦ refl
+  | _ ↦ refl
+]
 
 -- After a failure nothing can come.
 tls13_fails : (retried early : Bool)
@@ -210,7 +214,11 @@ tls13_fails false false = refl
 
 form_fails : (o : Outcome)
     → behind_all same_symbol (chain (pattern_of o) all) (symbol kind.Other ToServer ∷ []) ≡ none
-form_fails = elim [ outcome.Tls13 retried early ↦ tls13_fails retried early | outcome.Full ↦ refl | _ ↦ refl ]
+form_fails = elim [
+  | outcome.Tls13 retried early ↦ tls13_fails retried early
+  | outcome.Full ↦ refl
+  | _ ↦ refl
+]
 
 fails_for_good : (o : Outcome) (q : State) (k : Kind)
     → waits (pattern_of o) (unended_rule q k false) ≡ none

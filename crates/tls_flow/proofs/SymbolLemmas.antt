@@ -48,7 +48,10 @@ abbrev pub symbols : List Symbol
 symbols = map (λ k. symbol k ToServer) kinds ++ map (λ k. symbol k FromServer) kinds
 
 all_in : (k : Kind) (d : Direction) → is_in same_symbol symbols (symbol k d) ≡ true
-all_in = elim [ kind.HelloRequest ↦ elim [ ToServer ↦ refl | _ ↦ refl ] | _ ↦ elim [ ToServer ↦ refl | _ ↦ refl ] ]
+all_in = elim [
+  | kind.HelloRequest ↦ elim [ ToServer ↦ refl | _ ↦ refl ]
+  | _ ↦ elim [ ToServer ↦ refl | _ ↦ refl ]
+]
 
 pub passes : (f : Symbol → Bool) (l : Symbol) → list_all f symbols ≡ true → f l ≡ true
 passes f l t = passes_in same_symbol f symbols l t (all_in l.kind l.direction)

@@ -50,7 +50,7 @@ abbrev pub kind_of_hello : Option handshakes.Handshake → Kind
 kind_of_hello (Some h) = kind_of_handshake h
 kind_of_hello None = kind.Unknown
 
--- Its kind in TLS. A ServerHello's content decides; a refused ServerHello is Unknown.
+-- A message's kind in TLS. A ServerHello's content decides; a refused ServerHello is Unknown.
 abbrev pub kind_in_stream : HandshakeMessage → Kind
 kind_in_stream m = if m.msg_type == 2 then kind_of_hello m.server_hello else kind_of_type m.msg_type
 
@@ -73,7 +73,7 @@ datagram_message n body = record {
   server_hello = if n == 2 then datagram_hello_in body else None;
 }
 
--- Its kind in DTLS. A refused ServerHello counts by its type.
+-- A hello's kind in DTLS. A refused ServerHello counts by its type.
 abbrev pub kind_of_datagram_hello : Option handshakes.Handshake → Kind
 kind_of_datagram_hello (Some h) = kind_of_handshake h
 kind_of_datagram_hello None = kind.ServerHello

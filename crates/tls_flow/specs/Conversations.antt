@@ -46,7 +46,7 @@ IsBrokenOff w = IsStoppedBy Fatal w
 abbrev pub IsUnknown : Word → Type 0
 IsUnknown w = IsStoppedBy Unknown w
 
--- None of the other outcomes.
+-- The word has none of the other outcomes.
 abbrev pub IsNoHandshake : Word → Type 0
 IsNoHandshake w = ¬ HasHandshake w × ¬ MayBecomeHandshake w × ¬ IsBrokenOff w × ¬ IsUnknown w
 

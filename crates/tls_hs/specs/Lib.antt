@@ -8,8 +8,6 @@ pub mod InPlace
 pub mod Places
 pub mod Messages
 pub mod HandshakeText
-pub mod HandshakeWriter
-pub mod Writable
 pub use Rattle.layouts.specs.Bytes
 pub use Rattle.layouts.specs.Layout
 pub use Rattle.layouts.specs.Meaning

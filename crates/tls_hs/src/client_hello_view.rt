@@ -62,7 +62,8 @@ pub fn client_hello_fields(
 ) -> IResult<&[u8], (ClientHelloView, Option<&[u8]>)>
     ensures gives { Gives view_fields_in_place
         (client_hello_with (choose has_cookie (mapped Some (counted 1)) (done None))) i.now result }
-    ensures lies { IfOk result (λ x. LiesAsClientHello i.now x.1.0 (option_map (λ c. c.now) x.1.1)) }
+    ensures lies { IfOk result
+        (λ x. LiesAsClientHello i.now x.1.0 (option_map (λ c. c.now) x.1.1)) }
 {
     let (i, version) = TlsVersion::parse(i)?;
     let (i, random) = block(i, 32)?;

@@ -1,15 +1,14 @@
-//! Parses and writes handshake messages, the content of records of type 22 (RFC 5246, section 7.4),
-//! and parses the messages of other records.
+//! Parses handshake messages, the content of records of type 22 (RFC 5246, section 7.4), and the
+//! messages of other records.
 //!
 //! The promise: each parse call returns the one answer of its layout. That is the value and the
 //! exact rest, or the refusal of the leftmost part that can't be read. Slices in a value are parts
-//! of the input. What is written reads back, and what was read is written back, under the
-//! conditions that [`laws`] states.
+//! of the input.
 //!
 //! - `specs/Message.antt` defines the messages of records, `Handshake` the body of each handshake
 //!   type. `Hello`, `ServerHello`, `Certificate` and `Session` define the bodies' fields.
 //! - `specs/InPlace.antt` and `Messages` define messages that are parsed while they are walked.
-//! - `specs/HandshakeText.antt` defines the encoding, `HandshakeWriter` what the writers promise.
+//! - `specs/HandshakeText.antt` defines the encoding, which `tls_hs_writer` writes.
 //! - `specs/Places.antt` defines where the parts of a ClientHello are in its bytes.
 #![tactic(auto, using(layouts::proofs::OneAnswerLemmas::read_allowed))]
 
@@ -25,13 +24,11 @@ mod client_hello_view;
 mod handshake;
 mod handshake_view;
 mod hello_fields;
-pub mod laws;
 mod message;
 mod message_view;
 pub mod parts;
 mod server_hello;
 mod session;
-pub mod writer;
 
 pub use bodies::{
     parse_tls_handshake_msg_certificate, parse_tls_handshake_msg_certificaterequest,
@@ -71,8 +68,4 @@ pub use session::{
     parse_tls_handshake_msg_clientkeyexchange, parse_tls_handshake_msg_key_update,
     parse_tls_handshake_msg_newsessionticket, parse_tls_handshake_msg_next_protocol,
     parse_tls_handshake_msg_serverkeyexchange, parse_tls_handshake_next_protocol,
-};
-pub use writer::{
-    gen_tls_clienthello, gen_tls_clientkeyexchange, gen_tls_finished, gen_tls_hellorequest,
-    gen_tls_serverhello, gen_tls_serverhellodraft18,
 };

@@ -92,8 +92,8 @@ filter_fields filter = object_of (
     ∷ bytes (codes "certificate_extension_values") filter.cert_ext_val.now
     ∷ [])
 
--- a share, a client's shares, a server's, and the group of a HelloRetryRequest (RFC 8446, section
--- 4.2.8)
+-- a key share, the lists of a client and a server, and the group of a HelloRetryRequest (RFC 8446,
+-- section 4.2.8)
 abbrev pub share_fields : ℕ → List ℕ → Data
 share_fields group key_exchange =
     object_of (hexadecimal (codes "group") group ∷ bytes (codes "key_exchange") key_exchange ∷ [])

@@ -5,12 +5,12 @@ use Rattle.serde_json.specs.Data.{Data}
 use Rattle.layouts.specs.Items.{left_in}
 use Rattle.layouts.specs.Layout.{counted}
 use Rattle.tls_ext.specs.InPlace.{raw_extension}
-use Rattle.tls_base.specs.declared.ec.ECParametersContent as content_of
-use Rattle.tls_base.specs.declared.ec.ECParametersContent.TheVariants as content
-use Rattle.tls_base.specs.declared.ec.ECParameters.{ECParameters}
-use Rattle.tls_base.specs.declared.ec.ExplicitPrimeContent.{ExplicitPrimeContent}
-use Rattle.tls_base.specs.declared.ec.ServerECDHParams.{ServerECDHParams}
-use Rattle.tls_base.specs.declared.dh.ServerDHParams.{ServerDHParams}
+use Rattle.tls_key_exchange.specs.declared.ec.ECParametersContent as content_of
+use Rattle.tls_key_exchange.specs.declared.ec.ECParametersContent.TheVariants as content
+use Rattle.tls_key_exchange.specs.declared.ec.ECParameters.{ECParameters}
+use Rattle.tls_key_exchange.specs.declared.ec.ExplicitPrimeContent.{ExplicitPrimeContent}
+use Rattle.tls_key_exchange.specs.declared.ec.ServerECDHParams.{ServerECDHParams}
+use Rattle.tls_key_exchange.specs.declared.dh.ServerDHParams.{ServerDHParams}
 use Rattle.tls_hs.specs.declared.client_hello_view.ClientHelloView.{ClientHelloView}
 use Rattle.tls_hs.specs.declared.server_hello.TlsServerHelloContents.{TlsServerHelloContents}
 use Rattle.tls_hs.specs.declared.server_hello.TlsServerHelloV13Draft18Contents.{TlsServerHelloV13Draft18Contents}
@@ -103,8 +103,8 @@ retry_fields text request = object_of (
     ∷ suite (codes "cipher_suite") text request.cipher.0
     ∷ extensions_fields request.ext)
 
--- A certificate chain (RFC 5246, section 7.4.2) in the bytes b of its list: the certificates, what
--- they say, and what follows the last whole one.
+-- A certificate chain (RFC 5246, section 7.4.2) in the bytes b of its list: the certificates' bytes,
+-- their fields, and what follows the last whole one.
 abbrev pub chain_fields : List ℕ → Data
 chain_fields b = object_of (
     list (codes "certificate_list")

@@ -16,7 +16,7 @@ members_of (m ∷ ms) = member m.0.now m.1 (members_of ms)
 -- one level, in which each inner value is data already
 abbrev pub view_step : Value-F Data → Data
 view_step (Value-F.Number n) = number (unsigned n)
-view_step (Value-F.Mark b) = boolean b
+view_step (Value-F.Boolean b) = boolean b
 view_step (Value-F.Name s) = string s.now
 view_step (Value-F.Text s) = string (string_bytes s)
 view_step (Value-F.List v) = array (items_of v.items)

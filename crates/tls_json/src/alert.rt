@@ -10,13 +10,13 @@ use tls_base::{TlsAlertDescription, TlsAlertSeverity};
 /// An alert (RFC 8446, section 6): its level, its description, and the name of the description if
 /// it is registered.
 #[derive(Drop)]
-pub struct AlertMessage {
+pub struct AlertJson {
     level: u8,
     description: u8,
     name: Option<&'static str>,
 }
 
-impl Described for AlertMessage {
+impl Described for AlertJson {
     ghost writes = { λ a. SendsValue (alert_fields a.level a.description a.name) };
 }
 
@@ -46,7 +46,7 @@ fn end<S: Serializer>(name: Option<&'static str>, out: &mut S) -> Result<(), S::
     }
 }
 
-impl Serialize for AlertMessage {
+impl Serialize for AlertJson {
     fn serialize<S: Serializer>(&self, out: &mut S) -> Result<(), S::Error> {
         out.begin_map(Some(count(self.name)))?;
         out.key("level")?;
@@ -57,10 +57,10 @@ impl Serialize for AlertMessage {
     }
 }
 
-impl AlertMessage {
+impl AlertJson {
     /// Makes an alert of its level and description.
-    pub fn new(level: TlsAlertSeverity, description: TlsAlertDescription) -> AlertMessage {
-        AlertMessage {
+    pub fn new(level: TlsAlertSeverity, description: TlsAlertDescription) -> AlertJson {
+        AlertJson {
             level: level.0,
             description: description.0,
             name: description.registered_name(),

@@ -7,11 +7,11 @@ ghost use Rattle.tls_json.specs.Outline.{Shows, Entries, list, HasNames, HasFiel
 ghost use Rattle.tls_json.specs.Tables.{chain_fields, list_if, request_fields, ticket_fields, status_fields, next_protocol_names, verify_request_fields, finished_fields, key_update_fields};
 
 use crate::certificate::certificate;
-use crate::chosen::Chosen;
 use crate::datagrams::whole_message;
 use crate::hello::{client_hello, hello_retry_request, server_hello, server_hello_of_draft};
-use crate::json::Value;
+use crate::json::{ParsedValue, Value};
 use crate::key_exchange::{client_key_exchange, server_key_exchange, signature};
+use crate::negotiated::NegotiatedParameters;
 use crate::suite::SuiteText;
 use crate::table::{Table, Values, single};
 use crate::text::{blob, blobs, codes, escaped, numbers};
@@ -25,19 +25,17 @@ use tls_hs::{
 };
 use tls_records::{DTLSBodyView, DTLSClientHelloView, DTLSMessageHandshakeBody};
 
-/// A body by its fields; `None` if it is written as its bytes.
-type Answer = Option<Result<Value, AllocError>>;
-
 /// A body, and the bytes after its last field.
 #[derive(Drop)]
-pub struct Content<'a> {
+pub struct BodyJson<'a> {
     /// The fields of the body, or its bytes if it can't be parsed.
     pub body: Result<Value, AllocError>,
     /// Empty if the body can't be parsed.
     pub rest: &'a [u8],
 }
 
-fn certificates<'a>(alloc: Global, list: &'a [u8]) -> Result<Value, AllocError>
+/// Lists the certificates of a chain, each as its bytes.
+fn certificate_bytes<'a>(alloc: Global, list: &'a [u8]) -> Result<Value, AllocError>
     ensures { IfOk result (Shows (array no_items)) }
 {
     let walk: Items<RawCertificate> = Items::new(list);
@@ -48,8 +46,8 @@ fn certificates<'a>(alloc: Global, list: &'a [u8]) -> Result<Value, AllocError>
     all.finish()
 }
 
-/// Lists what each certificate of a chain says.
-fn said_by_certificates<'a>(alloc: Global, list: &'a [u8]) -> Result<Value, AllocError>
+/// Lists the certificates of a chain, each by its fields.
+fn certificate_fields<'a>(alloc: Global, list: &'a [u8]) -> Result<Value, AllocError>
     ensures { IfOk result (Shows (array no_items)) }
 {
     let walk: Items<RawCertificate> = Items::new(list);
@@ -68,14 +66,14 @@ fn rest_of_chain<'a>(list: &'a [u8]) -> &'a [u8]
     walk.rest()
 }
 
-/// Writes a certificate chain (RFC 5246, section 7.4.2): the certificates' bytes, what they say,
-/// and what follows the last whole one.
+/// Writes a certificate chain (RFC 5246, section 7.4.2): the certificates' bytes, their fields, and
+/// what follows the last whole one.
 fn chain(alloc: Global, list: &[u8]) -> Result<Value, AllocError>
     ensures { IfOk result (Shows (chain_fields list.now)) }
 {
     Table::new(alloc)
-        .add("certificate_list", certificates(alloc, list))
-        .add("certificates", said_by_certificates(alloc, list))
+        .add("certificate_list", certificate_bytes(alloc, list))
+        .add("certificates", certificate_fields(alloc, list))
         .some_bytes("rest", rest_of_chain(list))
         .finish()
 }
@@ -97,7 +95,10 @@ fn with_algorithms(alloc: Global, table: Table, algorithms: Option<Items<'_, u16
 
 /// Writes a CertificateRequest (RFC 5246, section 7.4.4), and what follows the last whole
 /// authority.
-fn request(alloc: Global, request: &CertificateRequestView<'_>) -> Result<Value, AllocError>
+fn certificate_request(
+    alloc: Global,
+    request: &CertificateRequestView<'_>,
+) -> Result<Value, AllocError>
     ensures { IfOk result (Shows (request_fields request.now)) }
 {
     let table = Table::new(alloc).add("certificate_types", codes(alloc, request.cert_types));
@@ -109,12 +110,12 @@ fn request(alloc: Global, request: &CertificateRequestView<'_>) -> Result<Value,
 
 /// Writes a CertificateRequest; `None` if its algorithms end in half of one, for which there is no
 /// field.
-fn whole_request(alloc: Global, wish: &CertificateRequestView<'_>) -> Answer
-    ensures { IfSome result (λ r. IfOk r (Shows (request_fields wish.now))) }
+fn whole_request(alloc: Global, request: &CertificateRequestView<'_>) -> ParsedValue
+    ensures { IfSome result (λ r. IfOk r (Shows (request_fields request.now))) }
 {
-    match wish.sig_hash_algs {
+    match request.sig_hash_algs {
         Some(list) if !list.rest().is_empty() => None,
-        _ => Some(request(alloc, wish)),
+        _ => Some(certificate_request(alloc, request)),
     }
 }
 
@@ -175,7 +176,7 @@ fn key_update(alloc: Global, request_update: u8) -> Result<Value, AllocError>
 }
 
 /// Writes the body of a message without lists, if it has fields.
-fn other(alloc: Global, suite_text: SuiteText, message: &TlsMessageHandshake<'_>) -> Answer {
+fn other(alloc: Global, suite_text: SuiteText, message: &TlsMessageHandshake<'_>) -> ParsedValue {
     match message {
         TlsMessageHandshake::ServerHello(hello) => Some(server_hello(alloc, suite_text, hello)),
         TlsMessageHandshake::ServerHelloV13Draft18(hello) => {
@@ -193,11 +194,11 @@ fn other(alloc: Global, suite_text: SuiteText, message: &TlsMessageHandshake<'_>
 }
 
 /// Writes the parsed body of a message of TLS.
-fn body_of(alloc: Global, suite_text: SuiteText, read: HandshakeView<'_>) -> Answer {
+fn body_of(alloc: Global, suite_text: SuiteText, read: HandshakeView<'_>) -> ParsedValue {
     match read {
         HandshakeView::ClientHello(hello) => Some(client_hello(alloc, suite_text, &hello, None)),
         HandshakeView::Certificate(list) => Some(chain(alloc, list.bytes())),
-        HandshakeView::CertificateRequest(wish) => whole_request(alloc, &wish),
+        HandshakeView::CertificateRequest(request) => whole_request(alloc, &request),
         HandshakeView::Other(message) => other(alloc, suite_text, &message),
     }
 }
@@ -220,7 +221,11 @@ fn client_hello_of_datagrams(
 }
 
 /// Writes a body that differs between DTLS and TLS.
-fn other_in_datagrams(alloc: Global, suite_text: SuiteText, read: &DTLSBodyView<'_>) -> Answer {
+fn other_in_datagrams(
+    alloc: Global,
+    suite_text: SuiteText,
+    read: &DTLSBodyView<'_>,
+) -> ParsedValue {
     match read {
         DTLSBodyView::ClientHello(hello) => Some(client_hello_of_datagrams(
             alloc, suite_text, hello,
@@ -233,12 +238,16 @@ fn other_in_datagrams(alloc: Global, suite_text: SuiteText, read: &DTLSBodyView<
 }
 
 /// Writes the parsed body of a message whose body differs between DTLS and TLS.
-fn body_in_datagrams(alloc: Global, suite_text: SuiteText, read: DTLSBodyView<'_>) -> Answer {
+fn body_in_datagrams(alloc: Global, suite_text: SuiteText, read: DTLSBodyView<'_>) -> ParsedValue {
     other_in_datagrams(alloc, suite_text, &read)
 }
 
 /// Writes a ServerHello; `None` if it can't be parsed.
-fn read_hello(alloc: Global, suite_text: SuiteText, hello: &Option<ReadServerHello<'_>>) -> Answer {
+fn read_hello(
+    alloc: Global,
+    suite_text: SuiteText,
+    hello: &Option<ReadServerHello<'_>>,
+) -> ParsedValue {
     match hello {
         Some(read) => other(alloc, suite_text, &read.message),
         None => None,
@@ -253,18 +262,18 @@ fn rest_of_hello<'a>(message: &HandshakeMessage<'a>) -> &'a [u8] {
     }
 }
 
-impl<'a> Content<'a> {
+impl<'a> BodyJson<'a> {
     /// Returns a body and the bytes after it, or the bytes of a body that can't be parsed.
-    fn of_body(alloc: Global, body: Answer, rest: &'a [u8], bytes: &[u8]) -> Content<'a> {
+    fn of_body(alloc: Global, body: ParsedValue, rest: &'a [u8], bytes: &[u8]) -> BodyJson<'a> {
         match body {
-            Some(body) => Content { body, rest },
-            None => Content::of_bytes(alloc, bytes),
+            Some(body) => BodyJson { body, rest },
+            None => BodyJson::of_bytes(alloc, bytes),
         }
     }
 
     /// Returns a body that can't be parsed, as its bytes.
-    fn of_bytes(alloc: Global, bytes: &[u8]) -> Content<'a> {
-        Content {
+    fn of_bytes(alloc: Global, bytes: &[u8]) -> BodyJson<'a> {
+        BodyJson {
             body: blob(alloc, bytes),
             rest: &[],
         }
@@ -272,67 +281,73 @@ impl<'a> Content<'a> {
 
     /// Parses a NewSessionTicket. `tls_hs` leaves the ticket's length in front of it, so it is
     /// parsed here.
-    fn of_ticket(alloc: Global, bytes: &'a [u8]) -> Content<'a> {
+    fn of_ticket(alloc: Global, bytes: &'a [u8]) -> BodyJson<'a> {
         let Ok((i, lifetime_hint)) = number4(bytes) else {
-            return Content::of_bytes(alloc, bytes);
+            return BodyJson::of_bytes(alloc, bytes);
         };
-        let Ok((rest, there)) = counted2(i) else {
-            return Content::of_bytes(alloc, bytes);
+        let Ok((rest, content)) = counted2(i) else {
+            return BodyJson::of_bytes(alloc, bytes);
         };
-        Content {
-            body: ticket(alloc, lifetime_hint, there),
+        BodyJson {
+            body: ticket(alloc, lifetime_hint, content),
             rest,
         }
     }
 
-    /// Parses a message whose fields depend on what the server chose.
+    /// Parses a message whose fields depend on the negotiated parameters.
     fn of_exchange(
         alloc: Global,
-        chosen: Chosen,
+        negotiated: NegotiatedParameters,
         msg_type: TlsHandshakeType,
         bytes: &'a [u8],
-    ) -> Content<'a> {
+    ) -> BodyJson<'a> {
         let read = match msg_type {
-            TlsHandshakeType::ServerKeyExchange => server_key_exchange(alloc, chosen, bytes),
-            TlsHandshakeType::ClientKeyExchange => client_key_exchange(alloc, chosen, bytes),
-            _ => signature(alloc, chosen.version, bytes),
+            TlsHandshakeType::ServerKeyExchange => server_key_exchange(alloc, negotiated, bytes),
+            TlsHandshakeType::ClientKeyExchange => client_key_exchange(alloc, negotiated, bytes),
+            _ => signature(alloc, negotiated.version, bytes),
         };
         match read {
-            Some((rest, body)) => Content { body, rest },
-            None => Content::of_bytes(alloc, bytes),
+            Some((rest, body)) => BodyJson { body, rest },
+            None => BodyJson::of_bytes(alloc, bytes),
         }
     }
 
-    /// Parses the body of a message of TLS, by what the server chose before.
+    /// Parses the body of a message of TLS, with the parameters of the ServerHello before it.
     pub fn new(
         alloc: Global,
         suite_text: SuiteText,
-        chosen: Option<Chosen>,
+        negotiated: Option<NegotiatedParameters>,
         message: &HandshakeMessage<'a>,
-    ) -> Content<'a> {
+    ) -> BodyJson<'a> {
         if message.msg_type == TlsHandshakeType::ServerHello {
-            return Content::of_server_hello(alloc, suite_text, message);
+            return BodyJson::of_server_hello(alloc, suite_text, message);
         }
-        Content::of_other(alloc, suite_text, chosen, message.msg_type, message.body)
+        BodyJson::of_other(
+            alloc,
+            suite_text,
+            negotiated,
+            message.msg_type,
+            message.body,
+        )
     }
 
     /// Parses the body of a message other than a ServerHello.
     fn of_other(
         alloc: Global,
         suite_text: SuiteText,
-        chosen: Option<Chosen>,
+        negotiated: Option<NegotiatedParameters>,
         msg_type: TlsHandshakeType,
         body: &'a [u8],
-    ) -> Content<'a> {
+    ) -> BodyJson<'a> {
         match msg_type {
-            TlsHandshakeType::NewSessionTicket => Content::of_ticket(alloc, body),
+            TlsHandshakeType::NewSessionTicket => BodyJson::of_ticket(alloc, body),
             TlsHandshakeType::ServerKeyExchange
             | TlsHandshakeType::ClientKeyExchange
-            | TlsHandshakeType::CertificateVerify => match chosen {
-                Some(chosen) => Content::of_exchange(alloc, chosen, msg_type, body),
-                None => Content::of_bytes(alloc, body),
+            | TlsHandshakeType::CertificateVerify => match negotiated {
+                Some(negotiated) => BodyJson::of_exchange(alloc, negotiated, msg_type, body),
+                None => BodyJson::of_bytes(alloc, body),
             },
-            _ => Content::of_itself(alloc, suite_text, msg_type, body),
+            _ => BodyJson::of_itself(alloc, suite_text, msg_type, body),
         }
     }
 
@@ -341,9 +356,9 @@ impl<'a> Content<'a> {
         alloc: Global,
         suite_text: SuiteText,
         message: &HandshakeMessage<'a>,
-    ) -> Content<'a> {
+    ) -> BodyJson<'a> {
         let body = read_hello(alloc, suite_text, &message.server_hello);
-        Content::of_body(alloc, body, rest_of_hello(message), message.body)
+        BodyJson::of_body(alloc, body, rest_of_hello(message), message.body)
     }
 
     /// Parses the body of a message that doesn't depend on others.
@@ -352,16 +367,16 @@ impl<'a> Content<'a> {
         suite_text: SuiteText,
         msg_type: TlsHandshakeType,
         body: &'a [u8],
-    ) -> Content<'a> {
+    ) -> BodyJson<'a> {
         let message = RawHandshake { msg_type, body };
         match message.parse_body() {
-            Ok((rest, read)) => Content::of_body(
+            Ok((rest, read)) => BodyJson::of_body(
                 alloc,
                 body_of(alloc, suite_text, read),
                 rest,
                 body,
             ),
-            Err(_) => Content::of_bytes(alloc, body),
+            Err(_) => BodyJson::of_bytes(alloc, body),
         }
     }
 
@@ -370,14 +385,14 @@ impl<'a> Content<'a> {
     pub fn of_datagrams(
         alloc: Global,
         suite_text: SuiteText,
-        chosen: Option<Chosen>,
+        negotiated: Option<NegotiatedParameters>,
         message: &HandshakeMessage<'a>,
-    ) -> Content<'a> {
+    ) -> BodyJson<'a> {
         match message.msg_type {
             TlsHandshakeType::ClientHello | TlsHandshakeType::HelloVerifyRequest => {
-                Content::of_datagrams_alone(alloc, suite_text, message.msg_type, message.body)
+                BodyJson::of_datagrams_alone(alloc, suite_text, message.msg_type, message.body)
             }
-            _ => Content::new(alloc, suite_text, chosen, message),
+            _ => BodyJson::new(alloc, suite_text, negotiated, message),
         }
     }
 
@@ -387,18 +402,18 @@ impl<'a> Content<'a> {
         suite_text: SuiteText,
         msg_type: TlsHandshakeType,
         body: &'a [u8],
-    ) -> Content<'a> {
+    ) -> BodyJson<'a> {
         let Some(message) = whole_message(msg_type, body) else {
-            return Content::of_bytes(alloc, body);
+            return BodyJson::of_bytes(alloc, body);
         };
         match message.parse_body() {
-            Ok((rest, read)) => Content::of_body(
+            Ok((rest, read)) => BodyJson::of_body(
                 alloc,
                 body_in_datagrams(alloc, suite_text, read),
                 rest,
                 body,
             ),
-            Err(_) => Content::of_bytes(alloc, body),
+            Err(_) => BodyJson::of_bytes(alloc, body),
         }
     }
 }

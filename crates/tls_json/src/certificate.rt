@@ -3,7 +3,7 @@ ghost use Rattle.std.specs.Prelude.{IfOk};
 ghost use Rattle.tls_json.specs.Outline.{HasNames};
 ghost use Rattle.tls_json.specs.Certificates.{certificate_names, extension_names, validity_names};
 
-use crate::json::Value;
+use crate::json::{ParsedValue, Value};
 use crate::table::{Table, Values};
 use crate::text::blob;
 use der::ObjectIdentifier;
@@ -18,9 +18,6 @@ use x509_text::{
     general_name_text, key_curve, key_length, key_usage_bits, name_text, object_short_name,
     object_text, purpose_id, serial_number_text, time_text, version_number,
 };
-
-/// A value by its fields; `None` if it can't be parsed to its end.
-type Answer = Option<Result<Value, AllocError>>;
 
 fn text(made: Result<String, AllocError>) -> Result<Value, AllocError> {
     Ok(Value::Text(made?))
@@ -72,7 +69,7 @@ fn public_key(alloc: Global, info: SubjectPublicKeyInfo<'_>) -> Result<Value, Al
 }
 
 /// Writes GeneralNames (section 4.2.1.6), each as text.
-fn general_names(alloc: Global, value: &[u8]) -> Answer {
+fn general_names(alloc: Global, value: &[u8]) -> ParsedValue {
     let Ok(([], names)) = parse_general_names(value) else {
         return None;
     };
@@ -87,11 +84,11 @@ fn general_names(alloc: Global, value: &[u8]) -> Answer {
 }
 
 /// Writes BasicConstraints (section 4.2.1.9).
-fn basic_constraints(alloc: Global, value: &[u8]) -> Answer {
+fn basic_constraints(alloc: Global, value: &[u8]) -> ParsedValue {
     let Ok(([], constraints)) = parse_basic_constraints(value) else {
         return None;
     };
-    let mut table = Table::new(alloc).add("cA", Ok(Value::Mark(constraints.ca)));
+    let mut table = Table::new(alloc).add("cA", Ok(Value::Boolean(constraints.ca)));
     if let Some(length) = constraints.path_len_constraint {
         table = table.add("pathLenConstraint", text(serial_number_text(alloc, length)));
     }
@@ -99,7 +96,7 @@ fn basic_constraints(alloc: Global, value: &[u8]) -> Answer {
 }
 
 /// Lists the names of the bits that a KeyUsage sets (section 4.2.1.3).
-fn key_usage(alloc: Global, value: &[u8]) -> Answer {
+fn key_usage(alloc: Global, value: &[u8]) -> ParsedValue {
     let Ok(([], usage)) = parse_key_usage(value) else {
         return None;
     };
@@ -113,7 +110,7 @@ fn key_usage(alloc: Global, value: &[u8]) -> Answer {
 }
 
 /// Lists the names of an ExtKeyUsageSyntax's purposes (section 4.2.1.12).
-fn purposes(alloc: Global, value: &[u8]) -> Answer {
+fn purposes(alloc: Global, value: &[u8]) -> ParsedValue {
     let Ok(([], list)) = parse_extended_key_usage(value) else {
         return None;
     };
@@ -128,7 +125,7 @@ fn purposes(alloc: Global, value: &[u8]) -> Answer {
 }
 
 /// Parses the value of an extension by its type.
-fn read_value(alloc: Global, id: ObjectIdentifier<'_>, value: &[u8]) -> Answer {
+fn read_value(alloc: Global, id: ObjectIdentifier<'_>, value: &[u8]) -> ParsedValue {
     let id = id.content;
     if id == oid::SUBJECT_ALT_NAME.content || id == oid::ISSUER_ALT_NAME.content {
         general_names(alloc, value)
@@ -153,7 +150,7 @@ fn extension(alloc: Global, extension: Extension<'_>) -> Result<Value, AllocErro
     };
     Table::new(alloc)
         .add("extnID", named(alloc, extension.extn_id))
-        .add("critical", Ok(Value::Mark(extension.critical)))
+        .add("critical", Ok(Value::Boolean(extension.critical)))
         .add("extnValue", value)
         .finish()
 }

@@ -4,7 +4,7 @@ ghost use Rattle.tls_json.specs.Outline.{Shows, HasNames, ReadsAs};
 ghost use Rattle.tls_json.specs.Extensions.{filter_fields, share_fields};
 ghost use Rattle.tls_json.specs.Extensions as names_of;
 
-use crate::json::Value;
+use crate::json::{ParsedValue, Value};
 use crate::offers;
 use crate::table::{Table, Values, single};
 use crate::text::{blob, blobs, code_text, codes, escaped, numbers};
@@ -32,9 +32,6 @@ pub enum Sender {
     /// A server, in its answer.
     Server,
 }
-
-/// A content by its fields; `None` if it can't be parsed to its end.
-pub type Answer = Option<Result<Value, AllocError>>;
 
 /// Returns a list if it can be parsed whole and ends with its extension.
 fn whole<'a, T: InPlace<'a>>(answer: IResult<&'a [u8], Items<'a, T>>) -> Option<Items<'a, T>> {
@@ -71,7 +68,7 @@ fn server_name(alloc: Global, name_type: u8, host_name: &[u8]) -> Result<Value, 
 }
 
 /// Parses server_name (RFC 6066, section 3).
-fn server_name_list(alloc: Global, content: &[u8]) -> Answer
+fn server_name_list(alloc: Global, content: &[u8]) -> ParsedValue
     ensures { IfSome result (ReadsAs names_of.server_name_list) }
 {
     let list = whole(server_names(content))?;
@@ -83,7 +80,7 @@ fn server_name_list(alloc: Global, content: &[u8]) -> Answer
 }
 
 /// Parses a client's status_request (RFC 6066, section 8).
-fn status_request(alloc: Global, content: &[u8]) -> Answer
+fn status_request(alloc: Global, content: &[u8]) -> ParsedValue
     ensures { IfSome result (ReadsAs names_of.status_request) }
 {
     let [status_type, request @ ..] = content else {
@@ -98,7 +95,7 @@ fn status_request(alloc: Global, content: &[u8]) -> Answer
 }
 
 /// Parses supported_groups (RFC 8446, section 4.2.7).
-fn named_group_list(alloc: Global, content: &[u8]) -> Answer
+fn named_group_list(alloc: Global, content: &[u8]) -> ParsedValue
     ensures { IfSome result (ReadsAs names_of.supported_groups) }
 {
     let list = whole(supported_groups(content))?;
@@ -106,7 +103,7 @@ fn named_group_list(alloc: Global, content: &[u8]) -> Answer
 }
 
 /// Parses ec_point_formats (RFC 8422, section 5.1.2).
-fn point_format_list(alloc: Global, content: &[u8]) -> Answer
+fn point_format_list(alloc: Global, content: &[u8]) -> ParsedValue
     ensures { IfSome result (ReadsAs names_of.ec_point_formats) }
 {
     let formats = whole_bytes(ec_point_formats(content))?;
@@ -114,7 +111,7 @@ fn point_format_list(alloc: Global, content: &[u8]) -> Answer
 }
 
 /// Parses signature_algorithms or signature_algorithms_cert (RFC 8446, section 4.2.3).
-fn schemes(alloc: Global, content: &[u8]) -> Answer
+fn schemes(alloc: Global, content: &[u8]) -> ParsedValue
     ensures { IfSome result (ReadsAs names_of.signature_algorithms) }
 {
     let list = whole(signature_algorithms(content))?;
@@ -126,7 +123,7 @@ fn schemes(alloc: Global, content: &[u8]) -> Answer
 }
 
 /// Parses application_layer_protocol_negotiation (RFC 7301, section 3.1).
-fn protocol_name_list(alloc: Global, content: &[u8]) -> Answer
+fn protocol_name_list(alloc: Global, content: &[u8]) -> ParsedValue
     ensures { IfSome result (ReadsAs names_of.protocol_names) }
 {
     let list = whole::<Counted1>(protocol_names(content))?;
@@ -138,7 +135,7 @@ fn protocol_name_list(alloc: Global, content: &[u8]) -> Answer
 }
 
 /// Parses signed_certificate_timestamp (RFC 6962, section 3.3).
-fn timestamps(alloc: Global, content: &[u8]) -> Answer
+fn timestamps(alloc: Global, content: &[u8]) -> ParsedValue
     ensures { IfSome result (ReadsAs names_of.timestamps) }
 {
     let list = whole_list::<Counted2>(counted2(content))?;
@@ -146,7 +143,7 @@ fn timestamps(alloc: Global, content: &[u8]) -> Answer
 }
 
 /// Parses certificate_authorities (RFC 8446, section 4.2.4).
-fn authorities(alloc: Global, content: &[u8]) -> Answer
+fn authorities(alloc: Global, content: &[u8]) -> ParsedValue
     ensures { IfSome result (ReadsAs names_of.certificate_authorities) }
 {
     let list = whole_list::<Counted2>(counted2(content))?;
@@ -154,7 +151,7 @@ fn authorities(alloc: Global, content: &[u8]) -> Answer
 }
 
 /// Parses a client's supported_versions (RFC 8446, section 4.2.1).
-fn offered_versions(alloc: Global, content: &[u8]) -> Answer
+fn offered_versions(alloc: Global, content: &[u8]) -> ParsedValue
     ensures { IfSome result (ReadsAs names_of.offered_versions) }
 {
     let list = whole_list::<TlsVersion>(counted1(content))?;
@@ -162,7 +159,7 @@ fn offered_versions(alloc: Global, content: &[u8]) -> Answer
 }
 
 /// Parses a content that is one number of 2 bytes, which is written as `0x0304`.
-fn single_code(alloc: Global, name: &'static str, content: &[u8]) -> Answer
+fn single_code(alloc: Global, name: &'static str, content: &[u8]) -> ParsedValue
     ensures { IfSome result (ReadsAs (name.now ∷ [])) }
 {
     let [upper, lower] = content else {
@@ -173,7 +170,7 @@ fn single_code(alloc: Global, name: &'static str, content: &[u8]) -> Answer
 }
 
 /// Parses cookie (RFC 8446, section 4.2.2).
-fn cookie(alloc: Global, content: &[u8]) -> Answer
+fn cookie(alloc: Global, content: &[u8]) -> ParsedValue
     ensures { IfSome result (ReadsAs names_of.cookie) }
 {
     let cookie = whole_bytes(counted2(content))?;
@@ -181,7 +178,7 @@ fn cookie(alloc: Global, content: &[u8]) -> Answer
 }
 
 /// Parses psk_key_exchange_modes (RFC 8446, section 4.2.9).
-fn key_exchange_modes(alloc: Global, content: &[u8]) -> Answer
+fn key_exchange_modes(alloc: Global, content: &[u8]) -> ParsedValue
     ensures { IfSome result (ReadsAs names_of.psk_key_exchange_modes) }
 {
     let modes = whole_bytes(psk_key_exchange_modes(content))?;
@@ -199,7 +196,7 @@ fn filter_of(alloc: Global, filter: &OidFilter<'_>) -> Result<Value, AllocError>
 }
 
 /// Parses oid_filters (RFC 8446, section 4.2.5).
-fn filters(alloc: Global, content: &[u8]) -> Answer
+fn filters(alloc: Global, content: &[u8]) -> ParsedValue
     ensures { IfSome result (ReadsAs names_of.oid_filters) }
 {
     let list = whole::<OidFilter>(oid_filters(content))?;
@@ -221,7 +218,7 @@ fn share_of(alloc: Global, group: NamedGroup, key_exchange: &[u8]) -> Result<Val
 }
 
 /// Parses a client's key_share (RFC 8446, section 4.2.8).
-fn client_shares(alloc: Global, content: &[u8]) -> Answer
+fn client_shares(alloc: Global, content: &[u8]) -> ParsedValue
     ensures { IfSome result (ReadsAs names_of.client_shares) }
 {
     let list = whole(key_shares(content))?;
@@ -233,7 +230,7 @@ fn client_shares(alloc: Global, content: &[u8]) -> Answer
 }
 
 /// Parses a server's key share (RFC 8446, section 4.2.8).
-fn server_share(alloc: Global, content: &[u8]) -> Answer
+fn server_share(alloc: Global, content: &[u8]) -> ParsedValue
     ensures { IfSome result (ReadsAs names_of.server_share) }
 {
     match KeyShareEntry::read(content) {
@@ -247,7 +244,7 @@ fn server_share(alloc: Global, content: &[u8]) -> Answer
 
 /// Parses a server's key_share. In a HelloRetryRequest it is only a group (RFC 8446, section
 /// 4.2.8).
-fn server_key_share(alloc: Global, content: &[u8]) -> Answer {
+fn server_key_share(alloc: Global, content: &[u8]) -> ParsedValue {
     match content {
         [_, _] => single_code(alloc, "selected_group", content),
         _ => server_share(alloc, content),
@@ -255,7 +252,7 @@ fn server_key_share(alloc: Global, content: &[u8]) -> Answer {
 }
 
 /// Parses renegotiation_info (RFC 5746, section 3.2).
-fn renegotiation(alloc: Global, content: &[u8]) -> Answer
+fn renegotiation(alloc: Global, content: &[u8]) -> ParsedValue
     ensures { IfSome result (ReadsAs names_of.renegotiation_info) }
 {
     let bytes = whole_bytes(counted1(content))?;
@@ -263,7 +260,7 @@ fn renegotiation(alloc: Global, content: &[u8]) -> Answer
 }
 
 /// Parses encrypted_server_name (draft-ietf-tls-esni-02, section 5).
-fn encrypted_server_name(alloc: Global, content: &[u8]) -> Answer
+fn encrypted_server_name(alloc: Global, content: &[u8]) -> ParsedValue
     ensures { IfSome result (ReadsAs names_of.encrypted_server_name) }
 {
     let Ok(([], read)) = parse_tls_extension_encrypted_server_name(content) else {
@@ -309,7 +306,7 @@ fn early_data(alloc: Global, max_size: u32) -> Result<Value, AllocError>
 
 /// Parses a content that is one number. max_fragment_length (RFC 6066, section 4) and
 /// record_size_limit (RFC 8449, section 4) are numbers without a field.
-fn of_number(alloc: Global, kind: TlsExtensionType, content: &[u8]) -> Answer {
+fn of_number(alloc: Global, kind: TlsExtensionType, content: &[u8]) -> ParsedValue {
     match (kind, content) {
         (TlsExtensionType::MaxFragmentLength, [code]) => {
             Some(Ok(Value::Number(u64::from(*code))))
@@ -328,7 +325,7 @@ fn of_number(alloc: Global, kind: TlsExtensionType, content: &[u8]) -> Answer {
 }
 
 /// Parses a content whose form depends on its sender.
-fn of_sender(alloc: Global, sender: Sender, kind: TlsExtensionType, content: &[u8]) -> Answer {
+fn of_sender(alloc: Global, sender: Sender, kind: TlsExtensionType, content: &[u8]) -> ParsedValue {
     match (kind, sender) {
         (TlsExtensionType::SupportedVersions, Sender::Client) => offered_versions(alloc, content),
         (TlsExtensionType::SupportedVersions, Sender::Server) => single_code(
@@ -338,15 +335,15 @@ fn of_sender(alloc: Global, sender: Sender, kind: TlsExtensionType, content: &[u
         ),
         (TlsExtensionType::KeyShare, Sender::Client) => client_shares(alloc, content),
         (TlsExtensionType::KeyShare, Sender::Server) => server_key_share(alloc, content),
-        (TlsExtensionType::PreSharedKey, Sender::Client) => offers::known_keys(alloc, content),
-        (TlsExtensionType::PreSharedKey, Sender::Server) => offers::selected_key(alloc, content),
+        (TlsExtensionType::PreSharedKey, Sender::Client) => offers::offered_psks(alloc, content),
+        (TlsExtensionType::PreSharedKey, Sender::Server) => offers::selected_psk(alloc, content),
         (DELEGATED_CREDENTIAL, Sender::Client) => schemes(alloc, content),
         (ENCRYPTED_CLIENT_HELLO, Sender::Client) => offers::encrypted_hello(alloc, content),
         _ => of_number(alloc, kind, content),
     }
 }
 
-fn read(alloc: Global, sender: Sender, kind: TlsExtensionType, content: &[u8]) -> Answer {
+fn read(alloc: Global, sender: Sender, kind: TlsExtensionType, content: &[u8]) -> ParsedValue {
     match kind {
         TlsExtensionType::ServerName if !content.is_empty() => server_name_list(alloc, content),
         TlsExtensionType::StatusRequest => status_request(alloc, content),

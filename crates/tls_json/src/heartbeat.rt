@@ -15,15 +15,15 @@ use tls_hs::TlsMessageHeartbeat;
 /// A heartbeat (RFC 6520, section 4) by its fields, or its bytes in hexadecimal if its payload
 /// isn't whole.
 #[derive(Drop)]
-pub struct HeartbeatMessage {
+pub struct HeartbeatJson {
     value: Value,
 }
 
-impl Described for HeartbeatMessage {
+impl Described for HeartbeatJson {
     ghost writes = { λ h. SendsValue (view h.value) };
 }
 
-impl Serialize for HeartbeatMessage {
+impl Serialize for HeartbeatJson {
     fn serialize<S: Serializer>(&self, out: &mut S) -> Result<(), S::Error> {
         self.value.serialize(out)
     }
@@ -44,18 +44,18 @@ fn fields(
         .finish()
 }
 
-impl HeartbeatMessage {
+impl HeartbeatJson {
     /// Parses the fragment of a record as a heartbeat.
     ///
     /// `AllocError` if memory runs out.
-    pub fn new(alloc: Global, fragment: &[u8]) -> Result<HeartbeatMessage, AllocError> {
+    pub fn new(alloc: Global, fragment: &[u8]) -> Result<HeartbeatJson, AllocError> {
         if let Ok(length) = u16::try_from(fragment.len())
             && let Ok((padding, message)) = tls_hs::heartbeat(fragment, length)
         {
             let value = fields(alloc, &message, padding)?;
-            return Ok(HeartbeatMessage { value });
+            return Ok(HeartbeatJson { value });
         }
         let value = blob(alloc, fragment)?;
-        Ok(HeartbeatMessage { value })
+        Ok(HeartbeatJson { value })
     }
 }

@@ -5,9 +5,13 @@ ghost use Rattle.serde_json.specs.Events.{SendsValue};
 ghost use Rattle.tls_json.specs.Views.{view, items_view, members_view};
 
 use serde::{Described, Serialize, Serializer};
+use std::alloc::AllocError;
 
-/// A field of an object: its name and its value.
-pub type Field = (&'static str, Value);
+/// A member of an object: its name and its value.
+pub type Member = (&'static str, Value);
+
+/// A value that was parsed; `None` if its bytes can't be parsed to their end.
+pub type ParsedValue = Option<Result<Value, AllocError>>;
 
 /// A value of JSON.
 #[derive(Drop)]
@@ -15,15 +19,15 @@ pub enum Value {
     /// A number, in decimal.
     Number(u64),
     /// True or false.
-    Mark(bool),
+    Boolean(bool),
     /// A fixed name.
     Name(&'static str),
     /// A text that was made.
     Text(String),
     /// Values in order.
     List(Vec<Value>),
-    /// Fields in order.
-    Object(Vec<Field>),
+    /// Members in order.
+    Object(Vec<Member>),
 }
 
 impl Described for Value {
@@ -42,7 +46,7 @@ fn print<S: Serializer>(value: &Value, out: &mut S) -> Result<(), S::Error>
 {
     match value {
         Value::Number(number) => out.u64(*number),
-        Value::Mark(mark) => out.bool(*mark),
+        Value::Boolean(boolean) => out.bool(*boolean),
         Value::Name(name) => out.str(name),
         Value::Text(text) => out.str(text.as_str()),
         Value::List(items) => print_items(items, out),
@@ -64,7 +68,7 @@ fn print_items<S: Serializer>(items: &Vec<Value>, out: &mut S) -> Result<(), S::
 
 /// Prints each field once and in order, its name before its value.
 #[cycle(print)]
-fn print_fields<S: Serializer>(fields: &Vec<Field>, out: &mut S) -> Result<(), S::Error>
+fn print_fields<S: Serializer>(fields: &Vec<Member>, out: &mut S) -> Result<(), S::Error>
     ensures { OnOk result
         (SendsValue (object (members_view fields.now.items)) (S.written out.old)
         (S.written out.new)) }

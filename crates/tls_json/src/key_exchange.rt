@@ -1,18 +1,18 @@
-//! Key exchanges and signatures. Their fields depend on what the server chose.
+//! Key exchanges and signatures. Their fields depend on the negotiated version and cipher suite.
 ghost use Rattle.std.specs.Prelude.{IfOk, ◌++◌, List, ℕ, codes};
 ghost use Rattle.tls_json.specs.Outline.{Shows, HasNames, HasFieldNames, IfRead, IfMore};
 ghost use Rattle.tls_json.specs.Tables.{coefficients_fields, explicit_prime_fields, named_curve_fields, curve_fields, dh_fields, ecdh_fields, signature_fields, names_if, params_names, server_key_exchange_names, client_value_names, client_key_exchange_names};
 
-use crate::chosen::Chosen;
 use crate::json::Value;
+use crate::negotiated::NegotiatedParameters;
 use crate::table::Table;
 use crate::text::{blob, escaped};
 use layouts::{counted1, counted2};
 use std::alloc::{AllocError, Global};
-use tls_base::{
-    ECParameters, ECParametersContent, ExplicitPrimeContent, KeyExchange, Public, ServerDHParams,
-    ServerECDHParams, TlsVersion, parse_dh_params, parse_digitally_signed,
-    parse_digitally_signed_old, parse_ecdh_params,
+use tls_base::{KeyExchange, Public, TlsVersion};
+use tls_key_exchange::{
+    ECParameters, ECParametersContent, ExplicitPrimeContent, ServerDHParams, ServerECDHParams,
+    parse_dh_params, parse_digitally_signed, parse_digitally_signed_old, parse_ecdh_params,
 };
 
 /// The bytes that are left, and the value; `None` if it can't be parsed.
@@ -204,12 +204,16 @@ fn server_fields<'a>(
 /// Parses a ServerKeyExchange (RFC 5246, section 7.4.3; RFC 8422, section 5.4; RFC 4279, sections 2
 /// to 4; RFC 5489, section 2). With RSA alone only export suites have one, whose values aren't
 /// parsed.
-pub fn server_key_exchange<'a>(alloc: Global, chosen: Chosen, body: &'a [u8]) -> Read<'a> {
-    let exchange = KeyExchange::of(chosen.cipher)?;
+pub fn server_key_exchange<'a>(
+    alloc: Global,
+    negotiated: NegotiatedParameters,
+    body: &'a [u8],
+) -> Read<'a> {
+    let exchange = KeyExchange::of(negotiated.cipher)?;
     if matches!(exchange.public, Public::Rsa) && !exchange.has_identity {
         return None;
     }
-    server_fields(alloc, exchange, chosen.version, body)
+    server_fields(alloc, exchange, negotiated.version, body)
 }
 
 /// Parses a client's public value or encrypted secret, if the suite has one. In SSL 3.0 the secret
@@ -265,7 +269,11 @@ fn client_fields<'a>(
 /// Parses a ClientKeyExchange (RFC 5246, section 7.4.7; RFC 8422, section 5.7; RFC 4279, sections 2
 /// to 4; RFC 5489, section 2). It is empty if the public value is in the client's certificate (RFC
 /// 5246, section 7.4.7.2), and then isn't parsed.
-pub fn client_key_exchange<'a>(alloc: Global, chosen: Chosen, body: &'a [u8]) -> Read<'a> {
-    let exchange = KeyExchange::of(chosen.cipher)?;
-    client_fields(alloc, exchange, chosen.version, body)
+pub fn client_key_exchange<'a>(
+    alloc: Global,
+    negotiated: NegotiatedParameters,
+    body: &'a [u8],
+) -> Read<'a> {
+    let exchange = KeyExchange::of(negotiated.cipher)?;
+    client_fields(alloc, exchange, negotiated.version, body)
 }

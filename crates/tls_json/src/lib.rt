@@ -1,7 +1,7 @@
 //! Messages of TLS and DTLS as JSON, each field by the name that its RFC gives it.
 //!
-//! [`Message`] is a handshake message, [`AlertMessage`] an alert; [`ChangeCipherSpec`] and
-//! [`HeartbeatMessage`] are the other two. `serde` writes them:
+//! [`HandshakeJson`] is a handshake message, [`AlertJson`] an alert, [`ChangeCipherSpecJson`] a
+//! ChangeCipherSpec, and [`HeartbeatJson`] a heartbeat. `serde` writes them:
 //!
 //! - a cipher suite by its name in IANA's registry or by its number, as [`SuiteText`] says;
 //! - other numbers of 2 bytes that stand for something, such as versions and groups, in
@@ -14,8 +14,8 @@
 //! A message is a table of fields, which one printer writes. `specs/Tables.antt` defines the fields
 //! of each message.
 //!
-//! Key exchanges and signatures depend on what the server chose: [`Chosen`] has that of a
-//! ServerHello.
+//! The fields of key exchanges and signatures depend on the version and the cipher suite of the
+//! ServerHello: [`NegotiatedParameters`].
 //!
 //! Nothing is left out. A body or an extension that can't be parsed is its bytes in hexadecimal.
 //! Bytes after the last field of a body are in `rest` beside the body. Bytes that the last list of
@@ -26,7 +26,6 @@ mod alert;
 mod body;
 mod certificate;
 mod change;
-mod chosen;
 mod content;
 mod datagrams;
 mod extension;
@@ -35,14 +34,15 @@ mod hello;
 mod json;
 mod key_exchange;
 mod message;
+mod negotiated;
 mod offers;
 mod suite;
 mod table;
 mod text;
 
-pub use alert::AlertMessage;
-pub use change::ChangeCipherSpec;
-pub use chosen::Chosen;
-pub use heartbeat::HeartbeatMessage;
-pub use message::Message;
+pub use alert::AlertJson;
+pub use change::ChangeCipherSpecJson;
+pub use heartbeat::HeartbeatJson;
+pub use message::HandshakeJson;
+pub use negotiated::NegotiatedParameters;
 pub use suite::SuiteText;

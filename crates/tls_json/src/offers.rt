@@ -4,8 +4,7 @@ ghost use Rattle.tls_json.specs.Outline.{Shows, ReadsAs};
 ghost use Rattle.tls_json.specs.Extensions.{identity_fields, suite_fields, encrypted_hello_fields};
 ghost use Rattle.tls_json.specs.Extensions as names_of;
 
-use crate::content::Answer;
-use crate::json::Value;
+use crate::json::{ParsedValue, Value};
 use crate::table::{Table, Values, single};
 use crate::text::{blob, numbers};
 use layouts::{Counted1, Items, counted1, counted2, number4};
@@ -26,21 +25,21 @@ fn identity_of(alloc: Global, identity: &[u8], age: u32) -> Result<Value, AllocE
 
 /// Parses a list of PskIdentity (RFC 8446, section 4.2.11); `None` if it can't be parsed to its
 /// end.
-fn identities(alloc: Global, list: &[u8]) -> Answer {
+fn identities(alloc: Global, list: &[u8]) -> ParsedValue {
     let mut all = Values::new(alloc);
-    let mut left = list;
+    let mut rest = list;
     for _ in 0..list.len() {
-        if left.is_empty() {
+        if rest.is_empty() {
             break;
         }
-        let Ok((i, identity)) = counted2(left) else {
+        let Ok((i, identity)) = counted2(rest) else {
             return None;
         };
         let Ok((i, age)) = number4(i) else {
             return None;
         };
         all = all.add(identity_of(alloc, identity, age));
-        left = i;
+        rest = i;
     }
     Some(all.finish())
 }
@@ -55,30 +54,30 @@ fn binders(alloc: Global, list: Items<'_, Counted1>) -> Result<Value, AllocError
 }
 
 /// Parses a client's pre_shared_key: identities and binders (RFC 8446, section 4.2.11).
-pub fn known_keys(alloc: Global, content: &[u8]) -> Answer
+pub fn offered_psks(alloc: Global, content: &[u8]) -> ParsedValue
     ensures { IfSome result (ReadsAs names_of.offered_psks) }
 {
     let Ok((i, list)) = counted2(content) else {
         return None;
     };
-    let Ok(([], shown)) = counted2(i) else {
+    let Ok(([], binder_list)) = counted2(i) else {
         return None;
     };
-    let list_of_binders: Items<Counted1> = Items::new(shown);
-    if !list_of_binders.rest().is_empty() {
+    let all_binders: Items<Counted1> = Items::new(binder_list);
+    if !all_binders.rest().is_empty() {
         return None;
     }
     let identities = identities(alloc, list)?;
     Some(
         Table::new(alloc)
             .add("identities", identities)
-            .add("binders", binders(alloc, list_of_binders))
+            .add("binders", binders(alloc, all_binders))
             .finish(),
     )
 }
 
 /// Parses a server's pre_shared_key: the identity that it selected (RFC 8446, section 4.2.11).
-pub fn selected_key(alloc: Global, content: &[u8]) -> Answer
+pub fn selected_psk(alloc: Global, content: &[u8]) -> ParsedValue
     ensures { IfSome result (ReadsAs names_of.selected_identity) }
 {
     let [upper, lower] = content else {
@@ -93,7 +92,7 @@ pub fn selected_key(alloc: Global, content: &[u8]) -> Answer
 }
 
 /// Parses compress_certificate (RFC 8879, section 3).
-pub fn compressions(alloc: Global, content: &[u8]) -> Answer
+pub fn compressions(alloc: Global, content: &[u8]) -> ParsedValue
     ensures { IfSome result (ReadsAs names_of.compress_certificate) }
 {
     let Ok(([], list)) = counted1(content) else {
@@ -111,7 +110,7 @@ pub fn compressions(alloc: Global, content: &[u8]) -> Answer
 }
 
 /// Parses use_srtp (RFC 5764, section 4.1.1).
-pub fn srtp_profiles(alloc: Global, content: &[u8]) -> Answer
+pub fn srtp_profiles(alloc: Global, content: &[u8]) -> ParsedValue
     ensures { IfSome result (ReadsAs names_of.use_srtp) }
 {
     let Ok((i, list)) = counted2(content) else {
@@ -132,7 +131,7 @@ pub fn srtp_profiles(alloc: Global, content: &[u8]) -> Answer
 }
 
 /// Parses connection_id (RFC 9146, section 3).
-pub fn connection_id(alloc: Global, content: &[u8]) -> Answer
+pub fn connection_id(alloc: Global, content: &[u8]) -> ParsedValue
     ensures { IfSome result (ReadsAs names_of.connection_id) }
 {
     let Ok(([], cid)) = counted1(content) else {
@@ -175,7 +174,7 @@ fn outer_fields(alloc: Global, parts: &Outer<'_>) -> Result<Value, AllocError>
 }
 
 /// Parses an outer encrypted_client_hello (RFC 9849, section 5).
-pub fn encrypted_hello(alloc: Global, content: &[u8]) -> Answer
+pub fn encrypted_hello(alloc: Global, content: &[u8]) -> ParsedValue
     ensures { IfSome result (ReadsAs names_of.encrypted_client_hello) }
 {
     let [

@@ -3,7 +3,7 @@ ghost use Rattle.std.specs.Prelude.{IfOk, ◌++◌, ◌∷◌, [], List, ℕ};
 ghost use Rattle.serde_json.specs.Data.{Data, array, no_items};
 ghost use Rattle.tls_json.specs.Outline.{Shows, Entries, object_of, decimal, hexadecimal, suite, bytes, some_decimal, some_hexadecimal, some_bytes, bytes_if, some_name, HasNames, HasEntries, IsNamed, HasFields, HasFieldNames};
 
-use crate::json::{Field, Value};
+use crate::json::{Member, Value};
 use crate::suite::{SuiteText, suite_value};
 use crate::text::{blob, code_text};
 use std::alloc::{AllocError, Global};
@@ -13,15 +13,15 @@ use tls_base::TlsCipherSuiteID;
 #[derive(Drop)]
 pub struct Table {
     alloc: Global,
-    fields: Result<Vec<Field>, AllocError>,
+    fields: Result<Vec<Member>, AllocError>,
 }
 
 /// Appends a field.
 fn with_field(
-    fields: Result<Vec<Field>, AllocError>,
+    fields: Result<Vec<Member>, AllocError>,
     name: &'static str,
     value: Result<Value, AllocError>,
-) -> Result<Vec<Field>, AllocError>
+) -> Result<Vec<Member>, AllocError>
     ensures fields { (es : Entries) → (d : Data) → IfOk fields.entry (HasEntries es)
         → IfOk value (Shows d)
         → IfOk result (HasEntries (es ++ (name.now, d) ∷ [])) }

@@ -17,10 +17,10 @@ pub use Rattle.layouts.specs.Text
 pub use Rattle.layouts.specs.Writer
 pub use Rattle.tls_base.specs.Names
 pub use Rattle.tls_base.specs.Constants
-pub use Rattle.tls_base.specs.KeyExchange
+pub use Rattle.tls_key_exchange.specs.KeyExchange
 pub use Rattle.tls_base.specs.Alert
-pub use Rattle.tls_base.specs.Signature
-pub use Rattle.tls_base.specs.Timestamp
+pub use Rattle.tls_key_exchange.specs.Signature
+pub use Rattle.tls_key_exchange.specs.Timestamp
 pub use Rattle.tls_base.specs.Cipher
 pub use Rattle.tls_base.specs.CipherTable
 pub use Rattle.tls_ext.specs.Extension

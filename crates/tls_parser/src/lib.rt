@@ -27,17 +27,19 @@ pub use layouts::GenError;
 // Numbers with names, key exchange, signatures, timestamps, cipher suites.
 pub use tls_base::{
     CertificateStatusType, CipherSuiteNotFound, CipherTable, CipherTableError, CipherTableFault,
-    CtExtensions, CtLogID, CtVersion, DigitallySigned, ECCurve, ECCurveType, ECParameters,
-    ECParametersContent, ECPoint, Err, Error, ErrorKind, ExplicitPrimeContent, HashAlgorithm,
-    IResult, NamedGroup, Needed, OutOfMemory, PskKeyExchangeMode, SNIType, ServerDHParams,
-    ServerECDHParams, SignAlgorithm, SignatureAndHashAlgorithm, SignatureScheme,
-    SignedCertificateTimestamp, TlsAlertDescription, TlsAlertSeverity, TlsCipherAu, TlsCipherEnc,
-    TlsCipherEncMode, TlsCipherKx, TlsCipherMac, TlsCipherSuite, TlsCipherSuiteID,
-    TlsCompressionID, TlsExtensionType, TlsHandshakeType, TlsHeartbeatMessageType, TlsMessageAlert,
-    TlsPRF, TlsRecordType, TlsVersion, UnknownNumber, parse_content_and_signature,
-    parse_ct_signed_certificate_timestamp, parse_ct_signed_certificate_timestamp_list,
-    parse_dh_params, parse_digitally_signed, parse_digitally_signed_old, parse_ec_parameters,
-    parse_ecdh_params, parse_named_groups,
+    CtVersion, ECCurveType, ECPoint, Err, Error, ErrorKind, HashAlgorithm, IResult, NamedGroup,
+    Needed, OutOfMemory, PskKeyExchangeMode, SNIType, SignAlgorithm, SignatureScheme,
+    TlsAlertDescription, TlsAlertSeverity, TlsCipherAu, TlsCipherEnc, TlsCipherEncMode,
+    TlsCipherKx, TlsCipherMac, TlsCipherSuite, TlsCipherSuiteID, TlsCompressionID,
+    TlsExtensionType, TlsHandshakeType, TlsHeartbeatMessageType, TlsMessageAlert, TlsPRF,
+    TlsRecordType, TlsVersion, UnknownNumber,
+};
+pub use tls_key_exchange::{
+    CtExtensions, CtLogID, DigitallySigned, ECCurve, ECParameters, ECParametersContent,
+    ExplicitPrimeContent, ServerDHParams, ServerECDHParams, SignatureAndHashAlgorithm,
+    SignedCertificateTimestamp, parse_content_and_signature, parse_ct_signed_certificate_timestamp,
+    parse_ct_signed_certificate_timestamp_list, parse_dh_params, parse_digitally_signed,
+    parse_digitally_signed_old, parse_ec_parameters, parse_ecdh_params, parse_named_groups,
 };
 
 // Extensions.
@@ -69,21 +71,23 @@ pub use tls_hs::{
     TlsClientKeyExchangeContents, TlsHelloRetryRequestContents, TlsMessage,
     TlsMessageApplicationData, TlsMessageHandshake, TlsMessageHeartbeat,
     TlsNewSessionTicketContent, TlsNextProtocolContent, TlsServerHelloContents,
-    TlsServerHelloV13Draft18Contents, TlsServerKeyExchangeContents, gen_tls_clienthello,
-    gen_tls_clientkeyexchange, gen_tls_finished, gen_tls_hellorequest, gen_tls_serverhello,
-    gen_tls_serverhellodraft18, parse_tls_handshake_certificaterequest,
-    parse_tls_handshake_certificatestatus, parse_tls_handshake_client_hello,
-    parse_tls_handshake_msg_certificate, parse_tls_handshake_msg_certificaterequest,
-    parse_tls_handshake_msg_certificatestatus, parse_tls_handshake_msg_certificateverify,
-    parse_tls_handshake_msg_client_hello, parse_tls_handshake_msg_clientkeyexchange,
-    parse_tls_handshake_msg_finished, parse_tls_handshake_msg_hello_request,
-    parse_tls_handshake_msg_hello_retry_request, parse_tls_handshake_msg_key_update,
-    parse_tls_handshake_msg_newsessionticket, parse_tls_handshake_msg_next_protocol,
-    parse_tls_handshake_msg_server_hello, parse_tls_handshake_msg_server_hello_of_draft,
-    parse_tls_handshake_msg_serverdone, parse_tls_handshake_msg_serverkeyexchange,
-    parse_tls_handshake_next_protocol, parse_tls_handshake_server_hello, parse_tls_message_alert,
-    parse_tls_message_applicationdata, parse_tls_message_changecipherspec,
-    parse_tls_message_handshake, parse_tls_message_heartbeat,
+    TlsServerHelloV13Draft18Contents, TlsServerKeyExchangeContents,
+    parse_tls_handshake_certificaterequest, parse_tls_handshake_certificatestatus,
+    parse_tls_handshake_client_hello, parse_tls_handshake_msg_certificate,
+    parse_tls_handshake_msg_certificaterequest, parse_tls_handshake_msg_certificatestatus,
+    parse_tls_handshake_msg_certificateverify, parse_tls_handshake_msg_client_hello,
+    parse_tls_handshake_msg_clientkeyexchange, parse_tls_handshake_msg_finished,
+    parse_tls_handshake_msg_hello_request, parse_tls_handshake_msg_hello_retry_request,
+    parse_tls_handshake_msg_key_update, parse_tls_handshake_msg_newsessionticket,
+    parse_tls_handshake_msg_next_protocol, parse_tls_handshake_msg_server_hello,
+    parse_tls_handshake_msg_server_hello_of_draft, parse_tls_handshake_msg_serverdone,
+    parse_tls_handshake_msg_serverkeyexchange, parse_tls_handshake_next_protocol,
+    parse_tls_handshake_server_hello, parse_tls_message_alert, parse_tls_message_applicationdata,
+    parse_tls_message_changecipherspec, parse_tls_message_handshake, parse_tls_message_heartbeat,
+};
+pub use tls_hs_writer::{
+    gen_tls_clienthello, gen_tls_clientkeyexchange, gen_tls_finished, gen_tls_hellorequest,
+    gen_tls_serverhello, gen_tls_serverhellodraft18,
 };
 
 // The handshake's state machine.
@@ -91,7 +95,6 @@ pub use tls_states::{ParseContext, StateChangeError, TlsState, tls_state_transit
 
 // Parsing in place.
 pub use layouts::{Counted1, Counted2, InPlace, Items, Place};
-pub use tls_base::certificate_timestamps;
 pub use tls_ext::{
     ExtensionType, RawExtension, ServerName, application_protocols, best_version, ec_point_formats,
     extension_types, extensions, first_content, key_shares, oid_filters, protocol_names,
@@ -102,3 +105,4 @@ pub use tls_hs::{
     Alert, CertificateRequestView, ChangeCipherSpec, ClientHelloPlaces, ClientHelloView,
     HandshakeView, Messages, RawHandshake, RawMessage, certificates, heartbeat,
 };
+pub use tls_key_exchange::certificate_timestamps;

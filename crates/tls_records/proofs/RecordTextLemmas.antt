@@ -25,7 +25,7 @@ use Rattle.layouts.proofs.TextLemmas.{list_whole, First, Second, picked}
 use Rattle.tls_hs.specs.Message as message
 use Rattle.tls_hs.specs.Handshake.{Handshake}
 use Rattle.tls_hs.specs.HandshakeText.{msg_type_of, body_text}
-use Rattle.tls_hs.proofs.HandshakeTextLemmas.{handshake_reads, handshake_whole}
+use Rattle.tls_hs_writer.proofs.HandshakeTextLemmas.{handshake_reads, handshake_whole}
 use Rattle.raw_records.specs.Framing.{max_fragment_length}
 use Rattle.raw_records.specs.RawRecord.{RecordHeader, record_header}
 use Rattle.tls_records.specs.Record.{Plaintext, record_content, plaintext}

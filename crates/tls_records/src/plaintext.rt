@@ -118,7 +118,8 @@ pub fn parse_tls_record_with_header<'a>(
     i: &'a [u8],
     hdr: &TlsRecordHeader,
 ) -> IResult<&'a [u8], Vec<TlsMessage<'a>>>
-    ensures gives { GivesOrMemory (λ v. map view_message v.items) (record_content (view_header hdr.now))
+    ensures gives { GivesOrMemory (λ v. map view_message v.items)
+        (record_content (view_header hdr.now))
         i.now result }
     ensures never_incomplete { AsksNoMore result }
 {
@@ -137,7 +138,8 @@ pub fn parse_tls_record_with_header<'a>(
 #[inline(never)]
 fn record_with_messages(alloc: Global, i: &[u8]) -> IResult<&[u8], TlsPlaintext>
     ensures gives { GivesOrMemory view_plaintext plaintext i.now result }
-    ensures never_out_of_memory_without_raw_record { IsErr (reading raw_record i.now) → MemorySufficed result }
+    ensures never_out_of_memory_without_raw_record { IsErr (reading raw_record i.now)
+        → MemorySufficed result }
 {
     let (i, TlsRawRecord { hdr, bytes }) = parse_tls_raw_record(i)?;
     let (_, msg) = parse_tls_record_with_header(alloc, bytes, &hdr)?;

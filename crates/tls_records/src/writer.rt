@@ -17,7 +17,7 @@ ghost use Rattle.layouts.specs.Writer.{Builds, Writes};
 ghost use Rattle.layouts.specs.declared.writer.GenError.{GenError as Cause};
 ghost use Rattle.tls_hs.specs.Handshake.{view_handshake};
 ghost use Rattle.tls_hs.specs.HandshakeText.{handshake_text, FitsHandshake, InRangeHandshake, refusal_of_handshake};
-ghost use Rattle.tls_hs.specs.HandshakeWriter.{BuildsHandshake};
+ghost use Rattle.tls_hs_writer.specs.HandshakeWriter.{BuildsHandshake};
 ghost use Rattle.tls_hs.specs.Message.{view_message, ChangeCipherSpec};
 ghost use Rattle.tls_records.specs.Record.{view_plaintext};
 ghost use Rattle.tls_records.specs.RecordText.{message_text, FitsMessage, refusal_of_message, plaintext_text};
@@ -32,9 +32,9 @@ use layouts::writer::builder::{append1, append2};
 use layouts::{GenError, write_whole};
 use std::alloc::Global;
 use std::io::Write;
-use tls_hs::writer::builder::append_handshake;
-use tls_hs::writer::judge::handshake_len;
 use tls_hs::{TlsMessage, TlsMessageHandshake};
+use tls_hs_writer::writer::builder::append_handshake;
+use tls_hs_writer::writer::judge::handshake_len;
 
 mod builder;
 mod judge;
@@ -58,7 +58,8 @@ pub trait Serialize {
 
 /// Returns the encoding of a handshake message.
 fn handshake_bytes(alloc: Global, m: &TlsMessageHandshake) -> Result<Vec<u8>, GenError>
-    ensures builds { BuildsHandshake (view_handshake m.now) (result_map_both (λ v. v.items) (λ e. e) result) }
+    ensures builds { BuildsHandshake (view_handshake m.now)
+        (result_map_both (λ v. v.items) (λ e. e) result) }
     ensures range { IfOk result (λ _. InRangeHandshake (view_handshake m.now)) }
 {
     let n = handshake_len(m)?;
@@ -80,7 +81,8 @@ fn message_bytes(alloc: Global, m: &TlsMessage) -> Result<Vec<u8>, GenError>
 /// Returns the encoding of a record.
 #[tactic(auto, unfolding(crate::specs::RecordText::plaintext_text))]
 fn plaintext_bytes(alloc: Global, p: &TlsPlaintext) -> Result<Vec<u8>, GenError>
-    ensures builds { BuildsPlaintext (view_plaintext p.now) (result_map_both (λ v. v.items) (λ e. e) result) }
+    ensures builds { BuildsPlaintext (view_plaintext p.now)
+        (result_map_both (λ v. v.items) (λ e. e) result) }
     ensures range { IfOk result (λ _. InRangePlaintext (view_plaintext p.now)) }
 {
     let n = fragment_len(&p.msg)?;
@@ -111,7 +113,8 @@ impl<'a> Serialize for TlsMessageHandshake<'a> {
     fn serialize(&self, alloc: Global) -> Result<Vec<u8>, GenError>
         ensures text { BuildsHandshake (view_handshake self.now)
             (result_map_both (λ v. v.items) (λ e. e) result) }
-        ensures read_back { IfOk result (λ v. HandshakeReadsBack (view_handshake self.now) v.items) }
+        ensures read_back { IfOk result
+            (λ v. HandshakeReadsBack (view_handshake self.now) v.items) }
     {
         handshake_bytes(alloc, self)
     }
@@ -143,7 +146,8 @@ impl<'a> Serialize for TlsPlaintext<'a> {
     fn serialize(&self, alloc: Global) -> Result<Vec<u8>, GenError>
         ensures builds { BuildsPlaintext (view_plaintext self.now)
             (result_map_both (λ v. v.items) (λ e. e) result) }
-        ensures read_back { IfOk result (λ v. PlaintextReadsBack (view_plaintext self.now) v.items) }
+        ensures read_back { IfOk result
+            (λ v. PlaintextReadsBack (view_plaintext self.now) v.items) }
     {
         plaintext_bytes(alloc, self)
     }

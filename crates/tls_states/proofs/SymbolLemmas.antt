@@ -67,7 +67,10 @@ abbrev pub symbols : List Symbol
 symbols = map (λ k. symbol k ToServer) kinds ++ map (λ k. symbol k FromServer) kinds
 
 all_in : (k : Kind) (d : Direction) → is_in same_symbol symbols (symbol k d) ≡ true
-all_in = elim [ HelloRequest ↦ elim [ ToServer ↦ refl | _ ↦ refl ] | _ ↦ elim [ ToServer ↦ refl | _ ↦ refl ] ]
+all_in = elim [
+  | HelloRequest ↦ elim [ ToServer ↦ refl | _ ↦ refl ]
+  | _ ↦ elim [ ToServer ↦ refl | _ ↦ refl ]
+]
 
 listed : (l : Symbol) → is_in same_symbol symbols l ≡ true
 listed (symbol k d) = all_in k d

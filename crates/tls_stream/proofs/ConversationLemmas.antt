@@ -42,26 +42,22 @@ use Rattle.tls_flow.specs.Steps.{follow}
 use Rattle.tls_flow.specs.Table.{outcome_at}
 use Rattle.tls_flow.specs.declared.event.FlowEvent.{FlowEvent}
 use Rattle.tls_flow.specs.declared.symbol.Direction.{Direction as Side}
-use Rattle.tls_flow.specs.declared.symbol.Direction.TheVariants.{ToServer, FromServer}
 use Rattle.tls_flow.proofs.FlowLemmas.{told_of_flow}
 use Rattle.tls_stream.specs.Conversations.{
   FollowsPieces,
   IsBegun,
   IsBehind,
-  IsEventOf,
   IsFedBy,
-  IsFollowed,
   IsPieceFollowed,
   IsOutcomeOf,
   IsTakenBy,
-  IsToldIf,
   Drains,
   ear,
-  other,
-  tells,
   views,
 }
-use Rattle.tls_stream.specs.Ears.{IsReady, IsTaken, first_in, front_of, says}
+use Rattle.tls_stream.specs.Readers.{IsEventOf, IsToldIf, tells}
+use Rattle.tls_stream.specs.Readers as readers
+use Rattle.tls_stream.specs.Ears.{IsReady, first_in, front_of, says}
 use Rattle.tls_stream.specs.FlowEvents.{chooses_tls13, event_of}
 use Rattle.tls_stream.specs.declared.conversation.Conversation.{Conversation}
 use Rattle.tls_stream.specs.declared.side_reader.SideReader.{SideReader}
@@ -108,127 +104,31 @@ outcome_is c d limit ps es begun h = (
       (outcome_at d.flow.state)).0 refl,
 )
 
--- An event is taken from a side and followed.
-each_told : (c d : Conversation) (e : FlowEvent) → IsFollowed c e d → (s : Side)
-    → IsToldIf (tells c e) (ear c s) (ear d s)
-each_told c d e f ToServer = f.client
-each_told c d e f FromServer = f.server
-
-pub behind_is : (c m d : Conversation) (s : Side) (v : Said) (e : FlowEvent) (t : Bool)
-    → Some v ≡ front_of (ear c s) → e ≡ event_of s v
-    → IsTaken (front_of (ear c s)) (ear c s) t (ear m s)
-    → ear m (other s) ≡ ear c (other s) → m.is_tls13 ≡ c.is_tls13 → m.flow ≡ c.flow
-    → IsFollowed m e d
-    → IsTakenBy (front_of (ear c s)) c s true d
-behind_is c m d s v e t front is off same tls flow f =
-    let tells_same : tells m e ≡ tells c (event_of s v)
-    = ap (λ b. not b && chooses_tls13 e.symbol.kind e.symbol.direction) tls
-    ∙ ap (λ (x : FlowEvent). not c.is_tls13 && chooses_tls13 x.symbol.kind x.symbol.direction) is in
-    let told : (r : Side) → IsToldIf (tells c (event_of s v)) (ear m r) (ear d r)
-    = λ r. subst (λ t. IsToldIf t (ear m r) (ear d r)) tells_same (each_told m d e f r) in
-    let first : IsTaken (Some v) (ear c s) t (ear m s) =
-    subst (λ o. IsTaken o (ear c s) t (ear m s)) (sym front) off in
-    subst (λ o. IsTakenBy o c s true d) front (
-      refl,
-      record {
-        side = (ear m s, first.1, told s);
-        other = subst (λ x. IsToldIf (tells c (event_of s v)) x (ear d (other s))) same
-            (told (other s));
-        is_tls13 = f.is_tls13 ∙ ap (λ b. b || tells m e) tls ∙ ap (λ b. c.is_tls13 || b) tells_same;
-        flow = f.flow ∙ ap (λ x. follow x e) flow ∙ ap (follow c.flow) is;
-      },
-    )
-
-pub at_client : (c m d : Conversation) (s : Side) (v : Said) (e : FlowEvent) (t : Bool)
-    (n : SideReader)
-    → s ≡ ToServer
-    → m ≡ record c { client = n }
-    → Some v ≡ front_of (ear c s) → e ≡ event_of s v → IsTaken (front_of c.client) c.client t n
-    → IsFollowed m e d
-    → IsTakenBy (front_of (ear c s)) c s true d
-at_client c m d s v e t n at is front e_is off f =
-    subst (λ s. Some v ≡ front_of (ear c s) → e ≡ event_of s v
-    → IsTakenBy (front_of (ear c s)) c s true d) (sym at)
-    (λ front e_is. behind_is c m d ToServer v e t front e_is
-    (subst (λ x. IsTaken (front_of c.client) c.client t x)
-    (sym (ap (λ (x : Conversation). x.client) is)) off)
-    (ap (λ (x : Conversation). x.server) is) (ap (λ (x : Conversation). x.is_tls13) is)
-    (ap (λ (x : Conversation). x.flow) is) f)
-    front e_is
-
-pub at_server : (c m d : Conversation) (s : Side) (v : Said) (e : FlowEvent) (t : Bool)
-    (n : SideReader)
-    → s ≡ FromServer
-    → m ≡ record c { server = n }
-    → Some v ≡ front_of (ear c s) → e ≡ event_of s v → IsTaken (front_of c.server) c.server t n
-    → IsFollowed m e d
-    → IsTakenBy (front_of (ear c s)) c s true d
-at_server c m d s v e t n at is front e_is off f =
-    subst (λ s. Some v ≡ front_of (ear c s) → e ≡ event_of s v
-    → IsTakenBy (front_of (ear c s)) c s true d) (sym at)
-    (λ front e_is. behind_is c m d FromServer v e t front e_is
-    (subst (λ x. IsTaken (front_of c.server) c.server t x)
-    (sym (ap (λ (x : Conversation). x.server) is)) off)
-    (ap (λ (x : Conversation). x.client) is) (ap (λ (x : Conversation). x.is_tls13) is)
-    (ap (λ (x : Conversation). x.flow) is) f)
-    front e_is
-
--- A side's next event was taken and followed.
-pub client_taken : (c m d : Conversation) (s : Side) (e : FlowEvent) (t : Bool) (n : SideReader)
-    → s ≡ ToServer
-    → m ≡ record c { client = n } → IsTaken (front_of c.client) c.client t n → t ≡ true
-    → IsFollowed m e d
+-- The reader took an event, which was followed.
+pub event_followed : (c d : Conversation) (s : Side) (e : FlowEvent) (t : Bool)
+    → (IsEventOf e s (front_of (ear c s))
+    → readers.IsTakenBy (front_of (ear c s)) c.reader s t d.reader)
+    → t ≡ true → d.flow ≡ follow c.flow e
     → IsEventOf e s (front_of (ear c s)) → IsTakenBy (front_of (ear c s)) c s true d
-client_taken c m d s e t n at is off took f same =
-    subst (λ s. IsEventOf e s (front_of (ear c s)) → IsTakenBy (front_of (ear c s)) c s true d)
-    (sym at)
-    (by (front_of c.client) refl off) same
+event_followed c d s e t taken took flow is = go (front_of (ear c s)) is (taken is)
   where
-    by : (o : Option Said) → front_of c.client ≡ o → IsTaken o c.client t n
-        → IsEventOf e ToServer (front_of c.client) → IsTakenBy (front_of c.client) c ToServer true d
-    by None front none same = let bad : true ≡ false = sym took ∙ none.0 in absurd cc
-    by (Some v) front some same =
-        at_client c m d ToServer v e t n refl is (sym front)
-        (subst (IsEventOf e ToServer) front same) off f
+    go : (o : Option Said) → IsEventOf e s o → readers.IsTakenBy o c.reader s t d.reader
+        → IsTakenBy o c s true d
+    go None is none = let bad : true ≡ false = sym took ∙ none.0 in absurd cc
+    go (Some v) is some =
+        (refl, record { reader = some.1; flow = flow ∙ ap (follow c.flow) is })
 
-pub server_taken : (c m d : Conversation) (s : Side) (e : FlowEvent) (t : Bool) (n : SideReader)
-    → s ≡ FromServer
-    → m ≡ record c { server = n } → IsTaken (front_of c.server) c.server t n → t ≡ true
-    → IsFollowed m e d
-    → IsEventOf e s (front_of (ear c s)) → IsTakenBy (front_of (ear c s)) c s true d
-server_taken c m d s e t n at is off took f same =
-    subst (λ s. IsEventOf e s (front_of (ear c s)) → IsTakenBy (front_of (ear c s)) c s true d)
-    (sym at)
-    (by (front_of c.server) refl off) same
+-- It had none.
+pub none_followed : (c d : Conversation) (s : Side) (e : FlowEvent) (t : Bool)
+    → (IsEventOf e s (front_of (ear c s))
+    → readers.IsTakenBy (front_of (ear c s)) c.reader s t d.reader)
+    → t ≡ false → d ≡ record c { reader = d.reader }
+    → IsEventOf e s (front_of (ear c s)) → IsTakenBy (front_of (ear c s)) c s false d
+none_followed c d s e t taken none same is = go (front_of (ear c s)) (taken is)
   where
-    by : (o : Option Said) → front_of c.server ≡ o → IsTaken o c.server t n
-        → IsEventOf e FromServer (front_of c.server)
-        → IsTakenBy (front_of c.server) c FromServer true d
-    by None front none same = let bad : true ≡ false = sym took ∙ none.0 in absurd cc
-    by (Some v) front some same =
-        at_server c m d FromServer v e t n refl is (sym front)
-        (subst (IsEventOf e FromServer) front same) off f
-
--- The side has no next event.
-pub client_silent : (c m : Conversation) (s : Side) (t : Bool) (n : SideReader) → s ≡ ToServer
-    → m ≡ record c { client = n } → IsTaken (front_of c.client) c.client t n → t ≡ false
-    → IsTakenBy (front_of (ear c s)) c s false m
-client_silent c m s t n at is off none =
-    subst (λ s. IsTakenBy (front_of (ear c s)) c s false m) (sym at) (by (front_of c.client) off)
-  where
-    by : (o : Option Said) → IsTaken o c.client t n → IsTakenBy o c ToServer false m
-    by None off = (refl, is ∙ ap (λ x. record c { client = x }) off.1)
-    by (Some v) off = let bad : true ≡ false = sym off.0 ∙ none in absurd cc
-
-pub server_silent : (c m : Conversation) (s : Side) (t : Bool) (n : SideReader) → s ≡ FromServer
-    → m ≡ record c { server = n } → IsTaken (front_of c.server) c.server t n → t ≡ false
-    → IsTakenBy (front_of (ear c s)) c s false m
-server_silent c m s t n at is off none =
-    subst (λ s. IsTakenBy (front_of (ear c s)) c s false m) (sym at) (by (front_of c.server) off)
-  where
-    by : (o : Option Said) → IsTaken o c.server t n → IsTakenBy o c FromServer false m
-    by None off = (refl, is ∙ ap (λ x. record c { server = x }) off.1)
-    by (Some v) off = let bad : true ≡ false = sym off.0 ∙ none in absurd cc
+    go : (o : Option Said) → readers.IsTakenBy o c.reader s t d.reader → IsTakenBy o c s false d
+    go None off = (refl, same ∙ ap (λ x. record c { reader = x }) off.1)
+    go (Some v) some = let bad : true ≡ false = sym some.0 ∙ none in absurd cc
 
 -- A side's events are taken one by one: those after the first ones were there before them too.
 pub record IsOn (c : Conversation) (s : Side) (m : Conversation) : Type 0 where
@@ -265,14 +165,14 @@ on_done c m n s t on none taken = go (front_of (ear m s)) refl taken
     go (Some v) is taken = let e : true ≡ false = sym taken.0 ∙ none in absurd cc
 
 -- Once TLS 1.3 is chosen, taking an event leaves one fewer.
-same_count : (c : Conversation) (e : FlowEvent) (a b : SideReader) → c.is_tls13 ≡ true
-    → IsToldIf (tells c e) a b
+same_count : (c : Conversation) (e : FlowEvent) (a b : SideReader) → c.reader.is_tls13 ≡ true
+    → IsToldIf (tells c.reader e) a b
     → says a [] ≡ says b []
 same_count c e a b told same =
     (subst (λ t. IsToldIf t a b)
     (ap (λ x. not x && chooses_tls13 e.symbol.kind e.symbol.direction) told) same) []
 
-pub fewer : (m n : Conversation) (s : Side) (t : Bool) → m.is_tls13 ≡ true → t ≡ true
+pub fewer : (m n : Conversation) (s : Side) (t : Bool) → m.reader.is_tls13 ≡ true → t ≡ true
     → IsTakenBy (front_of (ear m s)) m s t n
     → length (says (ear n s) []) < length (says (ear m s) [])
 fewer m n s t told took taken = go (front_of (ear m s)) taken
@@ -281,35 +181,35 @@ fewer m n s t told took taken = go (front_of (ear m s)) taken
         → length (says (ear n s) []) < length (says (ear m s) [])
     go None taken = let e : true ≡ false = sym took ∙ taken.0 in absurd cc
     go (Some v) taken =
-        let e = taken.1.side.0 in
-        let one : says (ear m s) [] ≡ v ∷ says e [] = taken.1.side.1 [] in
+        let e = taken.1.reader.side.0 in
+        let one : says (ear m s) [] ≡ v ∷ says e [] = taken.1.reader.side.1 [] in
         let same : says e [] ≡ says (ear n s) [] =
-        same_count m (event_of s v) e (ear n s) told taken.1.side.2 in
+        same_count m (event_of s v) e (ear n s) told taken.1.reader.side.2 in
         omega (arith, ap length one, ap length same)
 
 -- Before that, taking an event leaves one fewer, or it chooses TLS 1.3.
 abbrev pub left_tls12 : Conversation → Side → ℕ
-left_tls12 c s = cond c.is_tls13 0 (suc (length (says (ear c s) [])))
+left_tls12 c s = cond c.reader.is_tls13 0 (suc (length (says (ear c s) [])))
 
-pub fewer_tls12 : (m n : Conversation) (s : Side) (t : Bool) → m.is_tls13 ≡ false → t ≡ true
+pub fewer_tls12 : (m n : Conversation) (s : Side) (t : Bool) → m.reader.is_tls13 ≡ false → t ≡ true
     → IsTakenBy (front_of (ear m s)) m s t n
     → left_tls12 n s < left_tls12 m s
 fewer_tls12 m n s t untold took taken = go (front_of (ear m s)) taken
   where
-    by : (v : Said) (b : Bool) → tells m (event_of s v) ≡ b → IsBehind m s v n
+    by : (v : Said) (b : Bool) → tells m.reader (event_of s v) ≡ b → IsBehind m s v n
         → left_tls12 n s < suc (length (says (ear m s) []))
     by v true at behind =
-        let told : n.is_tls13 ≡ true = behind.is_tls13 ∙ ap (λ b. m.is_tls13 || b) at
+        let told : n.reader.is_tls13 ≡ true = behind.reader.is_tls13 ∙ ap (λ b. m.reader.is_tls13 || b) at
         ∙ ap (λ b. b || true) untold in
         subst (λ b. cond b 0 (suc (length (says (ear n s) []))) < suc (length (says (ear m s) [])))
         (sym told)
         (omega arith)
     by v false at behind =
-        let e = behind.side.0 in
-        let one : says (ear m s) [] ≡ v ∷ says e [] = behind.side.1 [] in
+        let e = behind.reader.side.0 in
+        let one : says (ear m s) [] ≡ v ∷ says e [] = behind.reader.side.1 [] in
         let same : says e [] ≡ says (ear n s) [] =
-        (subst (λ b. IsToldIf b e (ear n s)) at behind.side.2) [] in
-        let still : n.is_tls13 ≡ false = behind.is_tls13 ∙ ap (λ b. m.is_tls13 || b) at
+        (subst (λ b. IsToldIf b e (ear n s)) at behind.reader.side.2) [] in
+        let still : n.reader.is_tls13 ≡ false = behind.reader.is_tls13 ∙ ap (λ b. m.reader.is_tls13 || b) at
         ∙ ap (λ b. b || false) untold in
         subst (λ b. cond b 0 (suc (length (says (ear n s) []))) < suc (length (says (ear m s) [])))
         (sym still)
@@ -319,17 +219,17 @@ fewer_tls12 m n s t untold took taken = go (front_of (ear m s)) taken
     go None taken = let e : true ≡ false = sym took ∙ taken.0 in absurd cc
     go (Some v) taken =
         subst (λ b. left_tls12 n s < cond b 0 (suc (length (says (ear m s) [])))) (sym untold)
-        (by v (tells m (event_of s v)) refl taken.1)
+        (by v (tells m.reader (event_of s v)) refl taken.1)
 
-still_by : (o : Option Said) (m n : Conversation) (s : Side) (t : Bool) → m.is_tls13 ≡ true
+still_by : (o : Option Said) (m n : Conversation) (s : Side) (t : Bool) → m.reader.is_tls13 ≡ true
     → IsTakenBy o m s t n
-    → n.is_tls13 ≡ true
-still_by None m n s t told taken = ap (λ (x : Conversation). x.is_tls13) taken.1 ∙ told
-still_by (Some v) m n s t told taken = taken.1.is_tls13 ∙ ap (λ b. b || tells m (event_of s v)) told
+    → n.reader.is_tls13 ≡ true
+still_by None m n s t told taken = ap (λ (x : Conversation). x.reader.is_tls13) taken.1 ∙ told
+still_by (Some v) m n s t told taken = taken.1.reader.is_tls13 ∙ ap (λ b. b || tells m.reader (event_of s v)) told
 
-pub still_tls13 : (m n : Conversation) (s : Side) (t : Bool) → m.is_tls13 ≡ true
+pub still_tls13 : (m n : Conversation) (s : Side) (t : Bool) → m.reader.is_tls13 ≡ true
     → IsTakenBy (front_of (ear m s)) m s t n
-    → n.is_tls13 ≡ true
+    → n.reader.is_tls13 ≡ true
 still_tls13 m n s t told taken = still_by (front_of (ear m s)) m n s t told taken
 
 -- These pieces arrived from the beginning.

@@ -11,4 +11,5 @@ pub mod DirectionLemmas
 pub mod HeldLemmas
 pub mod TakenLemmas
 pub mod EarLemmas
+pub mod ReaderLemmas
 pub mod ConversationLemmas

@@ -1,5 +1,5 @@
--- The events of a conversation, given the pieces of both sides in order of arrival.
-use Rattle.std.specs.Prelude.{◌≡◌, ℕ, Bool, true, false, not, ◌&&◌, ◌||◌, Option, Some, None, List, [], ◌∷◌, ◌++◌, map}
+-- The events of a conversation and its flow, given the pieces of both sides in order of arrival.
+use Rattle.std.specs.Prelude.{◌≡◌, ℕ, Bool, true, false, Option, Some, None, List, [], ◌∷◌, ◌++◌, map}
 use Rattle.std.specs.Borrow.{Bor}
 use Rattle.layouts.specs.Bytes.{Bytes}
 use Rattle.tls_stream.specs.Item.{Event as Said}
@@ -8,69 +8,36 @@ use Rattle.tls_flow.specs.Conversations.{IsOutcome}
 use Rattle.tls_flow.specs.Steps.{follow, silence}
 use Rattle.tls_flow.specs.declared.event.FlowEvent.{FlowEvent}
 use Rattle.tls_flow.specs.declared.symbol.Direction.{Direction as Side}
-use Rattle.tls_flow.specs.declared.symbol.Direction.TheVariants.{ToServer, FromServer}
 use Rattle.tls_flow.specs.declared.state.Outcome.{Outcome}
-use Rattle.tls_stream.specs.FlowEvents.{chooses_tls13, event_of}
-use Rattle.tls_stream.specs.Ears.{IsFed, IsFirst, IsReady, IsSilent, SaysAs, says, told}
+use Rattle.tls_stream.specs.FlowEvents.{event_of}
+use Rattle.tls_stream.specs.Ears.{says}
+use Rattle.tls_stream.specs.Readers as readers
 use Rattle.tls_stream.specs.declared.conversation.Conversation.{Conversation}
 use Rattle.tls_stream.specs.declared.side_reader.SideReader.{SideReader}
 
 abbrev pub ear : Conversation → Side → SideReader
-ear c ToServer = c.client
-ear c FromServer = c.server
-
-abbrev pub other : Side → Side
-other ToServer = FromServer
-other FromServer = ToServer
+ear c s = readers.ear c.reader s
 
 -- A new conversation: both sides are empty, and no event was followed.
 pub record IsBegun (limit : ℕ) (c : Conversation) : Type 0 where
-  pub client : IsSilent limit c.client
-  pub server : IsSilent limit c.server
-  pub is_tls13 : c.is_tls13 ≡ false
+  pub reader : readers.IsBegun limit c.reader
   pub flow : c.flow ≡ silence
-
--- Whether the event switches both sides to TLS 1.3: it is the first that chooses it.
-abbrev pub tells : Conversation → FlowEvent → Bool
-tells c e = not c.is_tls13 && chooses_tls13 e.symbol.kind e.symbol.direction
-
-abbrev pub IsToldIf : Bool → SideReader → SideReader → Type 0
-IsToldIf true e f = SaysAs (told e) f
-IsToldIf false e f = SaysAs e f
 
 -- v is the next event of side s, and d is the conversation after it: v was followed, and if it is
 -- the first event that chooses TLS 1.3, both sides were switched.
 pub record IsBehind (c : Conversation) (s : Side) (v : Said) (d : Conversation) : Type 0 where
-  pub side : (e : SideReader) × IsFirst (ear c s) v e
-      × IsToldIf (tells c (event_of s v)) e (ear d s)
-  pub other : IsToldIf (tells c (event_of s v)) (ear c (other s)) (ear d (other s))
-  pub is_tls13 : d.is_tls13 ≡ (c.is_tls13 || tells c (event_of s v))
+  pub reader : readers.IsBehind c.reader s v d.reader
   pub flow : d.flow ≡ follow c.flow (event_of s v)
-
--- An event was followed. If it is the first that chooses TLS 1.3, both sides were switched.
-pub record IsFollowed (c : Conversation) (e : FlowEvent) (d : Conversation) : Type 0 where
-  pub client : IsToldIf (tells c e) c.client d.client
-  pub server : IsToldIf (tells c e) c.server d.server
-  pub ready : (s : Side) → IsReady (ear c s) → IsReady (ear d s)
-  pub is_tls13 : d.is_tls13 ≡ (c.is_tls13 || tells c e)
-  pub flow : d.flow ≡ follow c.flow e
 
 -- A side got another piece.
 pub record IsFedBy (c : Conversation) (s : Side) (p : Bytes) (d : Conversation) : Type 0 where
-  pub side : IsFed (ear c s) p (ear d s)
-  pub other : ear d (other s) ≡ ear c (other s)
-  pub is_tls13 : d.is_tls13 ≡ c.is_tls13
+  pub reader : readers.IsFedBy c.reader s p d.reader
   pub flow : d.flow ≡ c.flow
 
 -- vs are all events that the side has now, in order, and d is the conversation after them.
 abbrev pub Drains : Conversation → Side → List Said → Conversation → Type 0
 Drains c s [] d = (says (ear c s) [] ≡ []) × (d ≡ c)
 Drains c s (v ∷ vs) d = (m : Conversation) × IsBehind c s v m × Drains m s vs d
-
--- vs were the side's events, the latest first; d is the conversation after them.
-abbrev pub IsPast : Conversation → Side → List Said → Conversation → Type 0
-IsPast c s [] d = d ≡ c
-IsPast c s (v ∷ vs) d = (m : Conversation) × IsPast c s vs m × IsBehind m s v d
 
 -- A side got another piece, and all its events were taken.
 abbrev pub IsPieceFollowed : Conversation → Side → Bytes → Conversation → Type 0
@@ -100,8 +67,3 @@ IsOutcomeOf o limit ps = (es : List FlowEvent) × AreEvents limit ps es × IsOut
 abbrev pub IsTakenBy : Option Said → Conversation → Side → Bool → Conversation → Type 0
 IsTakenBy (Some v) c s taken d = (taken ≡ true) × IsBehind c s v d
 IsTakenBy None c s taken d = (taken ≡ false) × (d ≡ c)
-
--- The event is that of the side's next, if there is one.
-abbrev pub IsEventOf : FlowEvent → Side → Option Said → Type 0
-IsEventOf e s (Some v) = e ≡ event_of s v
-IsEventOf e s None = Unit

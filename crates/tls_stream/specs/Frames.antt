@@ -123,7 +123,8 @@ CuttingsTakeTheSame f = (p q : List (Bor (List ℕ))) (taken taken' : List Bytes
     → joined p ≡ joined q → IsSplit f (joined p) taken held → IsSplit f (joined q) taken' held'
     → taken ≡ taken'
 
--- They also hold the same bytes, unless the next header's length is too large.
+-- Two ways to cut the same bytes leave the same bytes, unless the next header's length is too
+-- large.
 abbrev pub CuttingsHoldTheSame : Shape → Type 0
 CuttingsHoldTheSame f = (p q : List (Bor (List ℕ))) (taken taken' : List Bytes) (held held' : Bytes)
     → joined p ≡ joined q → IsSplit f (joined p) taken held → IsSplit f (joined q) taken' held'

@@ -8,6 +8,7 @@ pub mod Events
 pub mod Taken
 pub mod FlowEvents
 pub mod Ears
+pub mod Readers
 pub mod Conversations
 pub use Rattle.layouts.specs.Bytes
 pub use Rattle.layouts.specs.Meaning

@@ -3,14 +3,15 @@ ghost use Rattle.std.specs.Prelude.{◌≡◌, List, IfOk, IsErr, OnOk};
 ghost use Rattle.std.specs.Option.{option_map};
 ghost use Rattle.tls_stream.specs.Item.{Event as EventSpec};
 ghost use Rattle.tls_flow.specs.Table.{outcome_at};
-ghost use Rattle.tls_stream.specs.Conversations.{IsBegun, IsEventOf, IsFedBy, IsFollowed, IsPieceFollowed, IsOutcomeOf, IsTakenBy, Drains, ear as ear_of, views};
+ghost use Rattle.tls_stream.specs.Conversations.{IsBegun, IsFedBy, IsPieceFollowed, IsOutcomeOf, IsTakenBy, Drains, ear as ear_of, views};
+ghost use Rattle.tls_stream.specs.Readers.{IsEventOf};
 ghost use Rattle.tls_stream.specs.Ears.{IsReady, front_of};
 ghost use Rattle.tls_stream.specs.FlowEvents.{view_said};
 
+use crate::conversation_reader::ConversationReader;
 use crate::event_reader::DEFAULT_LIMIT;
-use crate::flow_event::{chooses_tls13, stream_event};
+use crate::flow_event::stream_event;
 use crate::side_event::SideEvent;
-use crate::side_reader::SideReader;
 use layouts::OutOfMemory;
 use std::alloc::Global;
 use tls_flow::{Direction, Flow, FlowEvent, Outcome};
@@ -18,9 +19,7 @@ use tls_flow::{Direction, Flow, FlowEvent, Outcome};
 /// A TLS conversation, fed with the pieces of both sides' streams in order of arrival.
 #[derive(Drop)]
 pub struct Conversation {
-    client: SideReader,
-    server: SideReader,
-    is_tls13: bool,
+    reader: ConversationReader,
     flow: Flow,
 }
 
@@ -38,9 +37,7 @@ impl Conversation {
         ensures { IsBegun limit result }
     {
         Conversation {
-            client: SideReader::new(alloc, limit),
-            server: SideReader::new(alloc, limit),
-            is_tls13: false,
+            reader: ConversationReader::with_limit(alloc, limit),
             flow: Flow::new(),
         }
     }
@@ -66,10 +63,7 @@ impl Conversation {
         ensures ready { OnOk result (IsReady (ear_of self.new side)) }
         ensures memory { IsErr result → self.new ≡ self.old }
     {
-        match side {
-            Direction::ToServer => self.client.feed(piece),
-            Direction::FromServer => self.server.feed(piece),
-        }
+        self.reader.feed(side, piece)
     }
 
     /// The side's next event, or its fault; `None` if more bytes are needed, or if the fault that
@@ -77,22 +71,7 @@ impl Conversation {
     pub fn front(&self, side: Direction) -> Option<SideEvent<'_>>
         ensures { option_map view_said result ≡ front_of (ear_of self.now side) }
     {
-        match side {
-            Direction::ToServer => self.client.front(),
-            Direction::FromServer => self.server.front(),
-        }
-    }
-
-    /// Follows the event. If it is the first that chooses TLS 1.3, both sides are switched to it.
-    fn follow(&mut self, event: FlowEvent)
-        ensures { IsFollowed self.old event self.new }
-    {
-        if !self.is_tls13 && chooses_tls13(&event) {
-            self.client.switch_to_tls13();
-            self.server.switch_to_tls13();
-            self.is_tls13 = true;
-        }
-        self.flow.update(event);
+        self.reader.front(side)
     }
 
     /// Removes the side's next event and follows `event` in its place, for a caller that has built
@@ -105,14 +84,10 @@ impl Conversation {
             → IsTakenBy (front_of (ear_of self.old side)) self.old side result self.new }
         ensures ready { IsReady (ear_of self.old side) → IsReady (ear_of self.new side) }
     {
-        let is_taken = match side {
-            Direction::ToServer => self.client.take_front(),
-            Direction::FromServer => self.server.take_front(),
-        };
-        if !is_taken {
+        if !self.reader.take_front(side, event) {
             return false;
         }
-        self.follow(event);
+        self.flow.update(event);
         true
     }
 
@@ -137,7 +112,7 @@ impl Conversation {
         requires { IsReady (ear_of self.old side) }
         ensures { (vs : List EventSpec) × Drains self.old side vs self.new }
     {
-        'tls12: while !self.is_tls13 {
+        'tls12: while !self.reader.is_tls13() {
             if !self.take_front(side) {
                 return;
             }

@@ -8,14 +8,16 @@
 //! A [`Conversation`] takes the pieces of both directions in order of arrival. It returns what each
 //! side sends event by event, and a [`tls_flow::Flow`] follows them to an outcome. A caller that
 //! needs more than the outcome parses each message once with [`stream_message`] and removes it with
-//! [`Conversation::take_front_as`].
+//! [`Conversation::take_front_as`]. One that follows the events itself takes them from a
+//! [`ConversationReader`], which has no flow.
 //!
 //! Its promise: the events depend only on the bytes, and not on how these are cut into pieces or
-//! how messages are cut into records. `specs/Stream.antt`, `specs/Events.antt` and
-//! `specs/Conversations.antt` define them; [`laws`] states the promise.
+//! how messages are cut into records. `specs/Stream.antt`, `specs/Events.antt`, `specs/Readers.antt`
+//! and `specs/Conversations.antt` define them; [`laws`] states the promise.
 #![tactic(auto)]
 
 mod conversation;
+mod conversation_reader;
 mod event;
 mod event_reader;
 mod fault;
@@ -33,6 +35,7 @@ mod taken;
 mod view;
 
 pub use conversation::{Conversation, outcome_of};
+pub use conversation_reader::ConversationReader;
 pub use event::Event;
 pub use event_reader::{DEFAULT_LIMIT, EventReader};
 pub use fault::Fault;

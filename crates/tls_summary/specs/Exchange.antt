@@ -4,7 +4,7 @@ use Rattle.layouts.specs.Bytes.{Bytes}
 use Rattle.layouts.specs.Layout.{Layout, counted, ◌>>=◌}
 use Rattle.layouts.specs.Meaning.{Answer}
 use Rattle.layouts.specs.Reading.{reading}
-use Rattle.tls_base.specs.KeyExchange as exchange
+use Rattle.tls_key_exchange.specs.KeyExchange as exchange
 use Rattle.tls_base.specs.SuiteExchange.{is_over_curves, key_exchange}
 use Rattle.tls_base.specs.declared.suite_exchange.KeyExchange.{KeyExchange}
 

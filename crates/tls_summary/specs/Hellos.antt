@@ -1,7 +1,7 @@
 -- The fields of a hello's extensions; none if the extension is missing or refused.
 use Rattle.std.specs.Prelude.{ℕ, Bool, true, false, List, [], ◌∷◌, Option, Some, None, Ok, Err, ◌==◌, if◌then◌else◌}
 use Rattle.tls_base.specs.ExtensionNumbers as extension_number
-use Rattle.tls_base.specs.Timestamp.{SignedCertificateTimestamp, timestamp_list}
+use Rattle.tls_key_exchange.specs.Timestamp.{SignedCertificateTimestamp, timestamp_list}
 use Rattle.layouts.specs.Bytes.{Bytes}
 use Rattle.layouts.specs.Framed.{Framed}
 use Rattle.layouts.specs.Items.{list_read}

@@ -2,7 +2,7 @@
 use Rattle.std.specs.Prelude.{ℕ, Bool, List, [], ◌∷◌, Option, Some, None, ◌==◌, if◌then◌else◌, length}
 use Rattle.std.specs.Option.{option_map}
 use Rattle.tls_base.specs.ExtensionNumbers as extension_number
-use Rattle.tls_base.specs.Timestamp.{SignedCertificateTimestamp}
+use Rattle.tls_key_exchange.specs.Timestamp.{SignedCertificateTimestamp}
 use Rattle.layouts.specs.Bytes.{Bytes}
 use Rattle.layouts.specs.Framed.{Framed}
 use Rattle.layouts.specs.Items.{items_in}

@@ -2,14 +2,12 @@
 ghost use Rattle.std.specs.Prelude.{◌≡◌};
 ghost use Rattle.std.specs.Option.{option_map};
 ghost use Rattle.layouts.specs.Answers.{Gives, answer_of};
-ghost use Rattle.tls_base.specs.KeyExchange.{view_ec_parameters};
+ghost use Rattle.tls_key_exchange.specs.KeyExchange.{view_ec_parameters};
 ghost use Rattle.tls_summary.specs.Exchange.{curve_by, hinted_parameters as hinted_layout, named};
 
 use layouts::{IResult, counted2};
-use tls_base::{
-    ECParameters, ECParametersContent, KeyExchange, NamedGroup, TlsCipherSuiteID,
-    parse_ec_parameters,
-};
+use tls_base::{KeyExchange, NamedGroup, TlsCipherSuiteID};
+use tls_key_exchange::{ECParameters, ECParametersContent, parse_ec_parameters};
 
 /// Parses a PSK identity hint, and the curve's parameters after it (RFC 5489, section 2).
 #[tactic(auto, using(layouts::proofs::OneAnswerLemmas::read_allowed), unfolding(crate::specs::Exchange::hinted_parameters))]

@@ -4,7 +4,7 @@ ghost use Rattle.std.specs.Option.{option_map};
 ghost use Rattle.layouts.specs.Items.{items_in, told as told_by};
 ghost use Rattle.layouts.specs.Layout.{counted, number};
 ghost use Rattle.layouts.specs.Text.{held};
-ghost use Rattle.tls_base.specs.Timestamp.{serialized_timestamp};
+ghost use Rattle.tls_key_exchange.specs.Timestamp.{serialized_timestamp};
 ghost use Rattle.tls_ext.specs.Content.{server_name};
 ghost use Rattle.tls_ext.specs.Extension.{view_server_name};
 ghost use Rattle.tls_ext.specs.InPlace.{key_share_entry};
@@ -13,15 +13,13 @@ ghost use Rattle.tls_summary.specs.Hellos.{group_of, has_bytes, host_among, mode
 
 use layouts::{Counted1, Err, Error, Items};
 use std::alloc::{AllocError, Global};
-use tls_base::{
-    NamedGroup, SNIType, SignedCertificateTimestamp, TlsExtensionType, TlsVersion,
-    certificate_timestamps,
-};
+use tls_base::{NamedGroup, SNIType, TlsExtensionType, TlsVersion};
 use tls_ext::offered::{content, none};
 use tls_ext::{
     KeyShareEntry, ServerName, application_protocols, extensions, first_content, key_shares,
     psk_key_exchange_modes, server_names, supported_versions,
 };
+use tls_key_exchange::{SignedCertificateTimestamp, certificate_timestamps};
 
 /// The value of an answer; `None` if it is a refusal.
 pub(crate) fn known<T: Drop>(answer: Result<Option<T>, Err<Error<&[u8]>>>) -> Option<T>

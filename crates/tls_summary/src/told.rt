@@ -1,7 +1,7 @@
 //! The fields of a connection.
 ghost use Rattle.std.specs.Prelude.{◌≡◌, IfOk, map};
 ghost use Rattle.std.specs.Option.{option_map};
-ghost use Rattle.tls_base.specs.Timestamp.{serialized_timestamp};
+ghost use Rattle.tls_key_exchange.specs.Timestamp.{serialized_timestamp};
 ghost use Rattle.layouts.specs.Items.{items_in};
 ghost use Rattle.layouts.specs.Layout.{counted, number};
 ghost use Rattle.layouts.specs.Text.{held};
@@ -19,12 +19,12 @@ use layouts::{Counted1, Items};
 use ssl2_hello::CipherSpec;
 use std::alloc::{AllocError, Global};
 use tls_base::{
-    NamedGroup, SNIType, SignedCertificateTimestamp, TlsCipherSuiteID, TlsCompressionID,
-    TlsExtensionType, TlsVersion,
+    NamedGroup, SNIType, TlsCipherSuiteID, TlsCompressionID, TlsExtensionType, TlsVersion,
 };
 use tls_ext::offered::{algorithms, content, formats, groups, none};
 use tls_ext::{ExtensionType, KeyShareEntry, best_version, extension_types};
 use tls_flow::Direction;
+use tls_key_exchange::SignedCertificateTimestamp;
 
 /// encrypted_client_hello (RFC 9849, section 5), which has no constant in the library.
 pub const ENCRYPTED_CLIENT_HELLO: TlsExtensionType = TlsExtensionType(0xfe0d);

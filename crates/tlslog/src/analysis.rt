@@ -10,8 +10,8 @@ use log_messages::{
     SuiteText,
 };
 use std::alloc::{AllocError, Global};
-use tls_analyzer::Observer;
 use tls_flow::{Direction, HandshakeMessage};
+use tls_observer::Observer;
 use tls_stream::SideEvent;
 
 /// The pieces of a connection that are kept until they are printed.
@@ -65,7 +65,8 @@ impl Observer for CollectedPieces {
             CollectedPieces::Messages(messages) => messages.on_stream_event(side, event, message),
             CollectedPieces::Certificates(certificates) => certificates.add_message(side, message),
             CollectedPieces::Chains(lists) => {
-                lists.add_message(side, message);
+                // Without memory the sender has no chain, and the connection goes on.
+                let _is_kept = lists.add_message(side, message).is_ok();
                 Ok(())
             }
         }
@@ -81,7 +82,8 @@ impl Observer for CollectedPieces {
             CollectedPieces::Messages(messages) => messages.on_datagram_event(side, event, message),
             CollectedPieces::Certificates(certificates) => certificates.add_message(side, message),
             CollectedPieces::Chains(lists) => {
-                lists.add_message(side, message);
+                // Without memory the sender has no chain, and the connection goes on.
+                let _is_kept = lists.add_message(side, message).is_ok();
                 Ok(())
             }
         }

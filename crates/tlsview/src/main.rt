@@ -10,6 +10,7 @@
 //! writer; the contract of `view` states it.
 #![tactic(auto)]
 
+mod checked_writer;
 mod conversation;
 mod direction;
 mod exit;
@@ -20,7 +21,6 @@ mod names;
 mod program;
 mod records;
 mod report;
-mod sink;
 mod statement;
 mod tally;
 mod transfer;

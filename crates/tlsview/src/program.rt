@@ -4,9 +4,9 @@ ghost use Rattle.tlsview.specs.Exit.{status_of};
 ghost use Rattle.tlsview.specs.Run.{WritesFront, WritesOut};
 ghost use Rattle.tlsview.specs.Transfer.{most_reads};
 
+use crate::checked_writer::CheckedWriter;
 use crate::exit::ViewExit;
 use crate::report::report_of;
-use crate::sink::Sink;
 use crate::tally::Tally;
 use crate::transfer::{TransferFailure, read_whole, write_whole};
 use std::alloc::Global;
@@ -21,7 +21,7 @@ use std::io::{Read, Write};
 pub fn run<R: Read, W: Write>(
     alloc: Global,
     r: &mut Tally<'_, R>,
-    w: &mut Sink<'_, W>,
+    w: &mut CheckedWriter<'_, W>,
 ) -> Result<ViewExit, TransferFailure>
     requires fresh_reader { (r.old.calls ≡ 0) × (r.old.has_failed ≡ false) }
     requires fresh_writer { w.old.has_failed ≡ false }
@@ -70,7 +70,7 @@ pub fn view<R: Read, W: Write>(alloc: Global, r: &mut R, w: &mut W) -> u8
         → (w.new ≡ w.old) ⊎ WritesFront R.remaining W.contents r.old r.new w.old w.new }
 {
     let mut reader = Tally::new(r);
-    let mut writer = Sink::new(w);
+    let mut writer = CheckedWriter::new(w);
     let exit = match run(alloc, &mut reader, &mut writer) {
         Ok(exit) => exit,
         Err(_) => ViewExit::Failed,

@@ -12,10 +12,10 @@ pub use Rattle.layouts.specs.Writer
 pub use Rattle.tls_base.specs.Names
 pub use Rattle.tls_base.specs.ExtensionNumbers
 pub use Rattle.tls_base.specs.Constants
-pub use Rattle.tls_base.specs.KeyExchange
+pub use Rattle.tls_key_exchange.specs.KeyExchange
 pub use Rattle.tls_base.specs.Alert
-pub use Rattle.tls_base.specs.Signature
-pub use Rattle.tls_base.specs.Timestamp
+pub use Rattle.tls_key_exchange.specs.Signature
+pub use Rattle.tls_key_exchange.specs.Timestamp
 pub use Rattle.tls_base.specs.Cipher
 pub use Rattle.tls_base.specs.CipherTable
 pub use Rattle.tls_ext.specs.Extension
@@ -34,8 +34,8 @@ pub use Rattle.tls_hs.specs.InPlace as HandshakeInPlace
 pub use Rattle.tls_hs.specs.Places
 pub use Rattle.tls_hs.specs.Messages
 pub use Rattle.tls_hs.specs.HandshakeText
-pub use Rattle.tls_hs.specs.HandshakeWriter
-pub use Rattle.tls_hs.specs.Writable
+pub use Rattle.tls_hs_writer.specs.HandshakeWriter
+pub use Rattle.tls_hs_writer.specs.Writable
 pub use Rattle.tls_words.specs.Words
 pub use Rattle.tls_states.specs.Symbols
 pub use Rattle.tls_states.specs.Grammar
@@ -86,6 +86,7 @@ pub use Rattle.dtls_stream.specs.Ack
 pub use Rattle.raw_records.specs.DatagramRecord
 pub mod BothEvents
 pub use Rattle.tls_stream.specs.Ears
+pub use Rattle.tls_stream.specs.Readers
 pub use Rattle.tls_stream.specs.Conversations as BothConversations
 pub use Rattle.der.specs.Element
 pub use Rattle.der.specs.Values

@@ -41,6 +41,8 @@ pub use tls_detection as detection;
 pub use tls_ext as extensions;
 pub use tls_flow as flows;
 pub use tls_hs as handshakes;
+pub use tls_hs_writer as handshake_writers;
+pub use tls_key_exchange as key_exchanges;
 pub use tls_parser as tls;
 pub use tls_places as places;
 pub use tls_records as records;

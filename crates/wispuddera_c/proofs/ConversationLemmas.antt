@@ -24,7 +24,8 @@ use Rattle.std.proofs.Common.{
   ap,
   ap₂,
 }
-use Rattle.tls_stream.specs.Conversations.{IsBehind, IsFedBy, IsToldIf}
+use Rattle.tls_stream.specs.Conversations.{IsBehind, IsFedBy}
+use Rattle.tls_stream.specs.Readers.{IsToldIf}
 use Rattle.tls_stream.specs.Ears.{IsFed, IsFirst}
 use Rattle.tls_stream.specs.FlowEvents.{chooses_tls13, event_of}
 use Rattle.tls_stream.specs.Item.{Event as Saying}
@@ -97,10 +98,10 @@ pub fed_with : (t : Bool) (b b' : Bytes) (s : Side) (c d : Conversation) (p : By
     → (o : Bytes) → IsFedBy (said_in t b o c) (direction t) p (said_in t b' o d)
 fed_with true b b' s c d p is fed o =
     subst (λ d. IsFedBy (said_in true b o c) (direction true) p (said_in true b' o d)) (sym is)
-    (record { side = fed; other = refl; is_tls13 = refl; flow = refl })
+    (record { reader = record { side = fed; other = refl; is_tls13 = refl }; flow = refl })
 fed_with false b b' s c d p is fed o =
     subst (λ d. IsFedBy (said_in false b o c) (direction false) p (said_in false b' o d)) (sym is)
-    (record { side = fed; other = refl; is_tls13 = refl; flow = refl })
+    (record { reader = record { side = fed; other = refl; is_tls13 = refl }; flow = refl })
 
 pub waits_with : (t : Bool) (b b' : Bytes) (s : Side) (c d : Conversation) → d ≡ with_side t s c
     → Waits (known_of c) b (side_at t c) b' s
@@ -170,27 +171,33 @@ module _ (c d : Conversation) (e : FlowEvent) (limit : d.limit ≡ c.limit)
   behind_with true b b' s m v is sides event first o =
       let said = event_of (direction true) v in
       record {
-        side = (
-          ear_of (known_of c) b' s,
-          first,
-          told said event b' s d.client (sides.0 ∙ ap (λ (x : Conversation). x.client) is),
-        );
-        other = told said event o c.server d.server
-            (sides.1 ∙ ap (λ (x : Conversation). x.server) is);
-        is_tls13 = tls13_is said event;
+        reader =
+            record {
+              side = (
+                ear_of (known_of c) b' s,
+                first,
+                told said event b' s d.client (sides.0 ∙ ap (λ (x : Conversation). x.client) is),
+              );
+              other = told said event o c.server d.server
+                  (sides.1 ∙ ap (λ (x : Conversation). x.server) is);
+              is_tls13 = tls13_is said event;
+            };
         flow = flow ∙ ap (follow (flow_of c.course)) event;
       }
   behind_with false b b' s m v is sides event first o =
       let said = event_of (direction false) v in
       record {
-        side = (
-          ear_of (known_of c) b' s,
-          first,
-          told said event b' s d.server (sides.1 ∙ ap (λ (x : Conversation). x.server) is),
-        );
-        other = told said event o c.client d.client
-            (sides.0 ∙ ap (λ (x : Conversation). x.client) is);
-        is_tls13 = tls13_is said event;
+        reader =
+            record {
+              side = (
+                ear_of (known_of c) b' s,
+                first,
+                told said event b' s d.server (sides.1 ∙ ap (λ (x : Conversation). x.server) is),
+              );
+              other = told said event o c.client d.client
+                  (sides.0 ∙ ap (λ (x : Conversation). x.client) is);
+              is_tls13 = tls13_is said event;
+            };
         flow = flow ∙ ap (follow (flow_of c.course)) event;
       }
 

@@ -17,7 +17,8 @@ use Rattle.std.specs.Prelude.{
   ◌++◌,
   length,
 }
-use Rattle.tls_stream.specs.Conversations.{IsBehind, IsFedBy, ear, other}
+use Rattle.tls_stream.specs.Conversations.{IsBehind, IsFedBy, ear}
+use Rattle.tls_stream.specs.Readers.{other}
 use Rattle.tls_stream.specs.Ears.{SaysAs, says}
 use Rattle.tls_stream.specs.FlowEvents.{event_of}
 use Rattle.tls_stream.specs.declared.conversation.Conversation.{Conversation as Followed}
@@ -56,9 +57,12 @@ known_of c = record { limit = c.limit; is_tls13 = c.is_tls13 }
 -- The conversation of the struct and the buffers of client and server.
 abbrev pub joined : Bytes → Bytes → Conversation → Followed
 joined x y c = record {
-  client = ear_of (known_of c) x c.client;
-  server = ear_of (known_of c) y c.server;
-  is_tls13 = c.is_tls13;
+  reader =
+      record {
+        client = ear_of (known_of c) x c.client;
+        server = ear_of (known_of c) y c.server;
+        is_tls13 = c.is_tls13;
+      };
   flow = flow_of c.course;
 }
 
@@ -106,7 +110,7 @@ pub record SaysNoMore (c : Followed) (s : Direction) (d : Followed) : Type 0 whe
   pub nothing : says (ear c s) [] ≡ []
   pub side : SaysAs (ear c s) (ear d s)
   pub other : ear d (other s) ≡ ear c (other s)
-  pub is_tls13 : d.is_tls13 ≡ c.is_tls13
+  pub is_tls13 : d.reader.is_tls13 ≡ c.reader.is_tls13
   pub flow : d.flow ≡ c.flow
 
 pub record IsWaiting (to_server : Bool) (b b' : Bytes) (c d : Conversation) : Type 0 where

@@ -28,7 +28,7 @@ count_held s = (s.part_end - s.part) + (s.end - s.unread)
 abbrev pub held_in : Bytes → Side → Held
 held_in b s = record { part = between s.part s.part_end b; unread = between s.unread s.end b }
 
--- No bytes came.
+-- A side before its first byte.
 abbrev pub silent_side : Side
 silent_side = record {
   part = 0;
@@ -72,12 +72,12 @@ abbrev pub StandInFront : Held → Source → Type 0
 StandInFront h (OfMessage y) = take (length y) h.part ≡ y
 StandInFront h (OfRecord y) = (5 ≤ length y) × (take (length y) h.unread ≡ y)
 
--- It says an event first, whatever follows, and then what the changed struct says.
+-- The side returns an event first, whatever follows, and then what the changed struct returns.
 abbrev pub IsHeardAs : Direction → ReadingState → Bytes → Side → Bytes → Side → ReadEvent → Type 0
 IsHeardAs side k b s b' s' h = (v : Saying) × IsFirst (ear_of k b s) v (ear_of k b' s')
     × Shows side b' h v
 
--- It says nothing for now, and later the same as before.
+-- The side returns no event for now, and later the same as before.
 pub record Waits (k : ReadingState) (b : Bytes) (s : Side) (b' : Bytes) (s' : Side) : Type 0 where
   pub nothing : says (ear_of k b s) [] ≡ []
   pub same : SaysAs (ear_of k b s) (ear_of k b' s')

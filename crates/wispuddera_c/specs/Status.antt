@@ -46,12 +46,13 @@ missing_of (Broken kind) = 0
 abbrev pub IsRefused : Refusal → ℕ → ℕ → Type 0
 IsRefused e status missing = (status ≡ status_of e) × (missing ≡ missing_of e)
 
--- They are those of this answer, and its value and rest are shown.
+-- Status and missing bytes are those of this answer; its value and rest are in `out`.
 abbrev pub IsAnswered : {A : Type 0} → (A → Bytes → Type 0) → Answer A → ℕ → ℕ → Type 0
 IsAnswered Shows (Ok x) status missing = (status ≡ 0) × (missing ≡ 0) × Shows x.0 x.1
 IsAnswered Shows (Err e) status missing = IsRefused e status missing
 
--- They are those of the answer in b from this offset on; an offset past the end is refused.
+-- Status and missing bytes are those of the answer in b from this offset on; an offset past the end
+-- is refused.
 pub record IsAnsweredAt {A : Type 0} (l : Layout A) (Shows : A → Bytes → Type 0) (b : Bytes)
     (offset status missing : ℕ) : Type 0 where
   pub inside : offset ≤ length b → IsAnswered Shows (reading l (drop offset b)) status missing

@@ -6,12 +6,13 @@ ghost use Rattle.tls_records.specs.RecordText.{message_text, FitsMessage, InRang
 
 use layouts::writer::builder::append1;
 use tls_hs::TlsMessage;
-use tls_hs::writer::builder::append_handshake;
+use tls_hs_writer::writer::builder::append_handshake;
 
 /// Appends a message.
 pub(crate) fn append_message(out: &mut Vec<u8>, m: &TlsMessage)
     requires fits { FitsMessage (view_message m.now) }
-    requires room { vec_len out.old + length (message_text (view_message m.now)) ≤ vec_capacity out.old }
+    requires room { vec_len out.old + length (message_text (view_message m.now))
+        ≤ vec_capacity out.old }
     ensures items { out.new.items ≡ out.old.items ++ message_text (view_message m.now) }
     ensures range { InRangeMessage (view_message m.now) }
     ensures len { vec_len out.new ≡ vec_len out.old + length (message_text (view_message m.now)) }

@@ -6,7 +6,7 @@ ghost use Rattle.tls_records.specs.RecordWriter.{JudgesMessage, JudgesFragment};
 
 use layouts::GenError;
 use tls_hs::TlsMessage;
-use tls_hs::writer::judge::handshake_len;
+use tls_hs_writer::writer::judge::handshake_len;
 
 /// The maximum length of a fragment that can be written, in bytes: its length field has 2 bytes.
 const MAX_FRAGMENT_LEN: usize = 65535;

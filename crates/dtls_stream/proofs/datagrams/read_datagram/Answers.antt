@@ -32,7 +32,8 @@ records-preserved c a h st =
     (omega arith) c.in-Ok.ensures.read (c.records.invariant a h st)
     c.in_ok-read_record_events-in-Ok.ensures.told
 
-pub returns-in_err-read_record_events-in-Ok-clause-stopped : goal.returns-in_err-read_record_events-in-Ok-clause-stopped
+pub returns-in_err-read_record_events-in-Ok-clause-stopped
+    : goal.returns-in_err-read_record_events-in-Ok-clause-stopped
 returns-in_err-read_record_events-in-Ok-clause-stopped c a h st =
     any_err c.from_residual.result
     (reading_cut a h (fragments_of c.args.datagram.now) (datagram a h c.args.datagram.now)

@@ -9,7 +9,8 @@ use Rattle.dtls_stream.proofs.DatagramLemmas.{content_ok, on_ok}
 use Rattle.dtls_stream.proofs.ReadingLemmas.{content_stopped, content_untold}
 use Rattle.dtls_stream.proofs.records.tell_content.Goals as goal
 
-pub returns-in_ok-tell_messages-in-Ok-clause-told : goal.returns-in_ok-tell_messages-in-Ok-clause-told
+pub returns-in_ok-tell_messages-in-Ok-clause-told
+    : goal.returns-in_ok-tell_messages-in-Ok-clause-told
 returns-in_ok-tell_messages-in-Ok-clause-told c h =
     rw (← c.content_bytes.ensures)
     (on_ok c.tell_left_over.result c.tell_left_over.ensures.told
@@ -23,7 +24,8 @@ returns-in_ok-tell_messages-in-Ok-clause-told c h =
     ∙ ap (λ ms. view_events c.args.events.now.items ++ map (λ m. event_of (view_message m)) ms)
     c.deref.ensures.value)))
 
-pub returns-in_err-tell_messages-in-Ok-clause-stopped : goal.returns-in_err-tell_messages-in-Ok-clause-stopped
+pub returns-in_err-tell_messages-in-Ok-clause-stopped
+    : goal.returns-in_err-tell_messages-in-Ok-clause-stopped
 returns-in_err-tell_messages-in-Ok-clause-stopped c h =
     rw (← c.content_bytes.ensures)
     (any_err c.from_residual.result
@@ -37,7 +39,8 @@ returns-in_err-tell_messages-in-Ok-clause-stopped c h =
     (view_events c.tell_messages.new.events.items))
     c.deref.ensures.value c.in_err-tell_messages-in-Ok.ensures.stopped)))
 
-pub returns-in_ok-tell_messages-in-Ok-clause-stopped : goal.returns-in_ok-tell_messages-in-Ok-clause-stopped
+pub returns-in_ok-tell_messages-in-Ok-clause-stopped
+    : goal.returns-in_ok-tell_messages-in-Ok-clause-stopped
 returns-in_ok-tell_messages-in-Ok-clause-stopped c h =
     rw (← c.content_bytes.ensures)
     (on_err c.tell_left_over.result c.tell_left_over.ensures.stopped

@@ -13,7 +13,8 @@ returns-in_ok-append_over-in-Some-clause-out c =
     c.deref.ensures
     c.within_page.ensures.is c.requires.whole c.requires.one)
 
-pub returns-in_ok-extend_from_slice-in-None-clause-out : goal.returns-in_ok-extend_from_slice-in-None-clause-out
+pub returns-in_ok-extend_from_slice-in-None-clause-out
+    : goal.returns-in_ok-extend_from_slice-in-None-clause-out
 returns-in_ok-extend_from_slice-in-None-clause-out c =
     let ys = c.args.bytes.now in
     c.in_ok-extend_from_slice-in-None.ensures.items

@@ -3,7 +3,8 @@ use Rattle.std.specs.Option.{option_map}
 use Rattle.tls_stream.specs.FlowEvents.{view_said}
 use Rattle.tls_summary.specs.HandshakeSummary.{view_summary}
 use Rattle.tls_flow.specs.Bytes.{kind_of_message, view_heard}
-use Rattle.tls_analyzer.proofs.HearerLemmas.{copied_view, same_event, same_step}
+use Rattle.tls_observer.proofs.ViewLemmas.{copied_view}
+use Rattle.tls_analyzer.proofs.HearerLemmas.{same_event, same_step}
 use Rattle.tls_analyzer.proofs.conversation_state.tell.Goals as goal
 
 pub returns-clause-flow : goal.returns-clause-flow

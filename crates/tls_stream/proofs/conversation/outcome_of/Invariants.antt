@@ -1,7 +1,6 @@
 -- the pieces so far were followed
-use Rattle.std.proofs.Common.{List, take}
-use Rattle.tls_flow.specs.declared.event.FlowEvent.{FlowEvent}
-use Rattle.tls_stream.specs.Conversations.{FollowsPieces, IsBegun, views}
+use Rattle.std.proofs.Common.{take}
+use Rattle.tls_stream.specs.Conversations.{views}
 use Rattle.tls_stream.proofs.ConversationLemmas.{AreFollowed}
 use Rattle.tls_stream.proofs.conversation.outcome_of.Given as goal
 

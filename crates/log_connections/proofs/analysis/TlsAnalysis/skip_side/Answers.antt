@@ -9,5 +9,5 @@ returns g c =
     c.in-Stream.preambles c.skip_side.new.self c.clear.new.self (search rules) refl
     (subst (λ d. IsHeardAsNone c.in-Stream.analyzer d c.skip_side.new.self)
     c.direction-direction.ensures
-    c.in_ok-skip_side.ensures)
+    c.skip_side.ensures)
     (search rules) (search rules)

@@ -6,6 +6,7 @@ pub returns-clause-accepted : goal.returns-clause-accepted
 returns-clause-accepted g c = record {
   mid = c.analyze_arrival.new.self.connections;
   takes = c.in_ok-over.ensures.taken;
+  is_due = c.analyze_arrival.new.self.is_unsettled;
   settles = c.settle.ensures.settled;
 }
 
@@ -15,4 +16,4 @@ returns-clause-others g c =
     let mid = c.analyze_arrival.new.self.connections in
     keeps_then e c.args.self.now.connections.live mid.live c.settle.new.self.connections.live
     c.analyze_arrival.ensures.others
-    (keeps_settled e mid c.settle.new.self.connections c.settle.ensures.settled)
+    (keeps_settled g.K.PieceCollector.most_bytes e c.analyze_arrival.new.self.is_unsettled mid c.settle.new.self.connections c.settle.ensures.settled)

@@ -1,7 +1,8 @@
-use Rattle.std.proofs.Common.{refl, sym, subst, ◌∙◌, Some, None}
+use Rattle.std.proofs.Common.{refl, sym, ◌∙◌, Some, None}
 use Rattle.std.proofs.lemmas.Result.{IfOk-weaker}
 use Rattle.connections.specs.Segment.{five_tuple_of}
-use Rattle.log_connections.proofs.LogLemmas.{accepts_open, accepts_told, stays_open, takes_in}
+use Rattle.log_connections.proofs.LogLemmas.{accepts_open, accepts_told, refuses_open, stays_open, takes_in}
+use Rattle.log_connections.proofs.PacketLemmas.{given}
 use Rattle.log_connections.proofs.OtherLemmas.{keeps_then}
 use Rattle.log_connections.proofs.log.Log.accept_segment.Goals as goal
 
@@ -14,49 +15,51 @@ returns-in-Heard-false-clause-accepted g c =
     (stays_open s mid mid _ (sym (rw c.in-Heard-false.is at c.in_ok-analyze_open.ensures.closed)
     ∙ c.in-Heard-false.field-0-test) refl refl)
 
-pub returns-in-Heard-true-clause-accepted : goal.returns-in-Heard-true-clause-accepted
-returns-in-Heard-true-clause-accepted g c =
-    IfOk-weaker c.take_closed.result _ _
-    (λ over ends. accepts_open c.args.segment.now c.args.self.now.connections
+pub returns-in_err-analyze_open-clause-refused : goal.returns-in_err-analyze_open-clause-refused
+returns-in_err-analyze_open-clause-refused g c =
+    given c.from_residual.result _ _ c.from_residual.ensures.1
+    (refuses_open c.args.segment.now c.args.self.now.connections
+    c.analyze_open.new.self.connections None c.in_err-analyze_open.ensures.refused refl)
+
+pub returns-in_err-take_closed-in-Heard-true-clause-refused : goal.returns-in_err-take_closed-in-Heard-true-clause-refused
+returns-in_err-take_closed-in-Heard-true-clause-refused g c =
+    given c.from_residual-in_err-take_closed-in-Heard-true.result _ _
+    c.from_residual-in_err-take_closed-in-Heard-true.ensures.1
+    (refuses_open c.args.segment.now c.args.self.now.connections
+    c.take_closed.new.self.connections None
+    (rw c.in-Heard-true.is at c.in_ok-analyze_open.ensures.judged) refl)
+
+pub returns-in_ok-take_closed-in-Heard-true-clause-accepted : goal.returns-in_ok-take_closed-in-Heard-true-clause-accepted
+returns-in_ok-take_closed-in-Heard-true-clause-accepted g c =
+    accepts_open c.args.segment.now c.args.self.now.connections
     c.analyze_open.new.self.connections c.take_closed.new.self.connections _
     (rw c.in-Heard-true.is at c.in_ok-analyze_open.ensures.judged)
-    (rw c.in-Heard-true.is at c.in_ok-analyze_open.ensures.logged) ends)
-    c.take_closed.ensures.ended
+    (rw c.in-Heard-true.is at c.in_ok-analyze_open.ensures.logged)
+    c.in_ok-take_closed-in-Heard-true.ensures.ended
 
-pub returns-in-Heard-true-clause-others : goal.returns-in-Heard-true-clause-others
-returns-in-Heard-true-clause-others g c =
+pub returns-in_ok-take_closed-in-Heard-true-clause-others : goal.returns-in_ok-take_closed-in-Heard-true-clause-others
+returns-in_ok-take_closed-in-Heard-true-clause-others g c =
     keeps_then (five_tuple_of c.args.segment.now) c.args.self.now.connections.live
     c.analyze_open.new.self.connections.live c.take_closed.new.self.connections.live
     c.analyze_open.ensures.others c.take_closed.ensures.others
 
-pub returns-in_ok-heard-in-NoneOpen-clause-accepted : goal.returns-in_ok-heard-in-NoneOpen-clause-accepted
-returns-in_ok-heard-in-NoneOpen-clause-accepted g c =
+pub returns-in_ok-end_analyzed-in-NoneOpen-clause-accepted : goal.returns-in_ok-end_analyzed-in-NoneOpen-clause-accepted
+returns-in_ok-end_analyzed-in-NoneOpen-clause-accepted g c =
     let mid = c.analyze_open.new.self.connections in
-    IfOk-weaker c.end_analyzed.result _ _
-    (λ over ends. accepts_told c.args.segment.now c.args.self.now.connections mid
+    accepts_told c.args.segment.now c.args.self.now.connections mid
     c.end_analyzed.new.self.connections None _
     (rw c.in-NoneOpen.is at c.in_ok-analyze_open.ensures.judged)
     (rw c.in-NoneOpen.is at c.in_ok-analyze_open.ensures.logged)
     (takes_in c.in_ok-heard-in-NoneOpen.heard c.args.segment.now mid
     c.analyze_first.new.self.connections c.end_analyzed.new.self.connections _
     c.in_ok-heard-in-NoneOpen.ensures.belongs c.in_ok-heard-in-NoneOpen.ensures.logged
-    c.in_ok-heard-in-NoneOpen.ensures.closed ends))
-    c.end_analyzed.ensures.ended
+    c.in_ok-heard-in-NoneOpen.ensures.closed c.in_ok-end_analyzed-in-NoneOpen.ensures.ended)
 
 pub returns-in_err-heard-in-NoneOpen-clause-others : goal.returns-in_err-heard-in-NoneOpen-clause-others
 returns-in_err-heard-in-NoneOpen-clause-others g c =
     keeps_then (five_tuple_of c.args.segment.now) c.args.self.now.connections.live
     c.analyze_open.new.self.connections.live c.analyze_first.new.self.connections.live
     c.analyze_open.ensures.others c.analyze_first.ensures.others
-
-pub returns-in_ok-heard-in-NoneOpen-clause-others : goal.returns-in_ok-heard-in-NoneOpen-clause-others
-returns-in_ok-heard-in-NoneOpen-clause-others g c =
-    let e = five_tuple_of c.args.segment.now in let old = c.args.self.now.connections.live in
-    let heard = c.analyze_first.new.self.connections.live in
-    keeps_then e old heard c.end_analyzed.new.self.connections.live
-    (keeps_then e old c.analyze_open.new.self.connections.live heard
-    c.analyze_open.ensures.others c.analyze_first.ensures.others)
-    c.end_analyzed.ensures.others
 
 pub returns-in-Told-clause-accepted : goal.returns-in-Told-clause-accepted
 returns-in-Told-clause-accepted g c =

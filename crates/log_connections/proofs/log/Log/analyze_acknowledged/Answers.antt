@@ -11,6 +11,7 @@ waiting-init g c = record {
   others = keeps_same (five_tuple_of c.args.segment.now) c.args.self.now.connections.live
       c.args.self.now.connections.live refl;
   memory = refl;
+  reader = refl;
 }
 
 pub waiting-preserved : goal.waiting-preserved
@@ -28,6 +29,7 @@ waiting-preserved g c =
           c.waiting.self.connections.live c.analyze_one_acknowledged.new.self.connections.live
           c.waiting.invariant.others c.analyze_one_acknowledged.ensures.others;
       memory = c.analyze_one_acknowledged.ensures.memory ∙ c.waiting.invariant.memory;
+      reader = c.analyze_one_acknowledged.ensures.reader ∙ c.waiting.invariant.reader;
     }
 
 pub returns-in_err-analyze_one_acknowledged-clause-others : goal.returns-in_err-analyze_one_acknowledged-clause-others

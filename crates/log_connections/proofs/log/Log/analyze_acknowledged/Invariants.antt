@@ -1,7 +1,7 @@
 use Rattle.std.specs.Prelude.{◌≡◌, ◌-◌}
 use Rattle.connections.specs.Segment.{five_tuple_of}
 use Rattle.connections.specs.declared.pending.TheConstants.{MAX_PENDING}
-use Rattle.log_connections.specs.Log.{HearsAcknowledged, HearsAllAcknowledged, KeepsOthers}
+use Rattle.log_connections.specs.Log.{HearsAcknowledged, HearsAllAcknowledged, KeepsOthers, uncounted}
 use Rattle.log_connections.proofs.log.Log.analyze_acknowledged.Given as goal
 
 -- What is heard from here on, behind what was heard so far, is all.
@@ -12,4 +12,5 @@ invariant-waiting g l = record {
   others : KeepsOthers (five_tuple_of l.segment) l.initial.self.connections.live
       l.self.connections.live;
   memory : l.self.memory ≡ l.initial.self.memory;
+  reader : uncounted l.self.arrivals ≡ uncounted l.initial.self.arrivals;
 }

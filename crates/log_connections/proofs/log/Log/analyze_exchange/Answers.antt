@@ -1,5 +1,6 @@
-use Rattle.std.proofs.Common.{refl, sym, subst, ◌∙◌}
+use Rattle.std.proofs.Common.{refl, sym, ◌∙◌}
 use Rattle.connections.specs.Datagram.{five_tuple_of_datagram}
+use Rattle.connections.proofs.TableLemmas.{on_err}
 use Rattle.log_connections.proofs.LogLemmas.{another_begun, exchange_heard, lent_unchanged, none_damaged, some_damaged}
 use Rattle.log_connections.proofs.OtherLemmas.{keeps_other, keeps_promoted}
 use Rattle.log_connections.proofs.log.Log.analyze_exchange.Goals as goal
@@ -74,3 +75,14 @@ returns-clause-others g c =
     (keeps_promoted (five_tuple_of_datagram c.args.datagram.now) c.args.self.now.connections
     c.in-Some.exchange.now c.analyze_from.new.exchange
     (rw c.between-five_tuple.ensures at c.in-Some.ensures.value))
+
+pub returns-in_err-analyze_from-clause-refused : goal.returns-in_err-analyze_from-clause-refused
+returns-in_err-analyze_from-clause-refused g c =
+    on_err c.from_residual.result (
+      some_damaged c.args.datagram.now c.args.self.now.connections c.in-Some.exchange.now _
+          (rw c.between-five_tuple.ensures at c.in-Some.ensures.value)
+          (sym c.is_damaged.ensures ∙ c.if-is_damaged.false),
+      another_begun c.args.datagram.now c.args.self.now.connections c.in-Some.exchange.now _ _
+          c.side_of-side.result (rw c.between-five_tuple.ensures at c.in-Some.ensures.value)
+          c.side_of-side.ensures c.if-begins_another.false c.begins_another.ensures,
+    )

@@ -1,7 +1,7 @@
 use Rattle.std.proofs.Common.{ap, ◌∙◌, sym, subst, Some}
 use Rattle.connections.specs.Connection.{without_pending}
 use Rattle.connections.specs.Segment.{five_tuple_of}
-use Rattle.connections.specs.Table.{at, without_pending_segment}
+use Rattle.connections.specs.Table.{at}
 use Rattle.log_connections.specs.Log.{HearsPending, KeepsOthers, had, none, taken}
 use Rattle.log_connections.proofs.OtherLemmas.{keeps_changed, keeps_then}
 use Rattle.log_connections.proofs.log.Log.analyze_one_acknowledged.Goals as goal

@@ -1,4 +1,3 @@
-use Rattle.std.proofs.Common.{ap, sym}
 use Rattle.connections.specs.Connection.{dropping, without_earlier}
 use Rattle.connections.specs.Segment.{five_tuple_of}
 use Rattle.connections.specs.Table.{at, with_dropped_segment, without_earlier_syn}

@@ -1,5 +1,6 @@
 use Rattle.std.specs.Prelude.{◌≡◌, true, length}
 use Rattle.connections.specs.Memory.{IsAccounted}
+use Rattle.log_connections.specs.Log.{uncounted}
 use Rattle.log_connections.specs.Sink.{IsCrowded, PassesEnded}
 use Rattle.log_connections.proofs.log.Log.end_crowded.Given as goal
 
@@ -10,6 +11,7 @@ invariant-loop-over g l = record {
       (g.S.Sink.received l.initial.sink) (g.S.Sink.received l.sink);
   accounted : IsAccounted l.initial.self.connections → IsAccounted l.self.connections;
   memory : l.self.memory ≡ l.initial.self.memory;
+  reader : uncounted l.self.arrivals ≡ uncounted l.initial.self.arrivals;
   sound : g.S.Sink.is_sound l.initial.sink ≡ true → g.S.Sink.is_sound l.sink ≡ true;
 }
 

@@ -1,5 +1,6 @@
 use Rattle.std.proofs.Common.{refl, ◌∙◌}
-use Rattle.log_connections.proofs.SinkLemmas.{none_ended, one_more_ended}
+use Rattle.connections.proofs.TableLemmas.{on_err}
+use Rattle.log_connections.proofs.SinkLemmas.{all_but_last, none_ended, one_more_ended}
 use Rattle.log_connections.specs.Sink.{IsIdle}
 use Rattle.log_connections.proofs.log.Log.end_idle.Goals as goal
 
@@ -7,12 +8,13 @@ pub loop-over-init : goal.loop-over-init
 loop-over-init g c = record {
   ended = none_ended (IsIdle c.args.time) c.args.self.now.connections.live (g.S.Sink.received c.args.sink.now);
   memory = refl;
+  reader = refl;
   sound = λ h. h;
 }
 
 pub loop-over-preserved : goal.loop-over-preserved
 loop-over-preserved g c =
-    let last = rw c.in-Some.is at c.in_ok-over.ensures.idle in
+    let last = rw c.in-Some.is at c.take_over.ensures.idle in
     rw c.in_ok-end_connection.ensures.same
     (record {
       ended =
@@ -21,6 +23,17 @@ loop-over-preserved g c =
           (g.S.Sink.received c.args.sink.now) (g.S.Sink.received c.loop-over.sink)
           (g.S.Sink.received c.end_connection.new.sink) c.loop-over.invariant.ended last.2 last.1
           c.in_ok-end_connection.ensures.received;
-      memory = c.in_ok-over.ensures.memory ∙ c.loop-over.invariant.memory;
+      memory = c.take_over.ensures.memory ∙ c.loop-over.invariant.memory;
+      reader = c.end_connection.ensures.reader ∙ c.take_over.ensures.reader ∙ c.loop-over.invariant.reader;
       sound = λ h. c.in_ok-end_connection.ensures.sound (c.loop-over.invariant.sound h);
     })
+
+pub returns-in_err-end_connection-clause-stopped : goal.returns-in_err-end_connection-clause-stopped
+returns-in_err-end_connection-clause-stopped g c =
+    let last = rw c.in-Some.is at c.take_over.ensures.idle in
+    rw c.end_connection.ensures.same
+    (on_err c.from_residual.result (all_but_last (IsIdle c.args.time) c.args.self.now.connections.live c.loop-over.self.connections.live
+    c.take_over.new.self.connections.live last.0 c.in-Some.over.value
+    (g.S.Sink.received c.args.sink.now) (g.S.Sink.received c.loop-over.sink)
+    (g.S.Sink.received c.end_connection.new.sink) c.loop-over.invariant.ended last.2 last.1
+    c.in_err-end_connection.ensures.received))

@@ -1,19 +1,45 @@
-use Rattle.std.proofs.Common.{ap, ◌∙◌, subst, sym}
 use Rattle.arrivals.specs.Arrival.{five_tuple_in}
-use Rattle.log_connections.proofs.PacketLemmas.{not_neither, refused_ends}
+use Rattle.log_connections.proofs.PacketLemmas.{given, not_neither, refused_ends, stops_oldest, stops_own}
 use Rattle.log_connections.proofs.log.Log.end_refused.Goals as goal
+
+pub returns-in_err-has_own-clause-stopped : goal.returns-in_err-has_own-clause-stopped
+returns-in_err-has_own-clause-stopped g c =
+    rw c.end_removed.ensures.same
+    (given c.from_residual.result c.in_err-has_own.field-0.0 _ c.from_residual.ensures.1
+    (stops_own (λ b. b.value) (five_tuple_in c.args.arrival.now) c.in_err-has_own.field-0.0
+    c.args.self.now.connections c.take_refused-own.new.self.connections c.take_refused-own.result
+    (g.S.Sink.received c.args.sink.now) (g.S.Sink.received c.end_removed.new.sink)
+    c.take_refused-own.ensures.own c.take_refused-own.ensures.others
+    c.take_refused-own.ensures.early c.in_err-has_own.ensures.stopped.0
+    c.in_err-has_own.ensures.stopped.1 c.in_err-has_own.ensures.failed))
+
+pub returns-in_err-has_oldest-clause-stopped : goal.returns-in_err-has_oldest-clause-stopped
+returns-in_err-has_oldest-clause-stopped g c =
+    rw c.end_removed-2.ensures.same
+    (given c.from_residual-in_err-has_oldest.result c.in_err-has_oldest.field-0.0 _
+    c.from_residual-in_err-has_oldest.ensures.1
+    (stops_oldest (λ b. b.value) (five_tuple_in c.args.arrival.now) c.in_err-has_oldest.field-0.0
+    c.args.self.now.connections c.take_refused-own.new.self.connections
+    c.take_oldest-oldest.new.self.connections c.take_refused-own.result c.take_oldest-oldest.result
+    (g.S.Sink.received c.args.sink.now) (g.S.Sink.received c.end_removed.new.sink)
+    (g.S.Sink.received c.end_removed-2.new.sink) c.take_refused-own.ensures.own
+    c.take_refused-own.ensures.others
+    (rw c.in_ok-has_own.ensures.same at c.take_oldest-oldest.ensures.oldest)
+    c.take_refused-own.ensures.early c.take_oldest-oldest.ensures.early
+    c.in_err-has_oldest.ensures.stopped.0 c.in_ok-has_own.ensures.received
+    c.in_err-has_oldest.ensures.stopped.1 c.in_err-has_oldest.ensures.failed))
 
 pub returns-clause-ended : goal.returns-clause-ended
 returns-clause-ended g c =
-    rw (c.spare.ensures, c.in_ok-has_oldest.ensures.same)
+    rw c.in_ok-has_oldest.ensures.same
     (refused_ends (λ b. b.value) (five_tuple_in c.args.arrival.now) c.args.self.now.connections
-    c.take_refused.new.self.connections c.take_oldest.new.self.connections
-    c.in_ok-own.own c.in_ok-oldest.oldest c.in_ok-has_own.has_own c.in_ok-has_oldest.has_oldest
-    (g.S.Sink.received c.args.sink.now) (g.S.Sink.received c.end_removed.new.sink)
-    (g.S.Sink.received c.end_removed-2.new.sink) c.in_ok-own.ensures.own
-    c.take_refused.ensures.others
-    (rw c.in_ok-has_own.ensures.same at c.in_ok-oldest.ensures.oldest)
-    c.in_ok-own.ensures.early c.in_ok-oldest.ensures.early c.in_ok-has_own.ensures.was
-    c.in_ok-has_oldest.ensures.was
-    (not_neither c.in_ok-has_own.has_own c.in_ok-has_oldest.has_oldest c.else-not-has_own.either) c.in_ok-has_own.ensures.received
-    c.in_ok-has_oldest.ensures.received)
+    c.take_refused-own.new.self.connections c.take_oldest-oldest.new.self.connections
+    c.take_refused-own.result c.take_oldest-oldest.result c.in_ok-has_own.has_own
+    c.in_ok-has_oldest.has_oldest (g.S.Sink.received c.args.sink.now)
+    (g.S.Sink.received c.end_removed.new.sink) (g.S.Sink.received c.end_removed-2.new.sink)
+    c.take_refused-own.ensures.own c.take_refused-own.ensures.others
+    (rw c.in_ok-has_own.ensures.same at c.take_oldest-oldest.ensures.oldest)
+    c.take_refused-own.ensures.early c.take_oldest-oldest.ensures.early
+    c.in_ok-has_own.ensures.was c.in_ok-has_oldest.ensures.was
+    (not_neither c.in_ok-has_own.has_own c.in_ok-has_oldest.has_oldest c.else-not-has_own.either)
+    c.in_ok-has_own.ensures.received c.in_ok-has_oldest.ensures.received)

@@ -1,4 +1,5 @@
-use Rattle.log_connections.proofs.SinkLemmas.{none_ended, one_more_ended}
+use Rattle.connections.proofs.TableLemmas.{on_err}
+use Rattle.log_connections.proofs.SinkLemmas.{all_but_last, none_ended, one_more_ended}
 use Rattle.log_connections.specs.Sink.{IsOpen}
 use Rattle.log_connections.proofs.log.Log.finish.Goals as goal
 
@@ -10,7 +11,7 @@ loop-over-init g c = record {
 
 pub loop-over-preserved : goal.loop-over-preserved
 loop-over-preserved g c =
-    let last = rw c.in-Some.is at c.in_ok-over.ensures.last in
+    let last = rw c.in-Some.is at c.take_remaining.ensures.last in
     rw c.in_ok-end_connection.ensures.same
     (record {
       ended =
@@ -21,3 +22,13 @@ loop-over-preserved g c =
           c.in_ok-end_connection.ensures.received;
       sound = λ h. c.in_ok-end_connection.ensures.sound (c.loop-over.invariant.sound h);
     })
+
+pub returns-in_err-end_connection-clause-stopped : goal.returns-in_err-end_connection-clause-stopped
+returns-in_err-end_connection-clause-stopped g c =
+    let last = rw c.in-Some.is at c.take_remaining.ensures.last in
+    rw c.end_connection.ensures.same
+    (on_err c.from_residual.result (all_but_last IsOpen c.args.self.now.connections.live c.loop-over.self.connections.live
+    c.take_remaining.new.self.connections.live last.0 c.in-Some.over.value
+    (g.S.Sink.received c.args.sink.now) (g.S.Sink.received c.loop-over.sink)
+    (g.S.Sink.received c.end_connection.new.sink) c.loop-over.invariant.ended tt last.1
+    c.in_err-end_connection.ensures.received))

@@ -1,8 +1,6 @@
-use Rattle.std.proofs.Common.{ap, ◌∙◌}
 use Rattle.arrivals.specs.Arrival.{five_tuple_in}
-use Rattle.connections.specs.Connection.{side_of}
 use Rattle.connections.proofs.TableLemmas.{changed_at}
-use Rattle.log_connections.specs.Log.{disagreeing_from, disagreeing_of}
+use Rattle.log_connections.specs.Log.{disagreeing_of}
 use Rattle.log_connections.proofs.log.Log.note_disagreeing.Goals as goal
 
 pub returns-clause-noted : goal.returns-clause-noted

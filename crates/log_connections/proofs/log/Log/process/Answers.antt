@@ -1,6 +1,6 @@
 use Rattle.std.proofs.Common.{◌∙◌}
-use Rattle.std.proofs.lemmas.Result.{IfOk-weaker}
-use Rattle.log_connections.proofs.PacketLemmas.{both_ok}
+use Rattle.log_connections.specs.Packet.{at_arrival, at_crowded}
+use Rattle.log_connections.proofs.PacketLemmas.{both_ok, given, with_err}
 use Rattle.log_connections.proofs.log.Log.process.Goals as goal
 
 pub returns-clause-processed : goal.returns-clause-processed
@@ -19,3 +19,23 @@ returns-clause-processed g c =
       within = rw same at within;
     })
     c.end_crowded.ensures.ended c.end_crowded.ensures.within
+
+pub returns-in_err-process_arrival-clause-stopped : goal.returns-in_err-process_arrival-clause-stopped
+returns-in_err-process_arrival-clause-stopped g c =
+    given c.from_residual-in_err-process_arrival.result c.in_err-process_arrival.field-0.0 _
+    c.from_residual-in_err-process_arrival.ensures.1
+    (at_arrival c.end_idle.new.self.connections (g.S.Sink.received c.end_idle.new.sink)
+    (rw c.time.ensures at c.in_ok-end_idle.ensures.ended)
+    (rw c.time.ensures at c.in_ok-end_idle.ensures.none) c.in_err-process_arrival.ensures.stopped)
+
+pub returns-clause-stopped : goal.returns-clause-stopped
+returns-clause-stopped g c =
+    let same = c.in_ok-process_arrival.ensures.memory ∙ c.in_ok-end_idle.ensures.memory in
+    with_err c.end_crowded.result _ _ _
+    (λ error passes of_sink. at_crowded c.end_idle.new.self.connections
+    c.process_arrival.new.self.connections (g.S.Sink.received c.end_idle.new.sink)
+    (g.S.Sink.received c.process_arrival.new.sink)
+    (rw c.time.ensures at c.in_ok-end_idle.ensures.ended)
+    (rw c.time.ensures at c.in_ok-end_idle.ensures.none) c.in_ok-process_arrival.ensures.arrives
+    of_sink (rw same at passes))
+    c.end_crowded.ensures.stopped c.end_crowded.ensures.failed

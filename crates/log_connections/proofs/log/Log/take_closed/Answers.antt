@@ -1,5 +1,4 @@
 use Rattle.std.proofs.Common.{ap, subst, sym}
-use Rattle.std.proofs.lemmas.Result.{IfOk-weaker}
 use Rattle.std.specs.Option.{option_map}
 use Rattle.connections.specs.Segment.{five_tuple_of}
 use Rattle.log_connections.specs.Log.{KeepsOthers}
@@ -7,24 +6,25 @@ use Rattle.log_connections.specs.Sink.{EndsAs}
 use Rattle.log_connections.proofs.OtherLemmas.{keeps_ended, keeps_same}
 use Rattle.log_connections.proofs.log.Log.take_closed.Goals as goal
 
-pub returns-in_err-take_closed-clause-others : goal.returns-in_err-take_closed-clause-others
-returns-in_err-take_closed-clause-others g c =
+pub returns-in_err-taken-clause-others : goal.returns-in_err-taken-clause-others
+returns-in_err-taken-clause-others g c =
     keeps_same (five_tuple_of c.args.segment.now) c.args.self.now.connections.live
-    c.take_closed.new.self.live (ap (λ t. t.live) c.in_err-take_closed.ensures.err)
+    c.take_closed.new.self.live (ap (λ t. t.live) c.in_err-taken.ensures.err)
 
 pub returns-clause-ended : goal.returns-clause-ended
 returns-clause-ended g c =
-    IfOk-weaker c.with_last.result _ _
-    (λ over ends. record {
-      ends = subst (λ o. EndsAs o (option_map (λ b. b.value) over))
-          c.in_ok-take_closed.ensures.taken ends;
-      left = c.in_ok-take_closed.ensures.left;
-    }) c.with_last.ensures
+    rw c.with_last.ensures.connections
+    (record {
+      ends = subst (λ o. EndsAs o (option_map (λ b. b.value) c.with_last.result))
+          c.in_ok-taken.ensures.taken c.with_last.ensures.ended;
+      left = c.in_ok-taken.ensures.left;
+    })
 
 pub returns-clause-others : goal.returns-clause-others
 returns-clause-others g c =
-    subst
+    rw c.with_last.ensures.connections
+    (subst
     (λ t. KeepsOthers (five_tuple_of c.args.segment.now) c.args.self.now.connections.live t.live)
-    (sym c.in_ok-take_closed.ensures.left)
+    (sym c.in_ok-taken.ensures.left)
     (keeps_ended (five_tuple_of c.args.segment.now) c.args.segment.now.time
-    c.args.self.now.connections)
+    c.args.self.now.connections))

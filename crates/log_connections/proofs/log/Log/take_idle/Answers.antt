@@ -1,10 +1,9 @@
-use Rattle.std.proofs.lemmas.Result.{IfOk-weaker}
 use Rattle.log_connections.proofs.SinkLemmas.{ends_idle}
 use Rattle.log_connections.proofs.log.Log.take_idle.Goals as goal
 
 pub returns-clause-idle : goal.returns-clause-idle
 returns-clause-idle g c =
-    IfOk-weaker c.with_last.result _ _
-    (λ ended ends. ends_idle (λ b. b.value) c.args.self.now.connections c.take_idle.new.self c.args.time
-    c.take_idle.result ended c.take_idle.ensures.taken c.take_idle.ensures.none ends)
-    c.with_last.ensures
+    rw c.with_last.ensures.connections
+    (ends_idle (λ b. b.value) c.args.self.now.connections c.take_idle-taken.new.self c.args.time
+    c.take_idle-taken.result c.with_last.result c.take_idle-taken.ensures.taken
+    c.take_idle-taken.ensures.none c.with_last.ensures.ended)

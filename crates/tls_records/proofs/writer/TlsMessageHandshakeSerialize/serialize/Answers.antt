@@ -1,7 +1,7 @@
 use Rattle.std.proofs.Common.{◌≡◌, refl}
 use Rattle.tls_hs.specs.Handshake.{view_handshake}
 use Rattle.tls_hs.specs.HandshakeText.{refusal_of_handshake}
-use Rattle.tls_hs.proofs.HandshakeTextLemmas.{built_read}
+use Rattle.tls_hs_writer.proofs.HandshakeTextLemmas.{built_read}
 use Rattle.tls_records.proofs.writer.TlsMessageHandshakeSerialize.serialize.Goals as goal
 
 pub returns-clause-read_back : goal.returns-clause-read_back

@@ -12,7 +12,7 @@ abbrev pub decreases-tls12 : goal.decreases-tls12
 decreases-tls12 l = left_tls12 l.self l.side
 
 abbrev pub invariant-tls13 : goal.invariant-tls13
-invariant-tls13 l = IsOn l.fn.self l.side l.self × (l.self.is_tls13 ≡ true)
+invariant-tls13 l = IsOn l.fn.self l.side l.self × (l.self.reader.is_tls13 ≡ true)
 
 abbrev pub decreases-tls13 : goal.decreases-tls13
 decreases-tls13 l = length (says (ear l.self l.side) [])

@@ -1,32 +1,14 @@
-use Rattle.std.proofs.Common.{rules}
-use Rattle.tls_stream.proofs.ConversationLemmas.{client_silent, client_taken, server_silent, server_taken}
+use Rattle.std.proofs.Common.{false, refl, true}
+use Rattle.tls_stream.proofs.ConversationLemmas.{event_followed, none_followed}
 use Rattle.tls_stream.proofs.conversation.Conversation.take_front_as.Goals as goal
-use Rattle.tls_stream.proofs.conversation.Conversation.take_front_as.Goals.{in-ToServer, in-FromServer}
 
 pub returns-clause-taken : goal.returns-clause-taken
-returns-clause-taken c same = elim c.match-side.branch [
-  | in-ToServer w ↦
-      client_taken c.args.self.now c.match-side.self c.follow.new.self c.args.side c.args.event
-      w.take_front-is_taken.result w.take_front-is_taken.new.self w.in-ToServer.is w.self-is
-      w.take_front-is_taken.ensures.taken
-      (search rules) c.follow.ensures same
-  | in-FromServer w ↦
-      server_taken c.args.self.now c.match-side.self c.follow.new.self c.args.side c.args.event
-      w.take_front-is_taken-in-FromServer.result w.take_front-is_taken-in-FromServer.new.self
-      w.in-FromServer.is w.self-is
-      w.take_front-is_taken-in-FromServer.ensures.taken (search rules) c.follow.ensures same
-]
+returns-clause-taken c same =
+    event_followed c.args.self.now
+    (record { reader = c.take_front.new.self; flow = c.update.new.self }) c.args.side c.args.event
+    true c.if-not-take_front.ensures.taken refl c.update.ensures same
 
-pub returns-then-not-is_taken-clause-taken : goal.returns-then-not-is_taken-clause-taken
-returns-then-not-is_taken-clause-taken c same = elim c.match-side.branch [
-  | in-ToServer w ↦
-      client_silent c.args.self.now c.match-side.self c.args.side
-      w.take_front-is_taken.result w.take_front-is_taken.new.self w.in-ToServer.is w.self-is
-      w.take_front-is_taken.ensures.taken
-      (search rules)
-  | in-FromServer w ↦
-      server_silent c.args.self.now c.match-side.self c.args.side
-      w.take_front-is_taken-in-FromServer.result w.take_front-is_taken-in-FromServer.new.self
-      w.in-FromServer.is w.self-is
-      w.take_front-is_taken-in-FromServer.ensures.taken (search rules)
-]
+pub returns-then-not-take_front-clause-taken : goal.returns-then-not-take_front-clause-taken
+returns-then-not-take_front-clause-taken c same =
+    none_followed c.args.self.now (record c.args.self.now { reader = c.take_front.new.self })
+    c.args.side c.args.event false c.if-not-take_front.ensures.taken refl refl same

@@ -1,0 +1,4 @@
+mod HearerLemmas
+mod DatagramLemmas
+mod ChangeLemmas
+mod HeardLemmas

@@ -1,0 +1,369 @@
+-- The state of a datagram analyzer, record by record (RFC 6347, RFC 9147). What a peer would drop
+-- changes nothing.
+use Rattle.std.specs.Prelude.{◌≡◌, ℕ, zero, suc, Bool, true, false, not, ◌&&◌, ◌||◌, ◌==◌, nat_lt, is_some, if◌then◌else◌, Option, Some, None, Ok, Err, List, [], ◌∷◌, length}
+use Rattle.std.specs.Str.{bytes_eq}
+use Rattle.layouts.specs.Bytes.{Bytes}
+use Rattle.layouts.specs.Meaning.{Answer}
+use Rattle.layouts.specs.Reading.{reading}
+use Rattle.raw_records.specs.RawDtlsRecord.{RawRecord}
+use Rattle.dtls_stream.specs.Fragments.{Fragment, fragment}
+use Rattle.dtls_stream.specs.Messages.{Alert, ChangeCipherSpec, Encrypted, Event, Handshake, Heard, Kept, Limits, Stands, nothing as none_heard, nothing_from}
+use Rattle.raw_records.specs.DatagramRecord.{datagram_record}
+use Rattle.dtls_stream.specs.Datagrams.{Step, record_step}
+use Rattle.tls_flow.specs.Steps.{follow, silence}
+use Rattle.tls_flow.specs.Table.{is_failed, is_waiting, outcome_at}
+use Rattle.tls_flow.specs.declared.event.FlowEvent.{FlowEvent as Followed}
+use Rattle.tls_flow.specs.declared.flow.Flow.{Flow}
+use Rattle.tls_flow.specs.declared.symbol.Direction.{Direction as Side}
+use Rattle.tls_flow.specs.declared.symbol.Direction.TheVariants.{ToServer, FromServer}
+use Rattle.dtls_stream.specs.FlowEvents.{event_in_datagram_with, kind_in_datagram, message_in_datagram}
+use Rattle.tls_flow.specs.Bytes.{HandshakeMessage}
+use Rattle.tls_flow.specs.declared.symbol.Kind.{Kind}
+use Rattle.tls_flow.specs.declared.state.Outcome.{Outcome}
+use Rattle.tls_summary.specs.HandshakeSummary.{HandshakeSummary, nothing, of_alert, of_datagrams, view_summary}
+use Rattle.raw_records.specs.Ciphertext.{Ciphertext, ciphertext}
+use Rattle.tls_observer.specs.Ends.{is_13}
+use Rattle.tls_stream.specs.Events.{default_limit}
+use Rattle.tls_summary.specs.Told.{client_session_id, connection_id_length, offers_ticket, server_session_id}
+use Rattle.dtls_analyzer.specs.DatagramRecords.{is_known}
+use Rattle.tls_observer.specs.History.{letter_in_datagram, with_letter}
+use Rattle.dtls_analyzer.specs.declared.account.Account.{Account}
+use Rattle.dtls_analyzer.specs.declared.account.Progress.{Progress}
+use Rattle.dtls_analyzer.specs.declared.datagram_side.DatagramSide.{DatagramSide}
+use Rattle.dtls_analyzer.specs.declared.datagram_analyzer.DatagramAnalyzer.{DatagramAnalyzer}
+
+-- The summary after an event of this side, where m is its handshake message.
+abbrev pub noted_by : Side → Option HandshakeMessage → HandshakeSummary → HandshakeSummary
+noted_by s (Some m) f = of_datagrams s m f
+noted_by s None f = f
+
+abbrev pub noted_in_datagram_with : Side → HandshakeSummary → Event → Option HandshakeMessage
+    → HandshakeSummary
+noted_in_datagram_with s f (Handshake h) m = noted_by s m f
+noted_in_datagram_with s f (Alert a) m = of_alert a.description f
+noted_in_datagram_with s f e m = f
+
+abbrev pub noted_in_datagram : Side → HandshakeSummary → Event → HandshakeSummary
+noted_in_datagram s f e = noted_in_datagram_with s f e (message_in_datagram e)
+
+abbrev pub is_change : Event → Bool
+is_change ChangeCipherSpec = true
+is_change e = false
+
+abbrev pub is_sealed : Event → Bool
+is_sealed (Encrypted r) = true
+is_sealed e = false
+
+abbrev pub is_client : Side → Bool
+is_client ToServer = true
+is_client FromServer = false
+
+abbrev pub followed_by : Flow → Option Followed → Flow
+followed_by f (Some e) = follow f e
+followed_by f None = f
+
+-- The flow after an event of this side, where k is the kind of its handshake message.
+abbrev pub followed_with : Side → Flow → Event → Kind → Flow
+followed_with s f e k = followed_by f (event_in_datagram_with s e k)
+
+abbrev pub followed : Side → Flow → Event → Flow
+followed s f e = followed_with s f e (kind_in_datagram e)
+
+-- What both sides have sent, and how far one of them has come: whether it has sent its
+-- ChangeCipherSpec, and whether it has sent an encrypted record.
+pub record Told : Type 0 where
+  pub flow : Flow
+  pub handshake : HandshakeSummary
+  pub history : List ℕ
+  pub has_changed : Bool
+  pub is_encrypted : Bool
+
+abbrev pub told_of : Account → Progress → Told
+told_of a p = record {
+  flow = a.flow;
+  handshake = view_summary a.handshake;
+  history = a.history.items;
+  has_changed = p.has_changed;
+  is_encrypted = p.is_encrypted;
+}
+
+-- The server's hello resumes a session if it repeats the client's session ID. If the client's is
+-- empty, what follows decides whether the offered ticket is accepted (RFC 5077, section 3.4).
+abbrev pub takes_up : Option Bytes → Option Bytes → Bool → Bool
+takes_up None server ticket = ticket
+takes_up (Some id) None ticket = false
+takes_up (Some id) (Some same) ticket = bytes_eq id same
+
+abbrev pub may_resume : HandshakeSummary → Bool
+may_resume f = takes_up (client_session_id f) (server_session_id f) (offers_ticket f)
+
+-- The outcome that a ChangeCipherSpec of this side would give.
+abbrev pub behind_change : Side → Flow → Outcome
+behind_change s f = outcome_at (followed s f ChangeCipherSpec).state
+
+-- The handshake has reached this side's ChangeCipherSpec: it doesn't fail with it. A server's, if
+-- the client's is still to come, needs a resumed session (RFC 5246, section 7.3).
+abbrev pub has_come_to_change : Side → Flow → HandshakeSummary → Bool
+has_come_to_change s f a =
+    not (is_waiting (outcome_at f.state) && is_failed (behind_change s f))
+    && (is_client s || not (is_waiting (behind_change s f)) || may_resume a)
+
+-- A ChangeCipherSpec counts once for each side, and only if the handshake has reached it, which is
+-- after the ServerHello. Any other is dropped: it is a retransmission (RFC 6347, section 4.2.4), or
+-- there is nothing to change to.
+abbrev pub awaits_change : Side → Told → Bool
+awaits_change s t = not t.has_changed && is_some t.handshake.server
+    && has_come_to_change s t.flow t.handshake
+
+abbrev pub saying : Side → Told → Event → Told
+saying s t e = record {
+  flow = followed s t.flow e;
+  handshake = noted_in_datagram s t.handshake e;
+  history = with_letter s t.history (letter_in_datagram e);
+  has_changed = t.has_changed || is_change e;
+  is_encrypted = t.is_encrypted || is_sealed e;
+}
+
+-- An event of the side.
+abbrev pub said : Side → Told → Event → Told
+said s t e = if is_change e && not (awaits_change s t) then t else saying s t e
+
+-- Events of the side, in order.
+abbrev pub said_all : Side → Told → List Event → Told
+said_all s t [] = t
+said_all s t (e ∷ es) = said_all s (said s t e) es
+
+-- The limits for a side: the length of a message, and fragments of 16 messages at a time.
+abbrev pub allowed : Limits
+allowed = record { message = default_limit; ahead = 16 }
+
+-- The state of one side: its reassembly, and how far it has come.
+pub record Spoken : Type 0 where
+  pub heard : Heard
+  -- whether a fragment of it was added, and whether the messages before it are missing
+  pub is_begun : Bool
+  pub lacks_front : Bool
+  pub has_changed : Bool
+  pub is_encrypted : Bool
+
+-- The state of an analyzer.
+pub record Analyzer : Type 0 where
+  pub client : Spoken
+  pub server : Spoken
+  pub flow : Flow
+  pub handshake : HandshakeSummary
+  pub history : List ℕ
+  -- whether a datagram began with a record of DTLS of epoch 0
+  pub is_dtls : Bool
+
+abbrev pub none_spoken : Spoken
+none_spoken =
+    record {
+      heard = none_heard;
+      is_begun = false;
+      lacks_front = false;
+      has_changed =
+          false;
+      is_encrypted = false;
+    }
+
+-- Nothing came.
+abbrev pub untold : Analyzer
+untold = record {
+  client = none_spoken;
+  server = none_spoken;
+  flow = silence;
+  handshake =
+      nothing;
+  history = [];
+  is_dtls = false;
+}
+
+abbrev pub spoken : Analyzer → Side → Spoken
+spoken k ToServer = k.client
+spoken k FromServer = k.server
+
+-- A side is skipped once it is encrypted and the handshake has ended.
+abbrev pub is_over : Analyzer → Side → Bool
+is_over k s = (spoken k s).is_encrypted && not (is_waiting (outcome_at k.flow.state))
+
+abbrev pub told_to : Analyzer → Spoken → Told
+told_to k p =
+    record {
+      flow = k.flow;
+      handshake = k.handshake;
+      history = k.history;
+      has_changed =
+          p.has_changed;
+      is_encrypted = p.is_encrypted;
+    }
+
+abbrev pub spoken_by : Spoken → Heard → Told → Spoken
+spoken_by p h t = record p { heard = h; has_changed = t.has_changed; is_encrypted = t.is_encrypted }
+
+abbrev pub with_told : Analyzer → Side → Heard → Told → Analyzer
+with_told k ToServer h t =
+    record k {
+      client = spoken_by k.client h t;
+      flow = t.flow;
+      handshake = t.handshake;
+      history =
+          t.history;
+    }
+with_told k FromServer h t =
+    record k {
+      server = spoken_by k.server h t;
+      flow = t.flow;
+      handshake = t.handshake;
+      history =
+          t.history;
+    }
+
+-- A side's events are followed and recorded.
+abbrev pub stepped : Analyzer → Side → Step → Analyzer
+stepped k s x = with_told k s x.0 (said_all s (told_to k (spoken k s)) x.1)
+
+abbrev pub fragment_in : Answer Fragment → Option Fragment
+fragment_in (Ok x) = Some x.0
+fragment_in (Err e) = None
+
+-- The handshake fragment that a record begins with.
+abbrev pub first_fragment : RawRecord → Option Fragment
+first_fragment r = if r.header.content_type == 22 then
+    fragment_in (reading fragment r.fragment) else None
+
+-- The first message after the missing ones: a second ClientHello, or the ServerHello after a
+-- HelloVerifyRequest (RFC 6347, section 4.2.2, which numbers the first messages 0).
+abbrev pub hello_type : Side → ℕ
+hello_type ToServer = 1
+hello_type FromServer = 2
+
+abbrev pub is_behind_front : Side → Fragment → Bool
+is_behind_front s f = f.msg_type == hello_type s && f.message_seq == 1
+
+-- The first fragment of a side gives the number at which its messages begin.
+abbrev pub begun : Side → Fragment → Spoken → Spoken
+begun s f p =
+    if p.is_begun then p
+    else if is_behind_front s f then
+    record p { heard = nothing_from 1; is_begun = true; lacks_front = true }
+    else record p { is_begun = true }
+
+abbrev pub with_spoken : Analyzer → Side → Spoken → Analyzer
+with_spoken k ToServer p = record k { client = p }
+with_spoken k FromServer p = record k { server = p }
+
+abbrev pub begun_by : Option Fragment → Analyzer → Side → Analyzer
+begun_by None k s = k
+begun_by (Some f) k s = with_spoken k s (begun s f (spoken k s))
+
+-- The epoch of the records that a side's peer accepts (section 4.1): 1 after the side's
+-- ChangeCipherSpec. Records of an epoch that hasn't begun or is over are dropped. Later epochs
+-- begin after the handshake, with an encrypted ChangeCipherSpec.
+abbrev pub epoch_of : Spoken → ℕ
+epoch_of p = if p.has_changed then 1 else 0
+
+-- A ClientHello, ServerHello or HelloVerifyRequest.
+abbrev pub is_hello : Fragment → Bool
+is_hello f = f.msg_type == 1 || f.msg_type == 2 || f.msg_type == 3
+
+-- After the ServerHello no hello is due (RFC 5246, section 7.3; RFC 6347, section 4.2.4, figure 1).
+-- A new one is dropped.
+abbrev pub is_late : Option Fragment → Analyzer → Side → Bool
+is_late None k s = false
+is_late (Some f) k s =
+    is_some k.handshake.server && is_hello f && not (nat_lt f.message_seq (spoken k s).heard.next)
+
+-- Whether a record of this side is read.
+abbrev pub takes : Analyzer → Side → RawRecord → Bool
+takes k s r =
+    k.is_dtls && not (is_over k s) && r.header.epoch == epoch_of (spoken k s)
+    && not (is_late (first_fragment r) k s)
+
+abbrev pub taken : Analyzer → Side → RawRecord → Analyzer
+taken k s r = stepped k s (record_step allowed (spoken k s).heard r)
+
+abbrev pub record_heard_in : Analyzer → Side → RawRecord → Analyzer
+record_heard_in k s r = if takes k s r then taken (begun_by (first_fragment r) k s) s r else k
+
+-- A record of this side. The first one of epoch 0 shows that it is DTLS.
+abbrev pub record_heard : Analyzer → Side → RawRecord → Analyzer
+record_heard k s r = record_heard_in (record k { is_dtls = k.is_dtls || r.header.epoch == 0 }) s r
+
+-- The bytes are an encrypted record of DTLS 1.3 (RFC 9147, section 4).
+abbrev pub is_sealed_record : Answer Ciphertext → Bool
+is_sealed_record (Ok x) = true
+is_sealed_record (Err e) = false
+
+-- If a record in the form of DTLS 1.3 comes next, and DTLS 1.3 was negotiated, the side is
+-- encrypted. A record that comes before its peer knows that is dropped.
+abbrev pub is_sealed_next : Analyzer → Side → Bytes → Bool
+is_sealed_next k s b =
+    is_13 (outcome_at k.flow.state)
+    && is_sealed_record (reading (ciphertext (connection_id_length s k.handshake)) b)
+
+abbrev pub sealed : Spoken → Spoken
+sealed p = record p { is_encrypted = true }
+
+abbrev pub sealed_by : Analyzer → Side → Bytes → Analyzer
+sealed_by k s b = if is_sealed_next k s b then with_spoken k s (sealed (spoken k s)) else k
+
+abbrev pub next_heard : Answer RawRecord → Analyzer → Side → Bytes
+    → (Analyzer → Bytes → Analyzer) → Analyzer
+next_heard (Err e) k s b more = sealed_by k s b
+next_heard (Ok x) k s b more = if is_known x.0.header then
+    more (record_heard k s x.0) x.1 else sealed_by k s b
+
+-- At most n records of a datagram, in order. Bytes that are no whole DTLS record are dropped with
+-- what follows them (section 4.1.2.7); so is a datagram that begins with such bytes, since other
+-- protocols may use the same ports (RFC 7983). In DTLS 1.3 encrypted records may follow the others,
+-- and the first one marks the side as encrypted.
+unfoldable pub records_heard : ℕ → Analyzer → Side → Bytes → Analyzer
+records_heard zero k s b = k
+records_heard (suc n) k s b =
+    next_heard (reading datagram_record b) k s b (λ k b. records_heard n k s b)
+
+-- A datagram of this side. A record has at least one byte, so there are no more records than bytes.
+abbrev pub heard : Analyzer → Side → Bytes → Analyzer
+heard k s d = records_heard (length d) k s d
+
+-- All of these datagrams, in order.
+abbrev pub heard_all : Analyzer → List (Side × Bytes) → Analyzer
+heard_all k [] = k
+heard_all k (d ∷ ds) = heard_all (heard k d.0 d.1) ds
+
+-- The program's data of one side, and of the analyzer, agree with the state.
+pub record IsSpoken (p : Spoken) (t : DatagramSide) : Type 0 where
+  pub stands : Stands allowed p.heard t.messages
+  pub is_begun : t.is_begun ≡ p.is_begun
+  pub lacks_front : t.lacks_front ≡ p.lacks_front
+  pub has_changed : t.progress.has_changed ≡ p.has_changed
+  pub is_encrypted : t.progress.is_encrypted ≡ p.is_encrypted
+
+pub record IsKnown (k : Analyzer) (t : DatagramAnalyzer) : Type 0 where
+  pub client : IsSpoken k.client t.client
+  pub server : IsSpoken k.server t.server
+  pub flow : t.account.flow ≡ k.flow
+  pub handshake : view_summary t.account.handshake ≡ k.handshake
+  pub history : t.account.history.items ≡ k.history
+  pub is_dtls : t.is_dtls ≡ k.is_dtls
+
+abbrev pub speaker_of : DatagramAnalyzer → Side → DatagramSide
+speaker_of t ToServer = t.client
+speaker_of t FromServer = t.server
+
+-- The side's events were followed and recorded.
+pub record IsStepped (s : Side) (x : Step) (t u : Told) (n : Kept) : Type 0 where
+  pub stands : Stands allowed x.0 n
+  pub told : u ≡ said_all s t x.1
+
+-- A datagram_side read a record and its events were added, in terms of the account and the progress
+-- before and after.
+abbrev pub SpeakerHears : Side → Heard → RawRecord → Account → Account → DatagramSide
+    → DatagramSide → Type 0
+SpeakerHears s h r a b t u =
+    IsStepped s (record_step allowed h r) (told_of a t.progress) (told_of b u.progress) u.messages
+
+-- Another state of the same side, apart from its messages.
+abbrev pub IsSameSide : DatagramSide → DatagramSide → Type 0
+IsSameSide t u = (u.is_begun ≡ t.is_begun) × (u.lacks_front ≡ t.lacks_front)

@@ -1,0 +1,3 @@
+pub mod Datagrams
+pub mod Another
+pub mod DatagramRecords

@@ -1,0 +1,111 @@
+//! Laws of whole runs. Each function's contract is one law; its body is empty.
+ghost use Rattle.std.specs.Map.{values_of};
+ghost use Rattle.std.specs.Prelude.{◌≡◌, ◌≤◌, ◌↔◌, ◌+◌, ℕ, true, List, [], Option, None, Some, drop, length};
+ghost use Rattle.segments.specs.Cells.{Bytes};
+ghost use Rattle.segments.specs.Law.{IsAmong, IsLongestFront};
+ghost use Rattle.arrivals.specs.Arrival.{five_tuple_in, is_logged, time_of};
+ghost use Rattle.arrivals.specs.declared.arrival.Arrival.{Arrival};
+ghost use Rattle.arrivals.specs.declared.reader.ArrivalReader.{ArrivalReader};
+ghost use Rattle.connection_parts.specs.declared.part.Part.{Part};
+ghost use Rattle.connections.specs.Stream.{empty_from, next_bytes};
+ghost use Rattle.connections.specs.Table.{Table, at};
+ghost use Rattle.connections.specs.declared.connection.Connection.{Connection};
+ghost use Rattle.connections.specs.declared.five_tuple.End.{End};
+ghost use Rattle.connections.specs.declared.five_tuple.FiveTuple.{FiveTuple};
+ghost use Rattle.connections.specs.declared.five_tuple.Protocol.{Protocol};
+ghost use Rattle.connections.specs.declared.stream.Reading.TheVariants.{Open};
+ghost use Rattle.connections.specs.declared.stream.Stream.{Stream};
+ghost use Rattle.connections.specs.declared.table.TheConstants.{IDLE_LIMIT, MAX_CONNECTIONS};
+ghost use Rattle.packets.specs.Section.{Packet};
+ghost use Rattle.log_connections.specs.declared.analysis.TlsAnalysis.{TlsAnalysis};
+ghost use Rattle.log_runs.specs.Counting.{count_of, rest_of, times};
+ghost use Rattle.log_connections.specs.Log.{Accepts};
+ghost use Rattle.log_connections.specs.Packet.{Processes};
+ghost use Rattle.log_connections.specs.Sink.{Adds};
+ghost use Rattle.log_runs.specs.Dropped.{ChangesCountsAt, is_dropped};
+ghost use Rattle.log_runs.specs.Runs.{HandlesEach, IsRun, StaysOrComesOut, are_of_others, begun_over, log_of, outs_over, refused_over};
+ghost use Rattle.log_runs.specs.Streams.{Gets, in_order, read_of};
+
+/// Each connection comes out of a run exactly once: for each five-tuple, as many come out as were
+/// open before the run or began in it. The law covers runs without refused memory: no contract
+/// states what happens to the connection of an arrival for which memory is refused.
+pub fn each_connection_comes_out_once<K>()
+    ensures { (M : K → ℕ) (limit : ℕ) (packets : List Packet) (reader : ArrivalReader)
+        (old new : Table (TlsAnalysis K)) (before after : Option (List (Connection (TlsAnalysis K))))
+        (run : IsRun M limit packets reader old new before after) (e : FiveTuple)
+        → refused_over run.handles ≡ []
+        → count_of e (log_of run) ≡ count_of e old.live + times e (begun_over run.handles) }
+{}
+
+/// The sink receives the connections that come out of a run, in this order, and no other.
+pub fn the_sink_receives_what_comes_out<K>()
+    ensures { (M : K → ℕ) (limit : ℕ) (packets : List Packet) (reader : ArrivalReader)
+        (old new : Table (TlsAnalysis K)) (before after : Option (List (Connection (TlsAnalysis K))))
+        (run : IsRun M limit packets reader old new before after)
+        → Adds before after (values_of (log_of run)) }
+{}
+
+/// An arrival that its receiver drops, or of which it isn't known yet whether its receiver takes it,
+/// ends no connection. It changes no connection's streams and no analysis: only pending segments,
+/// counts of dropped packets and accounted memory.
+pub fn dropped_arrivals_change_no_streams<K>()
+    ensures { (M : K → ℕ) (a : Arrival) (old new : Table (TlsAnalysis K))
+        (over : Option (Connection (TlsAnalysis K))) (accepts : Accepts M a old new over)
+        → is_dropped a old accepts.mid over accepts.takes ≡ true
+        → (over ≡ None) × ((e : FiveTuple) → ChangesCountsAt (at e old.live) (at e new.live)) }
+{}
+
+/// An arrival changes at most the connection of its own five-tuple. The others and their order are
+/// unchanged.
+pub fn arrivals_change_only_their_own_connection<K>()
+    ensures { (M : K → ℕ) (a : Arrival) (old new : Table (TlsAnalysis K))
+        (over : Option (Connection (TlsAnalysis K))) → Accepts M a old new over
+        → rest_of (five_tuple_in a) new.live ≡ rest_of (five_tuple_in a) old.live }
+{}
+
+/// However the bytes of a sender are cut into segments, and in whichever order those come or are
+/// repeated, its stream has the same bytes in order: the longest front of which each byte came. The
+/// next bytes are those of them that weren't read, unless an urgent byte comes before.
+pub fn segments_cut_otherwise_give_the_same_bytes()
+    ensures same { (bytes : Bytes) (limit first : ℕ) (t u v : Stream)
+        (got other : List (ℕ × Bytes)) → t.reading ≡ Open (empty_from limit first)
+        → Gets bytes t got u → Gets bytes t other v
+        → ((i : ℕ) → IsAmong got i ↔ IsAmong other i)
+        → in_order bytes u.reading ≡ in_order bytes v.reading }
+    ensures front { (bytes : Bytes) (limit first : ℕ) (t u : Stream) (got : List (ℕ × Bytes))
+        → t.reading ≡ Open (empty_from limit first) → Gets bytes t got u
+        → IsLongestFront bytes (IsAmong got) (in_order bytes u.reading) }
+    ensures next { (bytes : Bytes) (limit first : ℕ) (t u : Stream) (got : List (ℕ × Bytes))
+        → t.reading ≡ Open (empty_from limit first) → Gets bytes t got u → u.urgent ≡ None
+        → next_bytes u u.reading ≡ drop (read_of u u.reading) (in_order bytes u.reading) }
+{}
+
+/// Each connection falls to exactly one of the parts that share a capture.
+pub fn each_connection_falls_to_one_part()
+    ensures some { (p : Protocol) (a b : End) (last : ℕ) → (n : ℕ) × (n ≤ last)
+        × (is_logged (Some (record { number = n; last = last })) p a b ≡ true) }
+    ensures one { (p : Protocol) (a b : End) (part other : Part) → part.last ≡ other.last
+        → is_logged (Some part) p a b ≡ true → is_logged (Some other) p a b ≡ true
+        → part.number ≡ other.number }
+{}
+
+/// Whatever comes of other five-tuples, a connection stays as it is or comes out, even if memory is
+/// refused for the others. What it is follows from its own packets alone.
+pub fn packets_of_others_leave_a_connection_as_it_is<K>()
+    ensures { (M : K → ℕ) (limit : ℕ) (packets : List Packet) (reader read : ArrivalReader)
+        (old new : Table (TlsAnalysis K)) (before after : Option (List (Connection (TlsAnalysis K))))
+        (handles : HandlesEach M limit reader old before packets read new after) (e : FiveTuple)
+        → are_of_others e handles ≡ true
+        → StaysOrComesOut e (at e old.live) (at e new.live) (outs_over handles) }
+{}
+
+/// Only idle connections time out: one with a packet in the last 300 seconds stays, unless there are
+/// too many.
+pub fn only_idle_connections_time_out<K>()
+    ensures { (M : K → ℕ) (a : Arrival) (limit : ℕ) (old new : Table (TlsAnalysis K))
+        (before after : Option (List (Connection (TlsAnalysis K))))
+        (processes : Processes M a limit old new before after) (e : FiveTuple)
+        (c : Connection (TlsAnalysis K)) → at e old.live ≡ Some c
+        → time_of a ≤ c.last_time + IDLE_LIMIT → length old.live ≤ MAX_CONNECTIONS
+        → at e processes.awake.live ≡ Some c }
+{}

@@ -1,0 +1,4 @@
+pub mod LengthLemmas
+pub mod ClientHelloTextLemmas
+pub mod ServerHelloTextLemmas
+pub mod HandshakeTextLemmas

@@ -1,0 +1,16 @@
+use Rattle.std.proofs.Common.{arith}
+use Rattle.layouts.proofs.OneAnswerLemmas.{read_allowed}
+use Rattle.tls_key_exchange.specs.KeyExchange.{ecdh_params}
+use Rattle.tls_key_exchange.proofs.ec.ServerECDHParams.parse.Goals as goal
+
+pub returns-in_err-i : goal.returns-in_err-i
+unfolding ecdh_params
+returns-in_err-i c = grind (arith, read_allowed)
+
+pub returns-in_err-i-2 : goal.returns-in_err-i-2
+unfolding ecdh_params
+returns-in_err-i-2 c = grind (arith, read_allowed)
+
+pub returns : goal.returns
+unfolding ecdh_params
+returns c = grind (arith, read_allowed)

@@ -1,0 +1,4 @@
+pub mod Noting
+pub mod History
+pub mod Ends
+pub mod Capacity
