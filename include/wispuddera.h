@@ -628,7 +628,7 @@ uint32_t wispuddera_flow_outcome(const wispuddera_flow *flow);
  * events one by one: handshake messages, joined from their records, and the other records. It
  * recognizes encrypted records by itself. Each side has a buffer of the caller's with the bytes
  * that aren't returned yet; pass it with each call for that side. The conversation contains no
- * pointer. Of these structs a caller reads only wispuddera_said and wispuddera_stop.
+ * pointer. Of these structs a caller reads only wispuddera_event_content and wispuddera_stop.
  *
  * A side holds at most a message, with its header of 4 bytes and a body of up to `limit` bytes, and
  * a record of up to 18437 bytes. With a buffer of 4 + limit + 18437 bytes plus the longest piece,
@@ -637,13 +637,13 @@ uint32_t wispuddera_flow_outcome(const wispuddera_flow *flow);
 
 /* The forms of a side's events. */
 enum {
-    WISPUDDERA_SAID_MESSAGE = 0,            /* a handshake message in the clear */
-    WISPUDDERA_SAID_CHANGE_CIPHER_SPEC = 1,
-    WISPUDDERA_SAID_ALERT = 2,              /* an alert in the clear */
-    WISPUDDERA_SAID_HEARTBEAT = 3,
-    WISPUDDERA_SAID_APPLICATION_DATA = 4,   /* application data that isn't encrypted */
-    WISPUDDERA_SAID_ENCRYPTED = 5,          /* an encrypted record of any type */
-    WISPUDDERA_SAID_FAULT = 6               /* a fault: nothing after it is read */
+    WISPUDDERA_CONTENT_MESSAGE = 0,            /* a handshake message in the clear */
+    WISPUDDERA_CONTENT_CHANGE_CIPHER_SPEC = 1,
+    WISPUDDERA_CONTENT_ALERT = 2,              /* an alert in the clear */
+    WISPUDDERA_CONTENT_HEARTBEAT = 3,
+    WISPUDDERA_CONTENT_APPLICATION_DATA = 4,   /* application data that isn't encrypted */
+    WISPUDDERA_CONTENT_ENCRYPTED = 5,          /* an encrypted record of any type */
+    WISPUDDERA_CONTENT_FAULT = 6               /* a fault: nothing after it is read */
 };
 
 /* The next event of a side. */
@@ -655,9 +655,9 @@ typedef struct {
                      * type isn't one of TLS, WISPUDDERA_TOO_LARGE, WISPUDDERA_VERIFY if it is a
                      * ChangeCipherSpec other than the one byte 1. For a message:
                      * WISPUDDERA_ABOVE_LIMIT or WISPUDDERA_INTERRUPTED */
-    uint8_t form; /* one of WISPUDDERA_SAID_ */
+    uint8_t form; /* one of WISPUDDERA_CONTENT_ */
     uint8_t kind; /* one of WISPUDDERA_EVENT_; WISPUDDERA_EVENT_UNKNOWN for a fault */
-} wispuddera_said;
+} wispuddera_event_content;
 
 /* The event that ended a handshake without success. */
 typedef struct {
@@ -719,7 +719,8 @@ uint32_t wispuddera_conversation_feed(uint8_t *buffer, size_t capacity, wispudde
  *
  * - WISPUDDERA_NONE if more bytes are needed, or a fault ended the side. `out` doesn't change.
  * - WISPUDDERA_OUTSIDE as for wispuddera_conversation_feed. */
-uint32_t wispuddera_conversation_next(uint8_t *buffer, size_t capacity, wispuddera_conversation *conversation, bool to_server, wispuddera_said *out);
+uint32_t wispuddera_conversation_next(uint8_t *buffer, size_t capacity, wispuddera_conversation *conversation, bool to_server,
+                                      wispuddera_event_content *out);
 
 /* Returns the outcome of the events that wispuddera_conversation_next returned, as
  * wispuddera_outcome does. */
@@ -794,7 +795,8 @@ uint32_t wispuddera_read_x509_name(const uint8_t *bytes, size_t count, size_t of
 
 /* Returns the size of a struct in the library, in bytes, by its index in this list: place, record,
  * part, client_hello, server_hello, found, number, dtls_record, dtls_message, dtls_client_hello,
- * event, flow, x509, x509_extension, said, stop, side, course, conversation. 0 past its end. */
+ * event, flow, x509, x509_extension, event_content, stop, side, course, conversation. 0 past its
+ * end. */
 size_t wispuddera_struct_size(size_t index);
 
 /* Returns the offset of a field in that struct, by the field's index in this header's order; past

@@ -37,7 +37,7 @@ static bool relay(int client, int server, wispuddera_conversation *conversation)
             return false;
         }
         for (from = 0; from < 2; from++) {
-            wispuddera_said event = WISPUDDERA_EMPTY;
+            wispuddera_event_content event = WISPUDDERA_EMPTY;
             const ssize_t count = ends[from].revents == 0 ? -1 : read(sockets[from], piece, PIECE);
             if (ends[from].revents == 0) {
                 continue;

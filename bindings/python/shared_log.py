@@ -62,8 +62,8 @@ def main():
             for number in range(1, asked.parts + 1)
         ]
         found = client.gather(client.map(part_of, *zip(*tasks), pure=False))
-    for _, _, told in found:
-        sys.stderr.write(told)
+    for _, _, messages in found:
+        sys.stderr.write(messages)
     for line in heapq.merge(*(lines for _, lines, _ in found), key=order):
         print(line)
     sys.exit(max(status for status, _, _ in found))

@@ -152,9 +152,9 @@ static void test_layout(void) {
         IS_LAID_OUT(13, x509_extension);
     }
     {
-        static const size_t offsets[] = {offsetof(wispuddera_said, content), offsetof(wispuddera_said, fault),
-                                         offsetof(wispuddera_said, form), offsetof(wispuddera_said, kind)};
-        IS_LAID_OUT(14, said);
+        static const size_t offsets[] = {offsetof(wispuddera_event_content, content), offsetof(wispuddera_event_content, fault),
+                                         offsetof(wispuddera_event_content, form), offsetof(wispuddera_event_content, kind)};
+        IS_LAID_OUT(14, event_content);
     }
     {
         static const size_t offsets[] = {offsetof(wispuddera_stop, events_before), offsetof(wispuddera_stop, event),
@@ -516,53 +516,55 @@ static const uint8_t server_records[] = {
 enum { SERVER_HELLO_END = 66, SERVER_RECORDS = 73 };
 
 /* Checks an event: its form, its kind, and that its bytes are in the buffer, with this content. */
-static void is_said(int line, const uint8_t *buffer, const wispuddera_said *said, int form, int kind, const uint8_t *bytes, size_t count) {
-    is(line, said->form, (unsigned long long)form);
-    is(line, said->kind, (unsigned long long)kind);
-    is(line, said->fault, 0);
-    is(line, said->content.length, count);
-    if (said->content.length == count) {
-        is(line, (unsigned long long)memcmp(buffer + said->content.offset, bytes, count), 0);
+static void is_event(int line, const uint8_t *buffer, const wispuddera_event_content *event, int form, int kind, const uint8_t *bytes,
+                     size_t count) {
+    is(line, event->form, (unsigned long long)form);
+    is(line, event->kind, (unsigned long long)kind);
+    is(line, event->fault, 0);
+    is(line, event->content.length, count);
+    if (event->content.length == count) {
+        is(line, (unsigned long long)memcmp(buffer + event->content.offset, bytes, count), 0);
     }
 }
 
-#define IS_SAID(form, kind, bytes, count) is_said(__LINE__, buffer, &said, form, kind, bytes, count)
+#define IS_EVENT(form, kind, bytes, count) is_event(__LINE__, buffer, &event, form, kind, bytes, count)
 
 static void test_conversation(void) {
     static uint8_t buffer[120], server_buffer[70];
     wispuddera_conversation it = WISPUDDERA_EMPTY;
-    wispuddera_said said = WISPUDDERA_EMPTY;
+    wispuddera_event_content event = WISPUDDERA_EMPTY;
     wispuddera_stop stop = WISPUDDERA_EMPTY;
     uint8_t hello[56];
     size_t i;
     wispuddera_conversation_start(&it, 93);
     IS(wispuddera_conversation_outcome(&it), WISPUDDERA_WAITING);
     for (i = 0; i < WHOLE; i++) {
-        IS(wispuddera_conversation_next(buffer, sizeof buffer, &it, true, &said), WISPUDDERA_NONE);
+        IS(wispuddera_conversation_next(buffer, sizeof buffer, &it, true, &event), WISPUDDERA_NONE);
         IS(wispuddera_conversation_feed(buffer, sizeof buffer, &it, true, record + i, 1), WISPUDDERA_READ);
     }
-    IS(wispuddera_conversation_next(buffer, sizeof buffer, &it, true, &said), WISPUDDERA_READ);
-    IS_SAID(WISPUDDERA_SAID_MESSAGE, WISPUDDERA_EVENT_CLIENT_HELLO, record + 5, 97);
-    IS(wispuddera_conversation_next(buffer, sizeof buffer, &it, true, &said), WISPUDDERA_NONE);
+    IS(wispuddera_conversation_next(buffer, sizeof buffer, &it, true, &event), WISPUDDERA_READ);
+    IS_EVENT(WISPUDDERA_CONTENT_MESSAGE, WISPUDDERA_EVENT_CLIENT_HELLO, record + 5, 97);
+    IS(wispuddera_conversation_next(buffer, sizeof buffer, &it, true, &event), WISPUDDERA_NONE);
     IS(wispuddera_conversation_established(&it), false);
     /* What doesn't fit is not held, and what is held lies in its side's buffer alone. */
     IS(wispuddera_conversation_feed(server_buffer, sizeof server_buffer, &it, false, server_records, SERVER_RECORDS), WISPUDDERA_NO_ROOM);
     IS(it.server.end, 0);
     IS(wispuddera_conversation_feed(server_buffer, sizeof server_buffer, &it, false, server_records, SERVER_HELLO_END), WISPUDDERA_READ);
-    IS(wispuddera_conversation_next(server_buffer, SERVER_HELLO_END - 1, &it, false, &said), WISPUDDERA_OUTSIDE);
+    IS(wispuddera_conversation_next(server_buffer, SERVER_HELLO_END - 1, &it, false, &event), WISPUDDERA_OUTSIDE);
     IS(wispuddera_conversation_feed(server_buffer, SERVER_HELLO_END - 1, &it, false, NULL, 0), WISPUDDERA_OUTSIDE);
-    IS(wispuddera_conversation_next(server_buffer, sizeof server_buffer, &it, false, &said), WISPUDDERA_READ);
+    IS(wispuddera_conversation_next(server_buffer, sizeof server_buffer, &it, false, &event), WISPUDDERA_READ);
     memcpy(hello, server_records + 5, 8);
     memcpy(hello + 8, server_records + 18, 48);
-    is_said(__LINE__, server_buffer, &said, WISPUDDERA_SAID_MESSAGE, WISPUDDERA_EVENT_SERVER_HELLO_13, hello, sizeof hello);
+    is_event(__LINE__, server_buffer, &event, WISPUDDERA_CONTENT_MESSAGE, WISPUDDERA_EVENT_SERVER_HELLO_13, hello, sizeof hello);
     IS(wispuddera_conversation_outcome(&it), WISPUDDERA_TLS13);
     IS(wispuddera_conversation_established(&it), true);
     IS(wispuddera_conversation_resumed(&it), true);
     IS(wispuddera_conversation_stop(&it, &stop), WISPUDDERA_NONE);
     /* The buffer is full again, after the last event. */
     IS(wispuddera_conversation_feed(server_buffer, sizeof server_buffer, &it, false, server_records + SERVER_HELLO_END, 7), WISPUDDERA_READ);
-    IS(wispuddera_conversation_next(server_buffer, sizeof server_buffer, &it, false, &said), WISPUDDERA_READ);
-    is_said(__LINE__, server_buffer, &said, WISPUDDERA_SAID_ENCRYPTED, WISPUDDERA_EVENT_ENCRYPTED, server_records + SERVER_HELLO_END, 7);
+    IS(wispuddera_conversation_next(server_buffer, sizeof server_buffer, &it, false, &event), WISPUDDERA_READ);
+    is_event(__LINE__, server_buffer, &event, WISPUDDERA_CONTENT_ENCRYPTED, WISPUDDERA_EVENT_ENCRYPTED, server_records + SERVER_HELLO_END,
+             7);
     IS(it.course.events, 3);
     IS(wispuddera_conversation_resumed(&it), true);
 }
@@ -575,17 +577,17 @@ static void test_conversation_stops(void) {
         uint32_t fault;
         uint8_t kind, form;
     } tries[] = {
-        {"GET /", 5, WISPUDDERA_SWITCH, WISPUDDERA_EVENT_UNKNOWN, WISPUDDERA_SAID_FAULT},
-        {"\x16\x03\x01\x41\x01", 5, WISPUDDERA_TOO_LARGE, WISPUDDERA_EVENT_UNKNOWN, WISPUDDERA_SAID_FAULT},
-        {"\x14\x03\x01\x00\x01\x02", 6, WISPUDDERA_VERIFY, WISPUDDERA_EVENT_UNKNOWN, WISPUDDERA_SAID_FAULT},
-        {"\x16\x03\x01\x00\x04\x01\x00\x00\x5e", 9, WISPUDDERA_ABOVE_LIMIT, WISPUDDERA_EVENT_UNKNOWN, WISPUDDERA_SAID_FAULT},
+        {"GET /", 5, WISPUDDERA_SWITCH, WISPUDDERA_EVENT_UNKNOWN, WISPUDDERA_CONTENT_FAULT},
+        {"\x16\x03\x01\x41\x01", 5, WISPUDDERA_TOO_LARGE, WISPUDDERA_EVENT_UNKNOWN, WISPUDDERA_CONTENT_FAULT},
+        {"\x14\x03\x01\x00\x01\x02", 6, WISPUDDERA_VERIFY, WISPUDDERA_EVENT_UNKNOWN, WISPUDDERA_CONTENT_FAULT},
+        {"\x16\x03\x01\x00\x04\x01\x00\x00\x5e", 9, WISPUDDERA_ABOVE_LIMIT, WISPUDDERA_EVENT_UNKNOWN, WISPUDDERA_CONTENT_FAULT},
         {"\x16\x03\x01\x00\x02\x01\x00\x15\x03\x01\x00\x02\x02\x28", 14, WISPUDDERA_INTERRUPTED, WISPUDDERA_EVENT_UNKNOWN,
-         WISPUDDERA_SAID_FAULT},
-        {"\x15\x03\x01\x00\x02\x02\x28", 7, 0, WISPUDDERA_EVENT_FATAL, WISPUDDERA_SAID_ALERT},
-        {"\x14\x03\x01\x00\x01\x01", 6, 0, WISPUDDERA_EVENT_CHANGE_CIPHER_SPEC, WISPUDDERA_SAID_CHANGE_CIPHER_SPEC},
-        {"\x18\x03\x01\x00\x01\x07", 6, 0, WISPUDDERA_EVENT_HEARTBEAT, WISPUDDERA_SAID_HEARTBEAT},
-        {"\x17\x03\x01\x00\x01\x07", 6, 0, WISPUDDERA_EVENT_ENCRYPTED, WISPUDDERA_SAID_APPLICATION_DATA},
-        {"\x15\x03\x01\x00\x02\x03\x28", 7, 0, WISPUDDERA_EVENT_ENCRYPTED, WISPUDDERA_SAID_ENCRYPTED},
+         WISPUDDERA_CONTENT_FAULT},
+        {"\x15\x03\x01\x00\x02\x02\x28", 7, 0, WISPUDDERA_EVENT_FATAL, WISPUDDERA_CONTENT_ALERT},
+        {"\x14\x03\x01\x00\x01\x01", 6, 0, WISPUDDERA_EVENT_CHANGE_CIPHER_SPEC, WISPUDDERA_CONTENT_CHANGE_CIPHER_SPEC},
+        {"\x18\x03\x01\x00\x01\x07", 6, 0, WISPUDDERA_EVENT_HEARTBEAT, WISPUDDERA_CONTENT_HEARTBEAT},
+        {"\x17\x03\x01\x00\x01\x07", 6, 0, WISPUDDERA_EVENT_ENCRYPTED, WISPUDDERA_CONTENT_APPLICATION_DATA},
+        {"\x15\x03\x01\x00\x02\x03\x28", 7, 0, WISPUDDERA_EVENT_ENCRYPTED, WISPUDDERA_CONTENT_ENCRYPTED},
     };
     /* There a server may send a ChangeCipherSpec (RFC 8446, section D.4) and noise, but nothing encrypted. */
     static const uint32_t outcomes[] = {WISPUDDERA_UNKNOWN, WISPUDDERA_UNKNOWN, WISPUDDERA_UNKNOWN, WISPUDDERA_UNKNOWN, WISPUDDERA_UNKNOWN,
@@ -595,30 +597,30 @@ static void test_conversation_stops(void) {
     size_t i;
     for (i = 0; i < sizeof tries / sizeof *tries; i++) {
         wispuddera_conversation it = WISPUDDERA_EMPTY;
-        wispuddera_said said = WISPUDDERA_EMPTY;
+        wispuddera_event_content event = WISPUDDERA_EMPTY;
         wispuddera_stop stop = WISPUDDERA_EMPTY;
         const uint8_t *bytes = (const uint8_t *)tries[i].bytes;
         wispuddera_conversation_start(&it, 93);
         IS(wispuddera_conversation_feed(buffer, sizeof buffer, &it, true, record, WHOLE), WISPUDDERA_READ);
-        IS(wispuddera_conversation_next(buffer, sizeof buffer, &it, true, &said), WISPUDDERA_READ);
+        IS(wispuddera_conversation_next(buffer, sizeof buffer, &it, true, &event), WISPUDDERA_READ);
         IS(wispuddera_conversation_feed(server_buffer, sizeof server_buffer, &it, false, bytes, tries[i].count), WISPUDDERA_READ);
-        IS(wispuddera_conversation_next(server_buffer, sizeof server_buffer, &it, false, &said), WISPUDDERA_READ);
-        IS(said.fault, tries[i].fault);
-        IS(said.kind, tries[i].kind);
-        IS(said.form, tries[i].form);
-        if (said.form == WISPUDDERA_SAID_FAULT) {
-            IS(said.content.length, 0);
-        } else if (said.form == WISPUDDERA_SAID_ALERT) {
-            IS(said.content.length, 2);
-            IS(memcmp(server_buffer + said.content.offset, bytes + 5, 2), 0);
+        IS(wispuddera_conversation_next(server_buffer, sizeof server_buffer, &it, false, &event), WISPUDDERA_READ);
+        IS(event.fault, tries[i].fault);
+        IS(event.kind, tries[i].kind);
+        IS(event.form, tries[i].form);
+        if (event.form == WISPUDDERA_CONTENT_FAULT) {
+            IS(event.content.length, 0);
+        } else if (event.form == WISPUDDERA_CONTENT_ALERT) {
+            IS(event.content.length, 2);
+            IS(memcmp(server_buffer + event.content.offset, bytes + 5, 2), 0);
         } else {
-            IS(said.content.length, tries[i].count);
-            IS(memcmp(server_buffer + said.content.offset, bytes, tries[i].count), 0);
+            IS(event.content.length, tries[i].count);
+            IS(memcmp(server_buffer + event.content.offset, bytes, tries[i].count), 0);
         }
-        IS(wispuddera_conversation_next(server_buffer, sizeof server_buffer, &it, false, &said), WISPUDDERA_NONE);
+        IS(wispuddera_conversation_next(server_buffer, sizeof server_buffer, &it, false, &event), WISPUDDERA_NONE);
         /* After a fault nothing is held. */
         IS(wispuddera_conversation_feed(server_buffer, sizeof server_buffer, &it, false, record, WHOLE),
-           said.form == WISPUDDERA_SAID_FAULT ? WISPUDDERA_READ : WISPUDDERA_NO_ROOM);
+           event.form == WISPUDDERA_CONTENT_FAULT ? WISPUDDERA_READ : WISPUDDERA_NO_ROOM);
         IS(wispuddera_conversation_outcome(&it), outcomes[i]);
         IS(wispuddera_conversation_established(&it), false);
         IS(wispuddera_conversation_resumed(&it), false);
@@ -629,7 +631,7 @@ static void test_conversation_stops(void) {
             IS(stop.events_before, 1);
             IS(stop.event.kind, tries[i].kind);
             IS(stop.event.to_server, false);
-            IS(stop.is_alert, tries[i].form == WISPUDDERA_SAID_ALERT);
+            IS(stop.is_alert, tries[i].form == WISPUDDERA_CONTENT_ALERT);
             IS(stop.alert, stop.is_alert ? 40 : 0);
         }
     }

@@ -269,7 +269,7 @@ static void call_conversation(const uint8_t *b, size_t n, size_t at) {
     uint8_t *buffer = n == 0 ? NULL : (uint8_t *)malloc(n);
     const size_t cut = at < n ? at : n, none = 0;
     wispuddera_conversation it = WISPUDDERA_EMPTY;
-    wispuddera_said said = WISPUDDERA_EMPTY;
+    wispuddera_event_content event = WISPUDDERA_EMPTY;
     wispuddera_stop stop = WISPUDDERA_EMPTY;
     size_t i;
     if (buffer == NULL && n != 0) {
@@ -278,9 +278,10 @@ static void call_conversation(const uint8_t *b, size_t n, size_t at) {
     wispuddera_conversation_start(&it, n);
     for (i = 0; i < 2; i++) {
         is_read(wispuddera_conversation_feed(buffer, n, &it, true, i == 0 || n == 0 ? b : b + cut, i == 0 ? cut : n - cut), &none);
-        while (is_read(wispuddera_conversation_next(buffer, n, &it, true, &said), &none)) {
-            lies(n, said.content);
-            if (said.form > WISPUDDERA_SAID_FAULT || said.kind > WISPUDDERA_EVENT_UNKNOWN || (said.form == WISPUDDERA_SAID_FAULT) != (said.fault != 0)) {
+        while (is_read(wispuddera_conversation_next(buffer, n, &it, true, &event), &none)) {
+            lies(n, event.content);
+            if (event.form > WISPUDDERA_CONTENT_FAULT || event.kind > WISPUDDERA_EVENT_UNKNOWN ||
+                (event.form == WISPUDDERA_CONTENT_FAULT) != (event.fault != 0)) {
                 printf("mutated: an event that is none\n");
                 exit(1);
             }
@@ -309,8 +310,8 @@ static void call_conversation(const uint8_t *b, size_t n, size_t at) {
         exit(2);
     }
     memset(buffer, 0x16, n + 40);
-    while (is_read(wispuddera_conversation_next(buffer, n + 40, &it, true, &said), &none)) {
-        lies(n + 40, said.content);
+    while (is_read(wispuddera_conversation_next(buffer, n + 40, &it, true, &event), &none)) {
+        lies(n + 40, event.content);
     }
     is_read(wispuddera_conversation_feed(buffer, n + 40, &it, true, b, n), &none);
     is_read(wispuddera_conversation_feed(buffer, n + 40, &it, false, b, n), &none);

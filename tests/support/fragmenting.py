@@ -196,12 +196,12 @@ def bad(segments: list[Segment]) -> Iterator[tuple[str, bytes, dict[str, int]]]:
     def told(frames: list[bytes], step: int = 0) -> bytes:
         return packets.pcap([(at + number * step, f) for number, f in enumerate(frames)])
 
-    missing = "datagrams of which fragments were missing at the end"
+    missing = "datagrams that were incomplete at the end"
     for number in range(len(pieces)):
         yield f"without fragment {number}", told(pieces[:number] + pieces[number + 1 :]), {
             missing: 1
         }
-    other_end = "fragments with another end than their datagram's"
+    other_end = "fragments that contradict their datagram's length"
     last = fragment(frame, 7, len(payload) // 8 * 8 + 8, False, b"x" * 8)
     yield "another end behind", told([*pieces[1:], last]), {other_end: 1, missing: 1}
     early = fragment(frame, 7, 8, False, payload[8:16])
@@ -210,18 +210,18 @@ def bad(segments: list[Segment]) -> Iterator[tuple[str, bytes, dict[str, int]]]:
     yield "bytes behind the end", told([*pieces[1:], behind]), {other_end: 1, missing: 1}
     uneven = fragment(frame, 9, 0, True, payload[: size - 1])
     yield "a length that is no multiple of 8", told([uneven]), {
-        "fragments with a length that is no multiple of 8": 1
+        "fragments with a length that isn't a multiple of 8": 1
     }
     front = 0 if header[0] >> 4 == 6 else len(header)
     long = fragment(frame, 9, 65_528, False, b"x" * (8 - front % 8))
-    yield "too long", told([long]), {"fragments of datagrams of more than 65,535 bytes": 1}
+    yield "too long", told([long]), {"fragments of datagrams above 65,535 bytes": 1}
     yield "late", told(
         [*pieces[:-1], pieces[-1]], step=31_000_000 // max(1, len(pieces) - 1) + 1
-    ), {"datagrams of which fragments were missing for 30 seconds": 1, missing: 1}
+    ), {"datagrams that were incomplete for 30 seconds": 1, missing: 1}
     many = [fragment(frame, number, 8, True, b"x" * 8) for number in range(30_000)]
     yield "many that never end", told(many), {
         missing: WAITING,
-        "datagrams of which fragments were missing, and that had no room": 30_000 - WAITING,
+        "datagrams that were incomplete, with no room for them": 30_000 - WAITING,
     }
     same = [fragment(frame, 7, 8, True, payload[8:16])] * 1000
     yield "the same again and again", told(same), {missing: 1}

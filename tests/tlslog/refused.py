@@ -18,7 +18,7 @@ from tests.tlslog.stored import Stored
 REFUSED = ["mixed", "openssl_tls13_resumed", "openssl_rsa"]
 AS_MESSAGES = ["openssl_client_certificate_rsa", "openssl_dtls12_client_certificate"]
 # What standard error has of connections that were closed to free memory.
-ENDS = re.compile(r"left out: (\d+) ends? of connections, since memory ran short")
+ENDS = re.compile(r"left out: (\d+) connections? that ended early, for lack of memory")
 # `tests/faults/many full` makes this many connections with full buffers, more than three times the
 # limit.
 FULL, LIMIT = 400, 64 * 2**20

@@ -54,7 +54,7 @@ def in_tunnels(program: Program, captures: list[Stored]) -> None:
                 stop(f"{capture.name}, in {what}: other lines: {lines}")
         deeper = [(s.time, in_gre(frame)) for s, frame in deepest(capture)]
         status, text, report = program.run(given=packets.pcap(deeper))
-        wanted = f"left out: {len(capture.segments)} packets in more than 8 tunnels"
+        wanted = f"left out: {len(capture.segments)} packets in more than 8 nested tunnels"
         if status or text or wanted not in report:
             stop(f"{capture.name}, in too many tunnels: {status}, {report}{text}")
         count += len(made)

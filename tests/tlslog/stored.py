@@ -55,7 +55,7 @@ def found_in(lines: list[Line]) -> str:
 def report_of(name: object, lines: list[Line], count: int, *left_out: str) -> str:
     """Returns the text on standard error for a capture with this many packets, some left out."""
     gaps = sum("gap" in line for line in lines)
-    left_out = (*left_out, counted(gaps, "connections", "with lost bytes")) if gaps else left_out
+    left_out = (*left_out, counted(gaps, "connections", "with missing bytes")) if gaps else left_out
     words = [f"{found_in(lines)}, {counted(count, 'packets')}"]
     words += [f"left out: {one}" for one in left_out]
     return "".join(f"{name}: {one}\n" for one in words)

@@ -897,8 +897,8 @@ def event_of_alert(level: int, description: int) -> EventKind:
 def outcome(events: Iterable[tuple[EventKind, bool]]) -> Outcome:
     """The state of a conversation after these events: their kinds, and whether they go to the
     server, in order."""
-    told = [_c.Event(kind, to_server) for kind, to_server in events]
-    return Outcome(_c.outcome((_c.Event * len(told))(*told), len(told)))
+    given = [_c.Event(kind, to_server) for kind, to_server in events]
+    return Outcome(_c.outcome((_c.Event * len(given))(*given), len(given)))
 
 
 class Flow:

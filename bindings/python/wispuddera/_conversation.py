@@ -74,7 +74,7 @@ class Conversation:
     """
 
     def __init__(self, limit: int = 131072) -> None:
-        self._state, self._said, self._stopped = _c.Conversation(), _c.Said(), _c.Stop()
+        self._state, self._content, self._stopped = _c.Conversation(), _c.EventContent(), _c.Stop()
         _c.conversation_start(self._state, limit)
         self._buffers = {"client": _Buffer(), "server": _Buffer()}
         self._events: deque[ConversationEvent] = deque()
@@ -101,21 +101,21 @@ class Conversation:
             held.grow(given.count)
             feed()
         while (
-            _c.conversation_next(held.bytes, len(held.bytes), self._state, to_server, self._said)
+            _c.conversation_next(held.bytes, len(held.bytes), self._state, to_server, self._content)
             == _c.READ
         ):
-            self._tell(to_server, held.at(self._said.content))
+            self._add_event(to_server, held.at(self._content.content))
 
-    def _tell(self, to_server: bool, content: bytes) -> None:
+    def _add_event(self, to_server: bool, content: bytes) -> None:
         from . import EventKind
 
-        said = self._said
+        read = self._content
         event = ConversationEvent(
             to_server,
-            EventKind(said.kind),
-            content[_HEADERS.get(said.form, 0) :],
-            content[0] if said.form == _MESSAGE else None,
-            _FAULTS[said.fault] if said.form == _FAULT else None,
+            EventKind(read.kind),
+            content[_HEADERS.get(read.form, 0) :],
+            content[0] if read.form == _MESSAGE else None,
+            _FAULTS[read.fault] if read.form == _FAULT else None,
         )
         self._events.append(event)
         if self._stop is None and _c.conversation_stop(self._state, self._stopped) == _c.READ:

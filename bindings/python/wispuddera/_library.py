@@ -174,7 +174,7 @@ class X509Extension(ctypes.Structure):
     ]
 
 
-class Said(ctypes.Structure):
+class EventContent(ctypes.Structure):
     _fields_ = [("content", Place), ("fault", _U32), ("form", _U8), ("kind", _U8)]
 
 
@@ -285,7 +285,7 @@ conversation_feed = _function(
     "conversation_feed", _BYTES, _SIZE, _OUT(Conversation), _BOOL, _BYTES, _SIZE
 )
 conversation_next = _function(
-    "conversation_next", _BYTES, _SIZE, _OUT(Conversation), _BOOL, _OUT(Said)
+    "conversation_next", _BYTES, _SIZE, _OUT(Conversation), _BOOL, _OUT(EventContent)
 )
 conversation_outcome = _function("conversation_outcome", _OUT(Conversation))
 conversation_stop = _function("conversation_stop", _OUT(Conversation), _OUT(Stop))
@@ -310,4 +310,4 @@ STRUCTS = (
     Event,
     Flow,
 )
-STRUCTS += (X509, X509Extension, Said, Stop, Side, Course, Conversation)
+STRUCTS += (X509, X509Extension, EventContent, Stop, Side, Course, Conversation)

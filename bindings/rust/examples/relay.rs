@@ -25,8 +25,8 @@ fn pass_on(side: Side, mut from: &UnixStream, mut to: &UnixStream, conversation:
         {
             let mut conversation = conversation.lock().expect("no thread panics");
             conversation.feed(side, &piece[..count]).map_err(io::Error::other)?;
-            while let Some(_said) = conversation.next_event(side) {
-                // `event` is its kind, `said` its bytes.
+            while let Some(_event) = conversation.next_event(side) {
+                // `event` is its kind, `content` its bytes.
             }
         }
         to.write_all(&piece[..count])?;

@@ -54,7 +54,7 @@ impl fmt::Display for Fault {
 
 /// The content of an event.
 #[derive(Clone, Copy, Debug, PartialEq, Eq)]
-pub enum Said<'a> {
+pub enum EventContent<'a> {
     /// A handshake message in the clear, joined from its records.
     Message(Message<'a>),
     /// A ChangeCipherSpec.
@@ -76,17 +76,17 @@ pub enum Said<'a> {
     Fault(Fault),
 }
 
-impl<'a> Said<'a> {
+impl<'a> EventContent<'a> {
     /// The content of an event whose bytes are `content`.
-    fn of(said: &sys::Said, content: &'a [u8]) -> Self {
-        match said.form {
-            0 => Said::Message(Message { kind: content[0], body: &content[4..] }),
-            1 => Said::ChangeCipherSpec,
-            2 => Said::Alert { level: content[0], description: content[1] },
-            3 => Said::Heartbeat(&content[5..]),
-            4 => Said::ApplicationData(&content[5..]),
-            5 => Said::Encrypted(content),
-            _ => Said::Fault(Fault::of_number(said.fault)),
+    fn of(event: &sys::EventContent, content: &'a [u8]) -> Self {
+        match event.form {
+            0 => EventContent::Message(Message { kind: content[0], body: &content[4..] }),
+            1 => EventContent::ChangeCipherSpec,
+            2 => EventContent::Alert { level: content[0], description: content[1] },
+            3 => EventContent::Heartbeat(&content[5..]),
+            4 => EventContent::ApplicationData(&content[5..]),
+            5 => EventContent::Encrypted(content),
+            _ => EventContent::Fault(Fault::of_number(event.fault)),
         }
     }
 }
@@ -97,7 +97,7 @@ pub struct ConversationEvent<'a> {
     /// Its kind and direction, on which the outcome depends.
     pub event: Event,
     /// Its content.
-    pub said: Said<'a>,
+    pub content: EventContent<'a>,
 }
 
 /// The event that ended a handshake without success.
@@ -132,12 +132,12 @@ impl core::error::Error for NoRoom {}
 /// 4 + limit + 18437 bytes, plus the length of the longest piece.
 ///
 /// ```
-/// use wispuddera::{Conversation, Event, EventKind, Outcome, Said, Side};
+/// use wispuddera::{Conversation, Event, EventContent, EventKind, Outcome, Side};
 ///
 /// let mut conversation = Conversation::with_limit(1000, [0; 20000], [0; 20000]);
 /// conversation.feed(Side::Client, &[0x15, 3, 3, 0, 2, 2, 40])?;
 /// let next = conversation.next_event(Side::Client).unwrap();
-/// assert_eq!(next.said, Said::Alert { level: 2, description: 40 });
+/// assert_eq!(next.content, EventContent::Alert { level: 2, description: 40 });
 /// assert_eq!(next.event, Event::new(EventKind::Fatal, true));
 /// assert_eq!(conversation.outcome(), Outcome::BrokenOff);
 /// # Ok::<(), wispuddera::NoRoom>(())
@@ -200,14 +200,14 @@ impl<B: AsRef<[u8]> + AsMut<[u8]>> Conversation<B> {
     /// that the events of both sides are followed in order.
     pub fn next_event(&mut self, side: Side) -> Option<ConversationEvent<'_>> {
         let (buffer, state, to_server) = self.parts(side);
-        let mut told = sys::Said::default();
-        // SAFETY: as in `feed`; `told` is initialized.
-        let status = unsafe { sys::wispuddera_conversation_next(buffer.as_mut_ptr(), buffer.len(), state, to_server, &mut told) };
+        let mut next = sys::EventContent::default();
+        // SAFETY: as in `feed`; `next` is initialized.
+        let status = unsafe { sys::wispuddera_conversation_next(buffer.as_mut_ptr(), buffer.len(), state, to_server, &mut next) };
         if status != sys::READ {
             return None;
         }
-        let event = Event::new(EventKind::of_number(told.kind), to_server);
-        Some(ConversationEvent { event, said: Said::of(&told, told.content.of(buffer)) })
+        let event = Event::new(EventKind::of_number(next.kind), to_server);
+        Some(ConversationEvent { event, content: EventContent::of(&next, next.content.of(buffer)) })
     }
 
     /// The outcome by all events that were returned, as [`outcome`](crate::outcome()) has it.

@@ -36,7 +36,7 @@ impl<const N: usize> fmt::Debug for Fingerprint<N> {
     }
 }
 
-fn told<const N: usize>(call: sys::Tell, body: &[u8]) -> Result<Fingerprint<N>, Error> {
+fn fingerprint<const N: usize>(call: sys::WriteFingerprint, body: &[u8]) -> Result<Fingerprint<N>, Error> {
     let (mut text, mut missing) = ([0; N], 0);
     // SAFETY: the first pointer and length are those of a slice, the second those of an array of N
     // bytes.
@@ -50,7 +50,7 @@ fn told<const N: usize>(call: sys::Tell, body: &[u8]) -> Result<Fingerprint<N>, 
 /// # Errors
 /// Those of [`crate::ClientHello::read`].
 pub fn ja3(body: &[u8]) -> Result<Fingerprint<32>, Error> {
-    told(sys::wispuddera_ja3, body)
+    fingerprint(sys::wispuddera_ja3, body)
 }
 
 /// JA3 of a DTLS ClientHello, from its body.
@@ -58,7 +58,7 @@ pub fn ja3(body: &[u8]) -> Result<Fingerprint<32>, Error> {
 /// # Errors
 /// Those of [`crate::DtlsClientHello::read`].
 pub fn dtls_ja3(body: &[u8]) -> Result<Fingerprint<32>, Error> {
-    told(sys::wispuddera_dtls_ja3, body)
+    fingerprint(sys::wispuddera_dtls_ja3, body)
 }
 
 /// JA3S of a ServerHello, from its body: the MD5 of its version, cipher suite and extension types.
@@ -66,7 +66,7 @@ pub fn dtls_ja3(body: &[u8]) -> Result<Fingerprint<32>, Error> {
 /// # Errors
 /// Those of [`crate::ServerHello::read`].
 pub fn ja3s(body: &[u8]) -> Result<Fingerprint<32>, Error> {
-    told(sys::wispuddera_ja3s, body)
+    fingerprint(sys::wispuddera_ja3s, body)
 }
 
 /// JA3S of a DTLS ServerHello of any version, from its body.
@@ -74,7 +74,7 @@ pub fn ja3s(body: &[u8]) -> Result<Fingerprint<32>, Error> {
 /// # Errors
 /// Those of [`crate::ServerHello::read_dtls`].
 pub fn dtls_ja3s(body: &[u8]) -> Result<Fingerprint<32>, Error> {
-    told(sys::wispuddera_dtls_ja3s, body)
+    fingerprint(sys::wispuddera_dtls_ja3s, body)
 }
 
 /// JA4 of a ClientHello over TCP, from its body.
@@ -92,7 +92,7 @@ pub fn dtls_ja3s(body: &[u8]) -> Result<Fingerprint<32>, Error> {
 /// assert_eq!(&*wispuddera::ja4(&body).unwrap(), "t12i010000_0f2cb44170f4_000000000000");
 /// ```
 pub fn ja4(body: &[u8]) -> Result<Fingerprint<36>, Error> {
-    told(sys::wispuddera_ja4, body)
+    fingerprint(sys::wispuddera_ja4, body)
 }
 
 /// JA4 of a ClientHello over QUIC (RFC 9001), from its body.
@@ -100,7 +100,7 @@ pub fn ja4(body: &[u8]) -> Result<Fingerprint<36>, Error> {
 /// # Errors
 /// Those of [`crate::ClientHello::read`].
 pub fn quic_ja4(body: &[u8]) -> Result<Fingerprint<36>, Error> {
-    told(sys::wispuddera_quic_ja4, body)
+    fingerprint(sys::wispuddera_quic_ja4, body)
 }
 
 /// JA4 of a DTLS ClientHello over UDP, from its body.
@@ -108,5 +108,5 @@ pub fn quic_ja4(body: &[u8]) -> Result<Fingerprint<36>, Error> {
 /// # Errors
 /// Those of [`crate::DtlsClientHello::read`].
 pub fn dtls_ja4(body: &[u8]) -> Result<Fingerprint<36>, Error> {
-    told(sys::wispuddera_dtls_ja4, body)
+    fingerprint(sys::wispuddera_dtls_ja4, body)
 }

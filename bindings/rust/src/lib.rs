@@ -59,7 +59,7 @@ mod stream;
 mod sys;
 
 pub use certificate::{x509_extensions, x509_names, PublicKey, X509Extension, X509Name, SUBJECT_ALT_NAME, X509};
-pub use conversation::{Conversation, ConversationEvent, Fault, NoRoom, Said, Side, Stop};
+pub use conversation::{Conversation, ConversationEvent, EventContent, Fault, NoRoom, Side, Stop};
 pub use detection::looks_like_tls;
 pub use dtls::{dtls_messages, dtls_records, DtlsClientHello, DtlsMessage, DtlsRecord};
 pub use error::{Error, Kind};

@@ -181,7 +181,7 @@ pub struct WrittenEvent {
 
 #[repr(C)]
 #[derive(Default)]
-pub struct Said {
+pub struct EventContent {
     pub content: Place,
     pub fault: u32,
     pub form: u8,
@@ -233,7 +233,7 @@ pub type ReadAt<T> = unsafe extern "C" fn(*const u8, usize, usize, *mut T) -> u3
 /// A call that parses the item at the front, or looks something up.
 pub type ReadFront<T> = unsafe extern "C" fn(*const u8, usize, *mut T) -> u32;
 /// A call that writes a fingerprint to a buffer.
-pub type Tell = unsafe extern "C" fn(*const u8, usize, *mut u8, usize, *mut usize) -> u32;
+pub type WriteFingerprint = unsafe extern "C" fn(*const u8, usize, *mut u8, usize, *mut usize) -> u32;
 /// A call that parses the item at the front of the buffered bytes, and removes it.
 pub type Take<T> = unsafe extern "C" fn(*const u8, usize, *mut Place, *mut T) -> u32;
 
@@ -302,7 +302,7 @@ extern "C" {
         capacity: usize,
         conversation: *mut Conversation,
         to_server: bool,
-        out: *mut Said,
+        out: *mut EventContent,
     ) -> u32;
     pub fn wispuddera_conversation_outcome(conversation: *const Conversation) -> u32;
     pub fn wispuddera_conversation_stop(conversation: *const Conversation, out: *mut Stop) -> u32;
@@ -368,7 +368,7 @@ mod tests {
             layout!(X509: missing, signed_bytes, serial_number, signature_algorithm, issuer, subject, key_algorithm, key_parameters,
                 public_key, extensions, signature, not_before, not_after, next, key_bits, key_kind, version),
             layout!(X509Extension: missing, oid, value, next, critical),
-            layout!(Said: content, fault, form, kind),
+            layout!(EventContent: content, fault, form, kind),
             layout!(Stop: events_before, event, is_alert, alert),
             layout!(Side: part, part_end, unread, end, kind, has_changed, is_over),
             layout!(Course: events, stop, flow),

@@ -248,7 +248,7 @@ fn a_buffer_is_full() {
 }
 
 #[test]
-fn errors_are_told() {
+fn errors_have_texts() {
     assert_eq!(Error::Incomplete { missing: 2 }.to_string(), "more bytes are needed");
     assert_eq!(Error::Refused(Kind::Tag).to_string(), "a fixed tag differs");
     let _: &dyn std::error::Error = &Error::Refused(Kind::Tag);
@@ -256,36 +256,36 @@ fn errors_are_told() {
 
 /// The handshakes are those drawn in RFC 5246 (section 7.3) and RFC 8446 (section 2).
 #[test]
-fn outcomes_are_told() {
+fn outcomes_follow_events() {
     let hello = [&b"\x03\x03"[..], &random(), b"\x00\xc0\x2f\x00"].concat();
-    let mut said = vec![Event::new(EventKind::of_message(1, &body()), true), Event::new(EventKind::of_message(2, &hello), false)];
-    assert_eq!(said[1].kind, EventKind::ServerHello);
+    let mut events = vec![Event::new(EventKind::of_message(1, &body()), true), Event::new(EventKind::of_message(2, &hello), false)];
+    assert_eq!(events[1].kind, EventKind::ServerHello);
     for kind in [11, 12, 14, 16] {
-        said.push(Event::new(EventKind::of_message(kind, b""), kind == 16));
+        events.push(Event::new(EventKind::of_message(kind, b""), kind == 16));
     }
     for to_server in [true, false] {
-        assert_eq!(outcome(&said), Outcome::Waiting);
-        said.push(Event::new(EventKind::ChangeCipherSpec, to_server));
-        said.push(Event::new(EventKind::Encrypted, to_server));
+        assert_eq!(outcome(&events), Outcome::Waiting);
+        events.push(Event::new(EventKind::ChangeCipherSpec, to_server));
+        events.push(Event::new(EventKind::Encrypted, to_server));
     }
-    assert_eq!((outcome(&[]), outcome(&said)), (Outcome::Waiting, Outcome::Full));
+    assert_eq!((outcome(&[]), outcome(&events)), (Outcome::Waiting, Outcome::Full));
     let mut flow = Flow::new();
-    for (i, event) in said.iter().enumerate() {
-        assert_eq!(flow.outcome(), outcome(&said[..i]));
+    for (i, event) in events.iter().enumerate() {
+        assert_eq!(flow.outcome(), outcome(&events[..i]));
         flow.step(*event);
     }
     assert_eq!(flow.outcome(), Outcome::Full);
-    said[2].kind = EventKind::of_alert(2, 40);
-    assert_eq!(outcome(&said), Outcome::BrokenOff);
-    said[2].kind = EventKind::Unknown;
-    assert_eq!(outcome(&said), Outcome::Unknown);
-    said[2].kind = EventKind::ClientHello;
-    assert_eq!(outcome(&said), Outcome::NoHandshake);
+    events[2].kind = EventKind::of_alert(2, 40);
+    assert_eq!(outcome(&events), Outcome::BrokenOff);
+    events[2].kind = EventKind::Unknown;
+    assert_eq!(outcome(&events), Outcome::Unknown);
+    events[2].kind = EventKind::ClientHello;
+    assert_eq!(outcome(&events), Outcome::NoHandshake);
     let hello = [&hello[..], b"\x00\x06\x00\x2b\x00\x02\x03\x04"].concat();
-    said[1].kind = EventKind::of_message(2, &hello);
-    assert_eq!(outcome(&said[..2]), Outcome::Tls13 { retried: false, early_data: false });
-    said.insert(1, Event::new(EventKind::Encrypted, true));
-    assert_eq!(outcome(&said[..3]), Outcome::Tls13 { retried: false, early_data: true });
+    events[1].kind = EventKind::of_message(2, &hello);
+    assert_eq!(outcome(&events[..2]), Outcome::Tls13 { retried: false, early_data: false });
+    events.insert(1, Event::new(EventKind::Encrypted, true));
+    assert_eq!(outcome(&events[..3]), Outcome::Tls13 { retried: false, early_data: true });
     assert_eq!(EventKind::of_dtls_message(3), EventKind::HelloVerifyRequest);
 }
 
@@ -307,13 +307,13 @@ fn conversations_are_followed() {
         for (side, bytes) in [(Side::Client, record()), (Side::Server, server)] {
             for piece in bytes.chunks(size) {
                 conversation.feed(side, piece).unwrap();
-                while let Some(told) = conversation.next_event(side) {
-                    match told.said {
-                        Said::Message(message) if side == Side::Client => assert_eq!(message, Message { kind: 1, body: &body() }),
-                        Said::Message(message) => assert_eq!((message.kind, &message.body[2..34]), (2, &random()[..])),
-                        said => assert_eq!(said, Said::Encrypted(b"\x17\x03\x03\x00\x02\xe1\xe2")),
+                while let Some(next) = conversation.next_event(side) {
+                    match next.content {
+                        EventContent::Message(message) if side == Side::Client => assert_eq!(message, Message { kind: 1, body: &body() }),
+                        EventContent::Message(message) => assert_eq!((message.kind, &message.body[2..34]), (2, &random()[..])),
+                        content => assert_eq!(content, EventContent::Encrypted(b"\x17\x03\x03\x00\x02\xe1\xe2")),
                     }
-                    kinds.push(told.event);
+                    kinds.push(next.event);
                 }
             }
         }
@@ -328,34 +328,34 @@ fn conversations_are_followed() {
 #[test]
 fn conversations_stop() {
     let tries = [
-        (&b"GET /"[..], Said::Fault(Fault::UnknownType), Outcome::Unknown),
-        (b"\x16\x03\x01\x41\x01", Said::Fault(Fault::RecordTooLarge), Outcome::Unknown),
-        (b"\x14\x03\x01\x00\x01\x02", Said::Fault(Fault::WrongChange), Outcome::Unknown),
-        (b"\x16\x03\x01\x00\x04\x01\x00\x00\x5e", Said::Fault(Fault::AboveLimit), Outcome::Unknown),
-        (b"\x16\x03\x01\x00\x02\x01\x00\x15\x03\x01\x00\x02\x02\x28", Said::Fault(Fault::Interrupted), Outcome::Unknown),
-        (b"\x15\x03\x01\x00\x02\x02\x28", Said::Alert { level: 2, description: 40 }, Outcome::BrokenOff),
-        (b"\x14\x03\x01\x00\x01\x01", Said::ChangeCipherSpec, Outcome::Waiting),
-        (b"\x18\x03\x01\x00\x01\x07", Said::Heartbeat(b"\x07"), Outcome::Waiting),
-        (b"\x17\x03\x01\x00\x01\x07", Said::ApplicationData(b"\x07"), Outcome::NoHandshake),
+        (&b"GET /"[..], EventContent::Fault(Fault::UnknownType), Outcome::Unknown),
+        (b"\x16\x03\x01\x41\x01", EventContent::Fault(Fault::RecordTooLarge), Outcome::Unknown),
+        (b"\x14\x03\x01\x00\x01\x02", EventContent::Fault(Fault::WrongChange), Outcome::Unknown),
+        (b"\x16\x03\x01\x00\x04\x01\x00\x00\x5e", EventContent::Fault(Fault::AboveLimit), Outcome::Unknown),
+        (b"\x16\x03\x01\x00\x02\x01\x00\x15\x03\x01\x00\x02\x02\x28", EventContent::Fault(Fault::Interrupted), Outcome::Unknown),
+        (b"\x15\x03\x01\x00\x02\x02\x28", EventContent::Alert { level: 2, description: 40 }, Outcome::BrokenOff),
+        (b"\x14\x03\x01\x00\x01\x01", EventContent::ChangeCipherSpec, Outcome::Waiting),
+        (b"\x18\x03\x01\x00\x01\x07", EventContent::Heartbeat(b"\x07"), Outcome::Waiting),
+        (b"\x17\x03\x01\x00\x01\x07", EventContent::ApplicationData(b"\x07"), Outcome::NoHandshake),
     ];
-    for (bytes, said, wanted) in tries {
+    for (bytes, content, wanted) in tries {
         let (mut client, mut server) = ([0; 102], [0; 20]);
         let mut conversation = Conversation::with_limit(93, &mut client[..], &mut server[..]);
         conversation.feed(Side::Client, &record()).unwrap();
         assert_eq!(conversation.next_event(Side::Client).map(|it| it.event.kind), Some(EventKind::ClientHello));
         assert_eq!(conversation.feed(Side::Server, &record()), Err(NoRoom));
         conversation.feed(Side::Server, bytes).unwrap();
-        let told = conversation.next_event(Side::Server).unwrap();
-        let kind = told.event.kind;
-        assert_eq!(told.said, said);
+        let next = conversation.next_event(Side::Server).unwrap();
+        let kind = next.event.kind;
+        assert_eq!(next.content, content);
         assert_eq!(conversation.next_event(Side::Server), None);
         assert_eq!(conversation.outcome(), wanted);
-        let alert = matches!(said, Said::Alert { .. }).then_some(40);
+        let alert = matches!(content, EventContent::Alert { .. }).then_some(40);
         let stop = Stop { events_before: 1, event: Event::new(kind, false), alert };
         assert_eq!(conversation.stop(), (wanted != Outcome::Waiting).then_some(stop));
         assert_eq!((conversation.is_established(), conversation.is_resumed()), (false, false));
         // After a fault, pieces are dropped.
-        let is_over = matches!(said, Said::Fault(_));
+        let is_over = matches!(content, EventContent::Fault(_));
         assert_eq!(conversation.feed(Side::Server, &record()), if is_over { Ok(()) } else { Err(NoRoom) });
     }
     assert_eq!((NoRoom.to_string(), Fault::Interrupted.to_string().is_empty()), ("the buffer is too short".to_owned(), false));
@@ -363,7 +363,7 @@ fn conversations_stop() {
 
 /// The digests are those of `tests/bindings/calls.c`, of texts that were written by hand.
 #[test]
-fn fingerprints_are_told() {
+fn fingerprints_of_hellos() {
     let body = body();
     assert_eq!(&*ja3(&body).unwrap(), "5f671f8e05377b8c8876847f82d52406");
     assert_eq!(ja4(&body).unwrap().to_string(), "t13d0304h2_40b44b994229_a56c5b993250");

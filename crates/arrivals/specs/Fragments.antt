@@ -28,12 +28,12 @@ completed time tunnels (outcome.Refused r) = None
 -- A fragment is added to its datagram. A refused one is counted.
 pub record JoinsOne (time : ℕ) (tunnels : Tunnels) (f : IpFragment) (old new : ArrivalReader)
     (whole : Option CompletedDatagram) : Type 0 where
-  pub said : FragmentOutcome
-  pub adds : Adds time f said old.fragments new.fragments
-  pub is : whole ≡ completed time tunnels said
+  pub outcome : FragmentOutcome
+  pub adds : Adds time f outcome old.fragments new.fragments
+  pub is : whole ≡ completed time tunnels outcome
   pub same : new ≡ record old {
     fragments = new.fragments;
-    counts = with_refused said old.counts;
+    counts = with_refused outcome old.counts;
   }
 
 -- A fragment for which there is no memory is dropped.

@@ -196,9 +196,9 @@ front_v6 = do
 -- of 0 before TCP comes from a datagram captured before the sender's network card segmented it: it
 -- ends with the captured bytes.
 unfoldable pub held_v6 : ℕ → ℕ → Layout Content
-held_v6 said next =
-    choose ((said == 0) && (next == 6)) (complete (headers 16 next)) (
-    payload_length said next >>= λ len. window len (complete (headers 16 next)))
+held_v6 length_field next =
+    choose ((length_field == 0) && (next == 6)) (complete (headers 16 next)) (
+    payload_length length_field next >>= λ len. window len (complete (headers 16 next)))
 
 -- The first 8 bytes of the header, source, destination, and the payload.
 unfoldable pub ipv6 : Layout Datagram

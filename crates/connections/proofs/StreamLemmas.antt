@@ -80,7 +80,7 @@ passed_by t u false n r h = h
 
 pub urgent_number : (t : Stream) → IsNumberOf t.next t.reading
     → IsNumberOf (passing_urgent t).next (passing_urgent t).reading
-urgent_number t h = passed_by t (record t { heard = plus t.heard 1; urgent = None })
+urgent_number t h = passed_by t (record t { received = plus t.received 1; urgent = None })
     (has_urgent_next t) refl refl h
 
 by_reading : (t : Stream) (r : Reading) → t.reading ≡ r → IsNumberOf t.next r

@@ -184,7 +184,7 @@ is_for_checksum reason.Fin = false
 
 abbrev pub lets_in : Verdict → Bool
 lets_in v =
-    is_kept v.judgement && (not v.begins_another && (not v.tells && not v.shows_damage))
+    is_kept v.judgement && (not v.begins_another && (not v.acknowledges && not v.shows_damage))
 
 -- The outcome for a removed pending segment, if bytes of it are missing and if not.
 abbrev pub outcome_if : Bool → Kept → PendingOutcome
@@ -281,7 +281,7 @@ module _ {T : Type 0} where
   verdict_from side s c = record {
     judgement = judgement_from side s c;
     begins_another = are_some c.waiting && is_some (another_of s c);
-    tells = are_some c.waiting && is_heeded (judgement_from side s c) s c;
+    acknowledges = are_some c.waiting && is_heeded (judgement_from side s c) s c;
     shows_damage = shows_damage side s.checksum c;
   }
 

@@ -44,7 +44,7 @@ abbrev pub silent_stream : Stream
 silent_stream = record {
   reading = Unbegun;
   next = 0;
-  heard = 0;
+  received = 0;
   urgent = None;
   last = 0;
   fin = None;
@@ -62,8 +62,8 @@ next_behind n Unbegun next = next
 next_behind n Over next = next
 
 -- The number of the first unread byte.
-abbrev pub unheard_from : Stream → ℕ
-unheard_from t = (t.next + t.heard % 2 ^ 32) % 2 ^ 32
+abbrev pub unread_from : Stream → ℕ
+unread_from t = (t.next + t.received % 2 ^ 32) % 2 ^ 32
 
 -- Bytes from this number on, up to the urgent one, which isn't part of the stream (RFC 9293,
 -- section 3.8.5; RFC 6093, section 3).
@@ -73,16 +73,16 @@ up_to_urgent (Some urgent) n b = take (ahead_of urgent n) b
 
 -- The unread bytes, in order. Kept bytes that were read come before them.
 abbrev pub next_bytes : Stream → Reading → Bytes
-next_bytes t (Open h) = up_to_urgent t.urgent (unheard_from t) (drop t.heard (run h.cells))
+next_bytes t (Open h) = up_to_urgent t.urgent (unread_from t) (drop t.received (run h.cells))
 next_bytes t Unbegun = []
 next_bytes t Over = []
 
 -- How many bytes were read after n more, or after all if there are fewer.
 abbrev pub handed_on : ℕ → Stream → ℕ
-handed_on n t = plus t.heard (length (take n (next_bytes t t.reading)))
+handed_on n t = plus t.received (length (take n (next_bytes t t.reading)))
 
 abbrev pub handing_on : ℕ → Stream → Stream
-handing_on n t = record t { heard = handed_on n t }
+handing_on n t = record t { received = handed_on n t }
 
 -- The urgent byte came, and none behind it was read.
 abbrev pub is_urgent_there : Option ℕ → ℕ → ℕ → Bool
@@ -91,7 +91,7 @@ is_urgent_there (Some urgent) n reached = is_behind reached urgent && not (is_be
 
 abbrev pub is_cut_short : Stream → Reading → Bool
 is_cut_short t (Open h) =
-    is_urgent_there t.urgent (unheard_from t) ((t.next + length (run h.cells)) % 2 ^ 32)
+    is_urgent_there t.urgent (unread_from t) ((t.next + length (run h.cells)) % 2 ^ 32)
 is_cut_short t Unbegun = false
 is_cut_short t Over = false
 
@@ -101,11 +101,11 @@ is_number None n = false
 is_number (Some m) n = m == n
 
 abbrev pub has_urgent_next : Stream → Bool
-has_urgent_next t = is_number t.urgent (unheard_from t) && is_cut_short t t.reading
+has_urgent_next t = is_number t.urgent (unread_from t) && is_cut_short t t.reading
 
 abbrev pub passing_urgent : Stream → Stream
 passing_urgent t = if has_urgent_next t then
-    record t { heard = plus t.heard 1; urgent = None } else t
+    record t { received = plus t.received 1; urgent = None } else t
 
 -- Read bytes are freed: those before the acknowledged number, and those with enough read bytes
 -- behind them.
@@ -115,18 +115,18 @@ acknowledged_from next (Some n) = advance n next
 
 abbrev pub forgotten : Option ℕ → Stream → ℕ
 forgotten acknowledged t =
-    min t.heard (max (acknowledged_from t.next acknowledged) (t.heard - KEPT_LIMIT))
+    min t.received (max (acknowledged_from t.next acknowledged) (t.received - KEPT_LIMIT))
 
 abbrev pub kept_of : ℕ → Reading → ℕ → ℕ
-kept_of n (Open h) heard = heard - length (take n (run h.cells))
-kept_of n Unbegun heard = heard
-kept_of n Over heard = heard
+kept_of n (Open h) received = received - length (take n (run h.cells))
+kept_of n Unbegun received = received
+kept_of n Over received = received
 
 abbrev pub forgetting : Option ℕ → Stream → Stream
 forgetting acknowledged t = record t {
   reading = behind_front (forgotten acknowledged t) t.reading;
   next = next_behind (forgotten acknowledged t) t.reading t.next;
-  heard = kept_of (forgotten acknowledged t) t.reading t.heard;
+  received = kept_of (forgotten acknowledged t) t.reading t.received;
 }
 
 -- A number of the stream, which begins with its first segment.
@@ -170,7 +170,7 @@ with_more_disagreeing n t = record t { disagreeing = plus t.disagreeing n }
 
 -- The stream isn't read further. The next byte that it would have read is the next to skip.
 abbrev pub stopped : Stream → Reading → Stream
-stopped t (Open h) = record t { reading = Over; passing = Some (unheard_from t) }
+stopped t (Open h) = record t { reading = Over; passing = Some (unread_from t) }
 stopped t Unbegun = record t { reading = Over }
 stopped t Over = t
 

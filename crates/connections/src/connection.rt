@@ -118,7 +118,7 @@ pub struct Verdict {
     /// Whether it shows that another connection between the same ends began.
     pub begins_another: bool,
     /// Whether segments are pending that it may acknowledge.
-    pub tells: bool,
+    pub acknowledges: bool,
     /// Whether it shows that everything before it had a wrong checksum, so that nobody took it.
     pub shows_damage: bool,
 }
@@ -132,7 +132,7 @@ impl Verdict {
     {
         matches!(self.judgement, Judgement::Taken | Judgement::Again)
             && !self.begins_another
-            && !self.tells
+            && !self.acknowledges
             && !self.shows_damage
     }
 }
@@ -305,7 +305,7 @@ impl<T: Attachment> Connection<T> {
         Verdict {
             judgement,
             begins_another: has_waiting && self.shows_another(segment),
-            tells: has_waiting && self.is_heeded(segment, judgement),
+            acknowledges: has_waiting && self.is_heeded(segment, judgement),
             shows_damage: self.shows_damage(side, segment.checksum),
         }
     }

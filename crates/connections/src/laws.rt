@@ -69,7 +69,7 @@ pub fn the_next_number_is_that_of_what_is_held()
 
 /// Dropped and pending packets change nothing that is read: only counts and the pending segments.
 /// So what a receiver does with later segments, and which streams it reads, stays the same.
-pub fn dropped_packets_change_nothing_that_is_heard<T>()
+pub fn dropped_packets_change_nothing_that_is_read<T>()
     ensures judgement { (s : Segment) (old new : Connection T) → ChangesCountsAlone old new
         → judgement_of s new ≡ judgement_of s old }
     ensures streams { (side : Side) (old new : Connection T) → ChangesCountsAlone old new

@@ -41,7 +41,7 @@ pub use dropped::Dropped;
 pub use five_tuple::{End, FiveTuple, Protocol};
 pub use host::Host;
 pub use laws::{
-    both_directions_have_the_same_ends, dropped_packets_change_nothing_that_is_heard,
+    both_directions_have_the_same_ends, dropped_packets_change_nothing_that_is_read,
     no_other_packets_have_these_ends, the_next_number_is_that_of_what_is_held,
     what_stands_under_other_ends_stays,
 };

@@ -1,7 +1,7 @@
 //! One direction of a connection.
 ghost use Rattle.std.specs.Prelude.{◌≡◌, ◌≤◌, ◌%◌, ◌^◌, length, max, false, OnOk, OnErr};
 ghost use Rattle.connections.specs.Segment.{breaks, first_of};
-ghost use Rattle.connections.specs.Stream.{begun_at, came, differing_in_order, end_of, forgetting, front_of, handed_on, handing_on, has_urgent_next, held_in, is_cut_short, is_missing, is_over, lacks, next_bytes, noted, passed, passed_before, passing_behind, passing_urgent, silent_stream, stopped, unheard_from, unlike, with_more_disagreeing, with_numbers, with_urgent, HasPut, HasTaken};
+ghost use Rattle.connections.specs.Stream.{begun_at, came, differing_in_order, end_of, forgetting, front_of, handed_on, handing_on, has_urgent_next, held_in, is_cut_short, is_missing, is_over, lacks, next_bytes, noted, passed, passed_before, passing_behind, passing_urgent, silent_stream, stopped, unread_from, unlike, with_more_disagreeing, with_numbers, with_urgent, HasPut, HasTaken};
 
 use crate::numbers::{HALF, advance, is_behind};
 use crate::segment::Segment;
@@ -43,7 +43,7 @@ pub struct Stream {
     next: u32,
     // How many of the kept bytes were read. Until they are acknowledged, others may still arrive at
     // their numbers.
-    heard: usize,
+    received: usize,
     // The number of the urgent byte, which isn't part of the stream.
     urgent: Option<u32>,
     // The number behind the last byte that came.
@@ -118,7 +118,7 @@ impl Stream {
         Stream {
             reading: Reading::Unbegun,
             next: 0,
-            heard: 0,
+            received: 0,
             urgent: None,
             last: 0,
             fin: None,
@@ -198,12 +198,12 @@ impl Stream {
             Some(number) => advance(number, self.next) as usize,
             None => 0,
         };
-        let many = self.heard.saturating_sub(KEPT_LIMIT);
-        let n = self.heard.min(known.max(many));
+        let many = self.received.saturating_sub(KEPT_LIMIT);
+        let n = self.received.min(known.max(many));
         if let Reading::Open(segments) = &mut self.reading {
             let n = n.min(segments.available().len());
             self.next = self.next.wrapping_add((n % 0x1_0000_0000) as u32);
-            self.heard = self.heard.saturating_sub(n);
+            self.received = self.received.saturating_sub(n);
             segments.take(n);
         }
     }
@@ -275,10 +275,11 @@ impl Stream {
     }
 
     /// Returns the number of the first unread byte.
-    fn unheard(&self) -> u32
-        ensures { result ≡ unheard_from self.now }
+    fn first_unread(&self) -> u32
+        ensures { result ≡ unread_from self.now }
     {
-        self.next.wrapping_add((self.heard % 0x1_0000_0000) as u32)
+        self.next
+            .wrapping_add((self.received % 0x1_0000_0000) as u32)
     }
 
     /// Returns the unread in-order bytes, up to the first missing byte or the urgent one. None if
@@ -290,10 +291,10 @@ impl Stream {
             return &[];
         };
         let bytes = segments.available();
-        let rest = &bytes[bytes.len().min(self.heard)..];
+        let rest = &bytes[bytes.len().min(self.received)..];
         match self.urgent {
             Some(number) => {
-                let ahead = number.wrapping_sub(self.unheard()) as usize;
+                let ahead = number.wrapping_sub(self.first_unread()) as usize;
                 &rest[..rest.len().min(ahead)]
             }
             None => rest,
@@ -306,7 +307,7 @@ impl Stream {
         ensures { self.new ≡ handing_on n self.old }
     {
         let n = n.min(self.available().len());
-        self.heard = self.heard.saturating_add(n);
+        self.received = self.received.saturating_add(n);
     }
 
     /// Returns whether the available bytes end at the urgent byte, and that has come.
@@ -316,7 +317,7 @@ impl Stream {
         match (&self.reading, self.urgent) {
             (Reading::Open(segments), Some(number)) => {
                 let reached = self.next.wrapping_add(count(segments.available()));
-                is_behind(reached, number) && !is_behind(self.unheard(), number)
+                is_behind(reached, number) && !is_behind(self.first_unread(), number)
             }
             _ => false,
         }
@@ -327,10 +328,10 @@ impl Stream {
         ensures next { result ≡ has_urgent_next self.old }
         ensures passed { self.new ≡ passing_urgent self.old }
     {
-        if self.urgent != Some(self.unheard()) || !self.is_cut() {
+        if self.urgent != Some(self.first_unread()) || !self.is_cut() {
             return false;
         }
-        self.heard = self.heard.saturating_add(1);
+        self.received = self.received.saturating_add(1);
         self.urgent = None;
         true
     }
@@ -374,7 +375,7 @@ impl Stream {
         ensures { self.new ≡ stopped self.old self.old.reading }
     {
         match &self.reading {
-            Reading::Open(_) => self.passing = Some(self.unheard()),
+            Reading::Open(_) => self.passing = Some(self.first_unread()),
             Reading::Unbegun => {}
             Reading::Over => return,
         }

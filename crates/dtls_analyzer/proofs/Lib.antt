@@ -1,4 +1,4 @@
-mod HearerLemmas
+mod EventLemmas
 mod DatagramLemmas
 mod ChangeLemmas
-mod HeardLemmas
+mod ReceivedLemmas

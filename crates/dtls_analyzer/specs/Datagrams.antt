@@ -7,7 +7,7 @@ use Rattle.layouts.specs.Meaning.{Answer}
 use Rattle.layouts.specs.Reading.{reading}
 use Rattle.raw_records.specs.RawDtlsRecord.{RawRecord}
 use Rattle.dtls_stream.specs.Fragments.{Fragment, fragment}
-use Rattle.dtls_stream.specs.Messages.{Alert, ChangeCipherSpec, Encrypted, Event, Handshake, Heard, Kept, Limits, Stands, nothing as none_heard, nothing_from}
+use Rattle.dtls_stream.specs.Messages.{Alert, ChangeCipherSpec, Encrypted, Event, Handshake, Received, Kept, Limits, Stands, nothing as none_received, nothing_from}
 use Rattle.raw_records.specs.DatagramRecord.{datagram_record}
 use Rattle.dtls_stream.specs.Datagrams.{Step, record_step}
 use Rattle.tls_flow.specs.Steps.{follow, silence}
@@ -24,7 +24,7 @@ use Rattle.tls_summary.specs.HandshakeSummary.{HandshakeSummary, nothing, of_ale
 use Rattle.raw_records.specs.Ciphertext.{Ciphertext, ciphertext}
 use Rattle.tls_observer.specs.Ends.{is_13}
 use Rattle.tls_stream.specs.Events.{default_limit}
-use Rattle.tls_summary.specs.Told.{client_session_id, connection_id_length, offers_ticket, server_session_id}
+use Rattle.tls_summary.specs.Fields.{client_session_id, connection_id_length, offers_ticket, server_session_id}
 use Rattle.dtls_analyzer.specs.DatagramRecords.{is_known}
 use Rattle.tls_observer.specs.History.{letter_in_datagram, with_letter}
 use Rattle.dtls_analyzer.specs.declared.account.Account.{Account}
@@ -71,15 +71,15 @@ followed s f e = followed_with s f e (kind_in_datagram e)
 
 -- What both sides have sent, and how far one of them has come: whether it has sent its
 -- ChangeCipherSpec, and whether it has sent an encrypted record.
-pub record Told : Type 0 where
+pub record Observed : Type 0 where
   pub flow : Flow
   pub handshake : HandshakeSummary
   pub history : List ℕ
   pub has_changed : Bool
   pub is_encrypted : Bool
 
-abbrev pub told_of : Account → Progress → Told
-told_of a p = record {
+abbrev pub observed_of : Account → Progress → Observed
+observed_of a p = record {
   flow = a.flow;
   handshake = view_summary a.handshake;
   history = a.history.items;
@@ -111,12 +111,12 @@ has_come_to_change s f a =
 -- A ChangeCipherSpec counts once for each side, and only if the handshake has reached it, which is
 -- after the ServerHello. Any other is dropped: it is a retransmission (RFC 6347, section 4.2.4), or
 -- there is nothing to change to.
-abbrev pub awaits_change : Side → Told → Bool
+abbrev pub awaits_change : Side → Observed → Bool
 awaits_change s t = not t.has_changed && is_some t.handshake.server
     && has_come_to_change s t.flow t.handshake
 
-abbrev pub saying : Side → Told → Event → Told
-saying s t e = record {
+abbrev pub with_event : Side → Observed → Event → Observed
+with_event s t e = record {
   flow = followed s t.flow e;
   handshake = noted_in_datagram s t.handshake e;
   history = with_letter s t.history (letter_in_datagram e);
@@ -125,21 +125,21 @@ saying s t e = record {
 }
 
 -- An event of the side.
-abbrev pub said : Side → Told → Event → Told
-said s t e = if is_change e && not (awaits_change s t) then t else saying s t e
+abbrev pub observed : Side → Observed → Event → Observed
+observed s t e = if is_change e && not (awaits_change s t) then t else with_event s t e
 
 -- Events of the side, in order.
-abbrev pub said_all : Side → Told → List Event → Told
-said_all s t [] = t
-said_all s t (e ∷ es) = said_all s (said s t e) es
+abbrev pub observed_all : Side → Observed → List Event → Observed
+observed_all s t [] = t
+observed_all s t (e ∷ es) = observed_all s (observed s t e) es
 
 -- The limits for a side: the length of a message, and fragments of 16 messages at a time.
 abbrev pub allowed : Limits
 allowed = record { message = default_limit; ahead = 16 }
 
 -- The state of one side: its reassembly, and how far it has come.
-pub record Spoken : Type 0 where
-  pub heard : Heard
+pub record SideProgress : Type 0 where
+  pub received : Received
   -- whether a fragment of it was added, and whether the messages before it are missing
   pub is_begun : Bool
   pub lacks_front : Bool
@@ -148,18 +148,18 @@ pub record Spoken : Type 0 where
 
 -- The state of an analyzer.
 pub record Analyzer : Type 0 where
-  pub client : Spoken
-  pub server : Spoken
+  pub client : SideProgress
+  pub server : SideProgress
   pub flow : Flow
   pub handshake : HandshakeSummary
   pub history : List ℕ
   -- whether a datagram began with a record of DTLS of epoch 0
   pub is_dtls : Bool
 
-abbrev pub none_spoken : Spoken
-none_spoken =
+abbrev pub no_side_progress : SideProgress
+no_side_progress =
     record {
-      heard = none_heard;
+      received = none_received;
       is_begun = false;
       lacks_front = false;
       has_changed =
@@ -168,10 +168,10 @@ none_spoken =
     }
 
 -- Nothing came.
-abbrev pub untold : Analyzer
-untold = record {
-  client = none_spoken;
-  server = none_spoken;
+abbrev pub nothing_observed : Analyzer
+nothing_observed = record {
+  client = no_side_progress;
+  server = no_side_progress;
   flow = silence;
   handshake =
       nothing;
@@ -179,16 +179,16 @@ untold = record {
   is_dtls = false;
 }
 
-abbrev pub spoken : Analyzer → Side → Spoken
-spoken k ToServer = k.client
-spoken k FromServer = k.server
+abbrev pub side_progress : Analyzer → Side → SideProgress
+side_progress k ToServer = k.client
+side_progress k FromServer = k.server
 
 -- A side is skipped once it is encrypted and the handshake has ended.
 abbrev pub is_over : Analyzer → Side → Bool
-is_over k s = (spoken k s).is_encrypted && not (is_waiting (outcome_at k.flow.state))
+is_over k s = (side_progress k s).is_encrypted && not (is_waiting (outcome_at k.flow.state))
 
-abbrev pub told_to : Analyzer → Spoken → Told
-told_to k p =
+abbrev pub observed_by : Analyzer → SideProgress → Observed
+observed_by k p =
     record {
       flow = k.flow;
       handshake = k.handshake;
@@ -198,21 +198,22 @@ told_to k p =
       is_encrypted = p.is_encrypted;
     }
 
-abbrev pub spoken_by : Spoken → Heard → Told → Spoken
-spoken_by p h t = record p { heard = h; has_changed = t.has_changed; is_encrypted = t.is_encrypted }
+abbrev pub side_progress_by : SideProgress → Received → Observed → SideProgress
+side_progress_by p h t =
+    record p { received = h; has_changed = t.has_changed; is_encrypted = t.is_encrypted }
 
-abbrev pub with_told : Analyzer → Side → Heard → Told → Analyzer
-with_told k ToServer h t =
+abbrev pub with_observed : Analyzer → Side → Received → Observed → Analyzer
+with_observed k ToServer h t =
     record k {
-      client = spoken_by k.client h t;
+      client = side_progress_by k.client h t;
       flow = t.flow;
       handshake = t.handshake;
       history =
           t.history;
     }
-with_told k FromServer h t =
+with_observed k FromServer h t =
     record k {
-      server = spoken_by k.server h t;
+      server = side_progress_by k.server h t;
       flow = t.flow;
       handshake = t.handshake;
       history =
@@ -221,7 +222,7 @@ with_told k FromServer h t =
 
 -- A side's events are followed and recorded.
 abbrev pub stepped : Analyzer → Side → Step → Analyzer
-stepped k s x = with_told k s x.0 (said_all s (told_to k (spoken k s)) x.1)
+stepped k s x = with_observed k s x.0 (observed_all s (observed_by k (side_progress k s)) x.1)
 
 abbrev pub fragment_in : Answer Fragment → Option Fragment
 fragment_in (Ok x) = Some x.0
@@ -242,25 +243,25 @@ abbrev pub is_behind_front : Side → Fragment → Bool
 is_behind_front s f = f.msg_type == hello_type s && f.message_seq == 1
 
 -- The first fragment of a side gives the number at which its messages begin.
-abbrev pub begun : Side → Fragment → Spoken → Spoken
+abbrev pub begun : Side → Fragment → SideProgress → SideProgress
 begun s f p =
     if p.is_begun then p
     else if is_behind_front s f then
-    record p { heard = nothing_from 1; is_begun = true; lacks_front = true }
+    record p { received = nothing_from 1; is_begun = true; lacks_front = true }
     else record p { is_begun = true }
 
-abbrev pub with_spoken : Analyzer → Side → Spoken → Analyzer
-with_spoken k ToServer p = record k { client = p }
-with_spoken k FromServer p = record k { server = p }
+abbrev pub with_side_progress : Analyzer → Side → SideProgress → Analyzer
+with_side_progress k ToServer p = record k { client = p }
+with_side_progress k FromServer p = record k { server = p }
 
 abbrev pub begun_by : Option Fragment → Analyzer → Side → Analyzer
 begun_by None k s = k
-begun_by (Some f) k s = with_spoken k s (begun s f (spoken k s))
+begun_by (Some f) k s = with_side_progress k s (begun s f (side_progress k s))
 
 -- The epoch of the records that a side's peer accepts (section 4.1): 1 after the side's
 -- ChangeCipherSpec. Records of an epoch that hasn't begun or is over are dropped. Later epochs
 -- begin after the handshake, with an encrypted ChangeCipherSpec.
-abbrev pub epoch_of : Spoken → ℕ
+abbrev pub epoch_of : SideProgress → ℕ
 epoch_of p = if p.has_changed then 1 else 0
 
 -- A ClientHello, ServerHello or HelloVerifyRequest.
@@ -272,23 +273,25 @@ is_hello f = f.msg_type == 1 || f.msg_type == 2 || f.msg_type == 3
 abbrev pub is_late : Option Fragment → Analyzer → Side → Bool
 is_late None k s = false
 is_late (Some f) k s =
-    is_some k.handshake.server && is_hello f && not (nat_lt f.message_seq (spoken k s).heard.next)
+    is_some k.handshake.server && is_hello f
+    && not (nat_lt f.message_seq (side_progress k s).received.next)
 
 -- Whether a record of this side is read.
 abbrev pub takes : Analyzer → Side → RawRecord → Bool
 takes k s r =
-    k.is_dtls && not (is_over k s) && r.header.epoch == epoch_of (spoken k s)
+    k.is_dtls && not (is_over k s) && r.header.epoch == epoch_of (side_progress k s)
     && not (is_late (first_fragment r) k s)
 
 abbrev pub taken : Analyzer → Side → RawRecord → Analyzer
-taken k s r = stepped k s (record_step allowed (spoken k s).heard r)
+taken k s r = stepped k s (record_step allowed (side_progress k s).received r)
 
-abbrev pub record_heard_in : Analyzer → Side → RawRecord → Analyzer
-record_heard_in k s r = if takes k s r then taken (begun_by (first_fragment r) k s) s r else k
+abbrev pub record_received_in : Analyzer → Side → RawRecord → Analyzer
+record_received_in k s r = if takes k s r then taken (begun_by (first_fragment r) k s) s r else k
 
 -- A record of this side. The first one of epoch 0 shows that it is DTLS.
-abbrev pub record_heard : Analyzer → Side → RawRecord → Analyzer
-record_heard k s r = record_heard_in (record k { is_dtls = k.is_dtls || r.header.epoch == 0 }) s r
+abbrev pub record_received : Analyzer → Side → RawRecord → Analyzer
+record_received k s r =
+    record_received_in (record k { is_dtls = k.is_dtls || r.header.epoch == 0 }) s r
 
 -- The bytes are an encrypted record of DTLS 1.3 (RFC 9147, section 4).
 abbrev pub is_sealed_record : Answer Ciphertext → Bool
@@ -302,67 +305,69 @@ is_sealed_next k s b =
     is_13 (outcome_at k.flow.state)
     && is_sealed_record (reading (ciphertext (connection_id_length s k.handshake)) b)
 
-abbrev pub sealed : Spoken → Spoken
+abbrev pub sealed : SideProgress → SideProgress
 sealed p = record p { is_encrypted = true }
 
 abbrev pub sealed_by : Analyzer → Side → Bytes → Analyzer
-sealed_by k s b = if is_sealed_next k s b then with_spoken k s (sealed (spoken k s)) else k
+sealed_by k s b = if is_sealed_next k s b then with_side_progress k s (sealed (side_progress k s))
+    else k
 
-abbrev pub next_heard : Answer RawRecord → Analyzer → Side → Bytes
+abbrev pub next_received : Answer RawRecord → Analyzer → Side → Bytes
     → (Analyzer → Bytes → Analyzer) → Analyzer
-next_heard (Err e) k s b more = sealed_by k s b
-next_heard (Ok x) k s b more = if is_known x.0.header then
-    more (record_heard k s x.0) x.1 else sealed_by k s b
+next_received (Err e) k s b more = sealed_by k s b
+next_received (Ok x) k s b more = if is_known x.0.header then
+    more (record_received k s x.0) x.1 else sealed_by k s b
 
 -- At most n records of a datagram, in order. Bytes that are no whole DTLS record are dropped with
 -- what follows them (section 4.1.2.7); so is a datagram that begins with such bytes, since other
 -- protocols may use the same ports (RFC 7983). In DTLS 1.3 encrypted records may follow the others,
 -- and the first one marks the side as encrypted.
-unfoldable pub records_heard : ℕ → Analyzer → Side → Bytes → Analyzer
-records_heard zero k s b = k
-records_heard (suc n) k s b =
-    next_heard (reading datagram_record b) k s b (λ k b. records_heard n k s b)
+unfoldable pub records_received : ℕ → Analyzer → Side → Bytes → Analyzer
+records_received zero k s b = k
+records_received (suc n) k s b =
+    next_received (reading datagram_record b) k s b (λ k b. records_received n k s b)
 
 -- A datagram of this side. A record has at least one byte, so there are no more records than bytes.
-abbrev pub heard : Analyzer → Side → Bytes → Analyzer
-heard k s d = records_heard (length d) k s d
+abbrev pub received : Analyzer → Side → Bytes → Analyzer
+received k s d = records_received (length d) k s d
 
 -- All of these datagrams, in order.
-abbrev pub heard_all : Analyzer → List (Side × Bytes) → Analyzer
-heard_all k [] = k
-heard_all k (d ∷ ds) = heard_all (heard k d.0 d.1) ds
+abbrev pub received_all : Analyzer → List (Side × Bytes) → Analyzer
+received_all k [] = k
+received_all k (d ∷ ds) = received_all (received k d.0 d.1) ds
 
 -- The program's data of one side, and of the analyzer, agree with the state.
-pub record IsSpoken (p : Spoken) (t : DatagramSide) : Type 0 where
-  pub stands : Stands allowed p.heard t.messages
+pub record IsSideProgress (p : SideProgress) (t : DatagramSide) : Type 0 where
+  pub stands : Stands allowed p.received t.messages
   pub is_begun : t.is_begun ≡ p.is_begun
   pub lacks_front : t.lacks_front ≡ p.lacks_front
   pub has_changed : t.progress.has_changed ≡ p.has_changed
   pub is_encrypted : t.progress.is_encrypted ≡ p.is_encrypted
 
 pub record IsKnown (k : Analyzer) (t : DatagramAnalyzer) : Type 0 where
-  pub client : IsSpoken k.client t.client
-  pub server : IsSpoken k.server t.server
+  pub client : IsSideProgress k.client t.client
+  pub server : IsSideProgress k.server t.server
   pub flow : t.account.flow ≡ k.flow
   pub handshake : view_summary t.account.handshake ≡ k.handshake
   pub history : t.account.history.items ≡ k.history
   pub is_dtls : t.is_dtls ≡ k.is_dtls
 
-abbrev pub speaker_of : DatagramAnalyzer → Side → DatagramSide
-speaker_of t ToServer = t.client
-speaker_of t FromServer = t.server
+abbrev pub datagram_side_of : DatagramAnalyzer → Side → DatagramSide
+datagram_side_of t ToServer = t.client
+datagram_side_of t FromServer = t.server
 
 -- The side's events were followed and recorded.
-pub record IsStepped (s : Side) (x : Step) (t u : Told) (n : Kept) : Type 0 where
+pub record IsStepped (s : Side) (x : Step) (t u : Observed) (n : Kept) : Type 0 where
   pub stands : Stands allowed x.0 n
-  pub told : u ≡ said_all s t x.1
+  pub emitted : u ≡ observed_all s t x.1
 
 -- A datagram_side read a record and its events were added, in terms of the account and the progress
 -- before and after.
-abbrev pub SpeakerHears : Side → Heard → RawRecord → Account → Account → DatagramSide
+abbrev pub SideReads : Side → Received → RawRecord → Account → Account → DatagramSide
     → DatagramSide → Type 0
-SpeakerHears s h r a b t u =
-    IsStepped s (record_step allowed h r) (told_of a t.progress) (told_of b u.progress) u.messages
+SideReads s h r a b t u =
+    IsStepped s (record_step allowed h r) (observed_of a t.progress)
+    (observed_of b u.progress) u.messages
 
 -- Another state of the same side, apart from its messages.
 abbrev pub IsSameSide : DatagramSide → DatagramSide → Type 0

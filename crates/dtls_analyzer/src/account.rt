@@ -1,12 +1,12 @@
 //! What both sides of a DTLS conversation have sent.
 ghost use Rattle.std.specs.Prelude.{◌≡◌, OnOk};
 ghost use Rattle.std.specs.Option.{option_map};
-ghost use Rattle.tls_flow.specs.Bytes.{view_heard};
+ghost use Rattle.tls_flow.specs.Bytes.{view_handshake_message};
 ghost use Rattle.dtls_stream.specs.Messages.{view_event, view_events};
 ghost use Rattle.tls_summary.specs.HandshakeSummary.{view_summary};
 ghost use Rattle.tls_observer.specs.History.{letter_in_datagram, with_letter};
 ghost use Rattle.tls_flow.specs.Table.{is_failed as is_failure, is_waiting as is_still};
-ghost use Rattle.dtls_analyzer.specs.Datagrams.{awaits_change as awaits, behind_change as stands_behind_change, followed, followed_with, has_come_to_change as comes_to_change, is_change as changes, is_sealed as seals, may_resume as takes_session, noted_in_datagram, noted_in_datagram_with, said, said_all, saying, told_of};
+ghost use Rattle.dtls_analyzer.specs.Datagrams.{awaits_change as awaits, behind_change as stands_behind_change, followed, followed_with, has_come_to_change as comes_to_change, is_change as changes, is_sealed as seals, may_resume as takes_session, noted_in_datagram, noted_in_datagram_with, observed, observed_all, with_event, observed_of};
 
 use dtls_stream::{Event, datagram_message, dtls_event_with};
 use std::alloc::{AllocError, Global};
@@ -57,7 +57,7 @@ fn note(
     ensures { OnOk result
         (view_summary handshake.new ≡ noted_in_datagram_with side (view_summary handshake.old)
         (view_event event.now)
-        (option_map (λ m. view_heard m.now) message.entry)) }
+        (option_map (λ m. view_handshake_message m.now) message.entry)) }
 {
     match event {
         Event::Handshake(_) => {
@@ -132,7 +132,7 @@ fn has_come_to_change(flow: &Flow, handshake: &HandshakeSummary, side: Direction
 impl Account {
     /// Whether this side's ChangeCipherSpec counts next.
     fn awaits_change(&self, side: Direction, progress: &Progress) -> bool
-        ensures { result ≡ awaits side (told_of self.now progress.now) }
+        ensures { result ≡ awaits side (observed_of self.now progress.now) }
     {
         !progress.has_changed
             && self.handshake.server.is_some()
@@ -141,14 +141,15 @@ impl Account {
 
     /// Follows an event of a side, updates the summary and appends its letter. Its message is
     /// parsed once for these and the observer.
-    fn tell<W: Observer>(
+    fn emit<W: Observer>(
         &mut self,
         alloc: Global,
         side: Direction,
         event: &Event<'_>,
         observer: &mut W,
     ) -> Result<(), AllocError>
-        ensures flow { OnOk result (self.new.flow ≡ followed side self.old.flow (view_event event.now)) }
+        ensures flow { OnOk result
+            (self.new.flow ≡ followed side self.old.flow (view_event event.now)) }
         ensures handshake { OnOk result
             (view_summary self.new.handshake ≡ noted_in_datagram side
             (view_summary self.old.handshake) (view_event event.now)) }
@@ -173,8 +174,8 @@ impl Account {
         Ok(())
     }
 
-    /// Does what `tell` does, and updates the side's progress.
-    fn say<W: Observer>(
+    /// Does what `emit` does, and updates the side's progress.
+    fn observe<W: Observer>(
         &mut self,
         alloc: Global,
         side: Direction,
@@ -183,10 +184,10 @@ impl Account {
         observer: &mut W,
     ) -> Result<(), AllocError>
         ensures { OnOk result
-            (told_of self.new progress.new ≡ saying side (told_of self.old progress.old)
+            (observed_of self.new progress.new ≡ with_event side (observed_of self.old progress.old)
             (view_event event.now)) }
     {
-        self.tell(alloc, side, event, observer)?;
+        self.emit(alloc, side, event, observer)?;
         progress.has_changed = progress.has_changed || is_change(event);
         progress.is_encrypted = progress.is_encrypted || is_sealed(event);
         Ok(())
@@ -203,13 +204,13 @@ impl Account {
         observer: &mut W,
     ) -> Result<(), AllocError>
         ensures { OnOk result
-            (told_of self.new progress.new ≡ said side (told_of self.old progress.old)
+            (observed_of self.new progress.new ≡ observed side (observed_of self.old progress.old)
             (view_event event.now)) }
     {
         if is_change(event) && !self.awaits_change(side, progress) {
             return Ok(());
         }
-        self.say(alloc, side, progress, event, observer)
+        self.observe(alloc, side, progress, event, observer)
     }
 
     /// Adds the events of a side in order.
@@ -222,7 +223,8 @@ impl Account {
         observer: &mut W,
     ) -> Result<(), AllocError>
         ensures { OnOk result
-            (told_of self.new progress.new ≡ said_all side (told_of self.old progress.old)
+            (observed_of self.new progress.new
+            ≡ observed_all side (observed_of self.old progress.old)
             (view_events events.now)) }
     {
         for event in events {

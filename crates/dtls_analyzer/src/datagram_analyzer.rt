@@ -6,7 +6,7 @@ ghost use Rattle.tls_stream.specs.Conversations.{views};
 ghost use Rattle.tls_summary.specs.HandshakeSummary.{view_summary};
 ghost use Rattle.tls_flow.specs.Table.{outcome_at};
 ghost use Rattle.dtls_analyzer.specs.Another.{begins_another as another_begins};
-ghost use Rattle.dtls_analyzer.specs.Datagrams.{IsKnown, Analyzer, begun, first_fragment as first, heard, heard_all, is_late as is_late_in, is_over as is_over_in, is_sealed_next as sealed_next, record_heard, sealed_by, speaker_of, spoken, taken, takes as is_taken, untold, with_spoken};
+ghost use Rattle.dtls_analyzer.specs.Datagrams.{IsKnown, Analyzer, begun, first_fragment as first, received, received_all, is_late as is_late_in, is_over as is_over_in, is_sealed_next as sealed_next, record_received, sealed_by, datagram_side_of, side_progress, taken, takes as is_taken, nothing_observed, with_side_progress};
 ghost use Rattle.tls_observer.specs.Ends.{is_13 as is_13_by, is_established as established_by, is_resumed as resumed_by};
 
 use crate::account::Account;
@@ -33,7 +33,7 @@ pub struct DatagramAnalyzer {
 impl DatagramAnalyzer {
     /// An analyzer of a new conversation. It doesn't allocate.
     pub fn new(alloc: Global) -> DatagramAnalyzer
-        ensures { IsKnown untold result }
+        ensures { IsKnown nothing_observed result }
     {
         DatagramAnalyzer {
             client: DatagramSide::new(alloc),
@@ -110,7 +110,8 @@ impl DatagramAnalyzer {
     /// Whether the first messages of a side are missing: by its number, it begins with a second
     /// ClientHello, or with the ServerHello after a HelloVerifyRequest (RFC 6347, section 4.2.2).
     pub fn lacks_front(&self, side: Direction) -> bool
-        ensures { (k : Analyzer) → IsKnown k self.now → result ≡ (spoken k side).lacks_front }
+        ensures { (k : Analyzer) → IsKnown k self.now
+            → result ≡ (side_progress k side).lacks_front }
     {
         self.datagram_side(side).lacks_front
     }
@@ -127,7 +128,7 @@ impl DatagramAnalyzer {
 
     /// The state of one side.
     fn datagram_side(&self, side: Direction) -> &DatagramSide
-        ensures { result.now ≡ speaker_of self.now side }
+        ensures { result.now ≡ datagram_side_of self.now side }
     {
         match side {
             Direction::ToServer => &self.client,
@@ -172,7 +173,8 @@ impl DatagramAnalyzer {
     /// Begins a side with its first fragment.
     fn begin(&mut self, alloc: Global, side: Direction, fragment: &Fragment<'_>)
         ensures { (k : Analyzer) → IsKnown k self.old
-            → IsKnown (with_spoken k side (begun side (view_fragment fragment.now) (spoken k side)))
+            → IsKnown (with_side_progress k side
+            (begun side (view_fragment fragment.now) (side_progress k side)))
             self.new }
     {
         match side {
@@ -211,7 +213,8 @@ impl DatagramAnalyzer {
         observer: &mut W,
     ) -> Result<(), AllocError>
         ensures { (k : Analyzer) → IsKnown k self.old
-            → OnOk result (IsKnown (record_heard k side (view_raw_record record.entry)) self.new) }
+            → OnOk result (IsKnown
+            (record_received k side (view_raw_record record.entry)) self.new) }
     {
         self.is_dtls = self.is_dtls || record.header.epoch == 0;
         if !self.takes(side, &record) {
@@ -279,7 +282,7 @@ impl DatagramAnalyzer {
         datagram: &[u8],
     ) -> Result<(), AllocError>
         ensures { (k : Analyzer) → IsKnown k self.old
-            → OnOk result (IsKnown (heard k side datagram.now) self.new) }
+            → OnOk result (IsKnown (received k side datagram.now) self.new) }
     {
         self.analyze_with(alloc, side, datagram, &mut NoObserver)
     }
@@ -294,7 +297,7 @@ impl DatagramAnalyzer {
         observer: &mut W,
     ) -> Result<(), AllocError>
         ensures { (k : Analyzer) → IsKnown k self.old
-            → OnOk result (IsKnown (heard k side datagram.now) self.new) }
+            → OnOk result (IsKnown (received k side datagram.now) self.new) }
     {
         let mut left = datagram;
         'records: for read in 0..datagram.len() {
@@ -320,7 +323,7 @@ pub fn analyzer_of(
     alloc: Global,
     datagrams: &[(Direction, &[u8])],
 ) -> Result<DatagramAnalyzer, AllocError>
-    ensures { IfOk result (λ t. IsKnown (heard_all untold (views datagrams.now)) t) }
+    ensures { IfOk result (λ t. IsKnown (received_all nothing_observed (views datagrams.now)) t) }
 {
     let mut analyzer = DatagramAnalyzer::new(alloc);
     for (side, datagram) in datagrams {

@@ -3,8 +3,8 @@ ghost use Rattle.std.specs.Prelude.{◌≡◌, OnOk, nat_lt, not};
 ghost use Rattle.std.specs.Option.{option_map};
 ghost use Rattle.raw_records.specs.RawDtlsRecord.{view_raw_record};
 ghost use Rattle.dtls_stream.specs.Fragments.{view_fragment};
-ghost use Rattle.dtls_stream.specs.Messages.{Heard, Stands};
-ghost use Rattle.dtls_analyzer.specs.Datagrams.{IsSameSide, IsSpoken, SpeakerHears, Spoken, allowed, begun, epoch_of, first_fragment as first, is_behind_front as is_behind, is_hello as hello, none_spoken};
+ghost use Rattle.dtls_stream.specs.Messages.{Received, Stands};
+ghost use Rattle.dtls_analyzer.specs.Datagrams.{IsSameSide, IsSideProgress, SideReads, SideProgress, allowed, begun, epoch_of, first_fragment as first, is_behind_front as is_behind, is_hello as hello, no_side_progress};
 
 use crate::account::{Account, Progress};
 use dtls_stream::{DEFAULT_LIMITS, Fragment, Messages, parse_dtls_fragment, read_record_events};
@@ -61,7 +61,7 @@ fn is_behind_front(side: Direction, fragment: &Fragment<'_>) -> bool
 impl DatagramSide {
     /// A side that has sent nothing. It doesn't allocate.
     pub(crate) fn new(alloc: Global) -> DatagramSide
-        ensures { IsSpoken none_spoken result }
+        ensures { IsSideProgress no_side_progress result }
     {
         DatagramSide {
             messages: Messages::new(alloc, DEFAULT_LIMITS),
@@ -76,23 +76,23 @@ impl DatagramSide {
 
     /// The epoch of the records that its peer accepts.
     pub(crate) fn epoch(&self) -> u16
-        ensures { (p : Spoken) → IsSpoken p self.now → result ≡ epoch_of p }
+        ensures { (p : SideProgress) → IsSideProgress p self.now → result ≡ epoch_of p }
     {
         if self.progress.has_changed { 1 } else { 0 }
     }
 
     /// Whether a fragment's message wasn't delivered yet.
     pub(crate) fn is_new(&self, fragment: &Fragment<'_>) -> bool
-        ensures { (p : Spoken) → IsSpoken p self.now
-            → result ≡ not (nat_lt fragment.now.message_seq p.heard.next) }
+        ensures { (p : SideProgress) → IsSideProgress p self.now
+            → result ≡ not (nat_lt fragment.now.message_seq p.received.next) }
     {
         fragment.message_seq as u32 >= self.messages.next_number()
     }
 
     /// Begins the side with its first fragment, and after the missing messages if there are any.
     pub(crate) fn begin(&mut self, alloc: Global, side: Direction, first: &Fragment<'_>)
-        ensures { (p : Spoken) → IsSpoken p self.old
-            → IsSpoken (begun side (view_fragment first.now) p) self.new }
+        ensures { (p : SideProgress) → IsSideProgress p self.old
+            → IsSideProgress (begun side (view_fragment first.now) p) self.new }
     {
         if self.is_begun {
             return;
@@ -113,9 +113,9 @@ impl DatagramSide {
         record: DTLSRawRecord<'_>,
         observer: &mut W,
     ) -> Result<(), AllocError>
-        ensures told { (h : Heard) → Stands allowed h self.old.messages
+        ensures emitted { (h : Received) → Stands allowed h self.old.messages
             → OnOk result
-            (SpeakerHears side h (view_raw_record record.entry) account.old account.new self.old
+            (SideReads side h (view_raw_record record.entry) account.old account.new self.old
             self.new) }
         ensures same { IsSameSide self.old self.new }
     {

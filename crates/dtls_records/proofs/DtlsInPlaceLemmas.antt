@@ -23,7 +23,7 @@ use Rattle.layouts.specs.Bytes.{Bytes}
 use Rattle.layouts.specs.Layout.{Layout, done, number, block, window, list1, ◌>>=◌}
 use Rattle.layouts.specs.Meaning.{Refusal, Answer}
 use Rattle.layouts.specs.Reading.{reading, split_at, ◌and_then◌}
-use Rattle.layouts.specs.Items.{items_in, decode_while, with_decoded, value_of, Tells, ReadsThenDecodes}
+use Rattle.layouts.specs.Items.{items_in, decode_while, with_decoded, value_of, Returns, ReadsThenDecodes}
 use Rattle.layouts.specs.declared.result.Error.{Error}
 use Rattle.layouts.specs.declared.result.Err.{Err as Failed}
 use Rattle.layouts.proofs.LeavesLemmas.{takes_byte}
@@ -60,7 +60,7 @@ use Rattle.dtls_records.specs.DtlsInPlace.{
 }
 use Rattle.raw_records.specs.First.{first_judged}
 use Rattle.dtls_records.proofs.ContentLemmas.{dtls_plaintext_is_raw_then_content}
-use Rattle.raw_records.proofs.FirstLemmas.{list_told}
+use Rattle.raw_records.proofs.FirstLemmas.{list_returned}
 
 -- a raw message with its body read
 abbrev pub with_body_read : RawHandshake × Bytes → Answer dtls_handshake.Handshake
@@ -157,47 +157,47 @@ decoded [] = refl
 decoded (x ∷ xs) = ap (λ ys. with_decoded (handshake_of x) ys) (decoded xs)
 
 pub change_cipher_specs : (b : Bytes) (r : Result Unit (Failed (Error (Bor (List ℕ)))))
-    → Tells (λ u. tt) (first_judged change_cipher_spec b) r
-    → Tells (λ u. decode_while message_of (map Whole (items_in change_cipher_spec b)))
+    → Returns (λ u. tt) (first_judged change_cipher_spec b) r
+    → Returns (λ u. decode_while message_of (map Whole (items_in change_cipher_spec b)))
     (value_of (reading (list1 change_cipher_spec) b)) r
 unfolding change_cipher_spec tls_message.change_cipher_spec
-change_cipher_specs b r t = list_told change_cipher_spec b _ (takes_byte change_cipher_spec b tt)
+change_cipher_specs b r t = list_returned change_cipher_spec b _ (takes_byte change_cipher_spec b tt)
     (whole (items_in change_cipher_spec b)) r t
 
 pub some_alerts : (b : Bytes) (r : Result Unit (Failed (Error (Bor (List ℕ)))))
-    → Tells (λ u. tt) (first_judged alert b) r
-    → Tells (λ u. decode_while message_of (map Whole (items_in alert b)))
+    → Returns (λ u. tt) (first_judged alert b) r
+    → Returns (λ u. decode_while message_of (map Whole (items_in alert b)))
     (value_of (reading (list1 alert) b)) r
 unfolding alert base_alert.alert
-some_alerts b r t = list_told alert b _ (takes_byte alert b tt) (whole (items_in alert b)) r t
+some_alerts b r t = list_returned alert b _ (takes_byte alert b tt) (whole (items_in alert b)) r t
 
 pub handshakes : (b : Bytes) (r : Result Unit (Failed (Error (Bor (List ℕ)))))
-    → Tells (λ u. tt) (first_judged handshake b) r
-    → Tells (λ u. decode_while message_of (map Handshake (items_in raw_handshake b)))
+    → Returns (λ u. tt) (first_judged handshake b) r
+    → Returns (λ u. decode_while message_of (map Handshake (items_in raw_handshake b)))
     (value_of (reading (list1 handshake) b)) r
 unfolding handshake dtls_handshake.handshake
 handshakes b r t =
-    list_told handshake b _ (takes_byte handshake b tt)
+    list_returned handshake b _ (takes_byte handshake b tt)
     (items_decoded handshake raw_handshake handshake_of handshake_decodes b
     ∙ decoded (items_in raw_handshake b)) r t
 
 -- the value of a record: its header, and the value of its fragment
-content_says : (h : RecordHeader) (r : Bytes) (a : Answer (List Message)) (xs : List Message)
+content_returns : (h : RecordHeader) (r : Bytes) (a : Answer (List Message)) (xs : List Message)
     → value_of a ≡ Ok xs
     → ◌and_then◌ {Y = Plaintext × Bytes} a (λ m. Ok (record { header = h; messages = m.0 }, r))
     ≡ Ok (record { header = h; messages = xs }, r)
-content_says h r (Ok x) xs e = let same : ◌≡◌ {A = Result (List Message) Refusal} (Ok x.0) (Ok xs) =
+content_returns h r (Ok x) xs e = let same : ◌≡◌ {A = Result (List Message) Refusal} (Ok x.0) (Ok xs) =
     e in let is : x.0 ≡ xs = cc in ap (λ ms. Ok (record { header = h; messages = ms }, r)) is
-content_says h r (Err k) xs e =
+content_returns h r (Err k) xs e =
     absurd (let no : ◌≡◌ {A = Result (List Message) Refusal} (Err k) (Ok xs) = e in cc)
 
-content_says_not : (h : RecordHeader) (r : Bytes) (a : Answer (List Message)) (k : Refusal)
+content_refuses : (h : RecordHeader) (r : Bytes) (a : Answer (List Message)) (k : Refusal)
     → value_of a ≡ Err k
     → ◌and_then◌ {Y = Plaintext × Bytes} a
     (λ m. Ok (record { header = h; messages = m.0 }, r)) ≡ Err k
-content_says_not h r (Ok x) k e =
+content_refuses h r (Ok x) k e =
     absurd (let no : ◌≡◌ {A = Result (List Message) Refusal} (Ok x.0) (Err k) = e in cc)
-content_says_not h r (Err j) k e =
+content_refuses h r (Err j) k e =
     let same : ◌≡◌ {A = Result (List Message) Refusal} (Err j) (Err k) =
     e in let is : j ≡ k = cc in ap Err is
 
@@ -207,18 +207,18 @@ pub content_read : (b f r : Bytes) (h : RecordHeader) (xs : List Message)
     → reading plaintext b ≡ Ok (record { header = h; messages = xs }, r)
 content_read b f r h xs e g = dtls_plaintext_is_raw_then_content b
     ∙ ap (λ a. a and_then read_content) e
-    ∙ content_says h r (reading (record_content h) f) xs (sym g)
+    ∙ content_returns h r (reading (record_content h) f) xs (sym g)
 
 pub content_refused : (b f r : Bytes) (h : RecordHeader) (k : Refusal)
     → reading raw_record b ≡ Ok (record { header = h; fragment = f }, r)
     → Err k ≡ value_of (reading (record_content h) f) → reading plaintext b ≡ Err k
 content_refused b f r h k e g = dtls_plaintext_is_raw_then_content b
     ∙ ap (λ a. a and_then read_content) e
-    ∙ content_says_not h r (reading (record_content h) f) k (sym g)
+    ∙ content_refuses h r (reading (record_content h) f) k (sym g)
 
 -- the fragment of a record, by its type
 abbrev Judges : RecordHeader → ℕ → Bytes → Result Unit (Failed (Error (Bor (List ℕ)))) → Type 0
-Judges h t b r = Tells (λ u. decode_while message_of (messages_of_type t b))
+Judges h t b r = Returns (λ u. decode_while message_of (messages_of_type t b))
     (value_of (reading (record_content (record {
       content_type = t;
       version = h.version;
@@ -230,20 +230,20 @@ Judges h t b r = Tells (λ u. decode_while message_of (messages_of_type t b))
 
 pub judges_change_cipher_specs : (h : RecordHeader) (b : Bytes)
     (r : Result Unit (Failed (Error (Bor (List ℕ)))))
-    → h.content_type ≡ 20 → Tells (λ u. tt) (first_judged change_cipher_spec b) r
+    → h.content_type ≡ 20 → Returns (λ u. tt) (first_judged change_cipher_spec b) r
     → Judges h h.content_type b r
 unfolding record_content
 judges_change_cipher_specs h b r e x =
     subst (λ k. Judges h k b r) (sym e) (change_cipher_specs b r x)
 
 pub judges_alerts : (h : RecordHeader) (b : Bytes) (r : Result Unit (Failed (Error (Bor (List ℕ)))))
-    → h.content_type ≡ 21 → Tells (λ u. tt) (first_judged alert b) r → Judges h h.content_type b r
+    → h.content_type ≡ 21 → Returns (λ u. tt) (first_judged alert b) r → Judges h h.content_type b r
 unfolding record_content
 judges_alerts h b r e x = subst (λ k. Judges h k b r) (sym e) (some_alerts b r x)
 
 pub judges_handshakes : (h : RecordHeader) (b : Bytes)
     (r : Result Unit (Failed (Error (Bor (List ℕ)))))
-    → h.content_type ≡ 22 → Tells (λ u. tt) (first_judged handshake b) r
+    → h.content_type ≡ 22 → Returns (λ u. tt) (first_judged handshake b) r
     → Judges h h.content_type b r
 unfolding record_content
 judges_handshakes h b r e x = subst (λ k. Judges h k b r) (sym e) (handshakes b r x)

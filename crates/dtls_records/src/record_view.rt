@@ -4,7 +4,7 @@
 ghost use Rattle.std.specs.Prelude.{◌≡◌};
 ghost use Rattle.tls_base.specs.Alert as base_alert;
 ghost use Rattle.layouts.specs.Answers.{Gives};
-ghost use Rattle.layouts.specs.Items.{Tells, decode_while, value_of};
+ghost use Rattle.layouts.specs.Items.{Returns, decode_while, value_of};
 ghost use Rattle.layouts.specs.Reading.{reading};
 ghost use Rattle.dtls_records.specs.DtlsInPlace.{message_of, messages_of_type, raw_messages, view_plaintext_in_place, view_raw};
 ghost use Rattle.dtls_records.specs.DtlsRecord as dtls_record;
@@ -149,7 +149,7 @@ pub struct DTLSPlaintextView<'a> {
 /// [`crate::parse_dtls_record_with_header`].
 #[tactic(auto, using(crate::proofs::DtlsInPlaceLemmas::judges_change_cipher_specs, crate::proofs::DtlsInPlaceLemmas::judges_alerts, crate::proofs::DtlsInPlaceLemmas::judges_handshakes), unfolding(crate::specs::DtlsRecord::record_content))]
 fn fragment_judged<'a>(i: &'a [u8], hdr: &DTLSRecordHeader) -> Result<(), Err<Error<&'a [u8]>>>
-    ensures { Tells (λ u. decode_while message_of (messages_of_type hdr.now.content_type.0 i.now))
+    ensures { Returns (λ u. decode_while message_of (messages_of_type hdr.now.content_type.0 i.now))
         (value_of (reading (record_content (view_header hdr.now)) i.now)) result }
 {
     match hdr.content_type {
@@ -173,7 +173,7 @@ pub fn parse_dtls_record_with_header_in_place<'a>(
     i: &'a [u8],
     hdr: &DTLSRecordHeader,
 ) -> Result<DTLSMessages<'a>, Err<Error<&'a [u8]>>>
-    ensures { Tells (λ m. decode_while message_of (raw_messages m))
+    ensures { Returns (λ m. decode_while message_of (raw_messages m))
         (value_of (reading (record_content (view_header hdr.now)) i.now)) result }
 {
     fragment_judged(i, hdr)?;

@@ -1,8 +1,8 @@
 pub mod FragmentLemmas
 pub mod HeldLemmas
 pub mod PartLemmas
-pub mod HeardLemmas
-pub mod ToldLemmas
+pub mod ReceivedLemmas
+pub mod EmittedLemmas
 pub mod StoppedLemmas
 pub mod SentLemmas
 pub mod OutLemmas

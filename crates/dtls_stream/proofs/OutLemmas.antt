@@ -47,20 +47,20 @@ use Rattle.dtls_stream.specs.Messages.{
   Encrypted,
   Failed,
   Handshake,
-  Heard,
+  Received,
   Limits,
   Message,
   Refused,
   after,
   agreed,
   events,
-  heard,
-  heard_by,
+  received,
+  received_by,
   message_of,
   messages,
   of_message,
-  told,
-  told_by,
+  emitted,
+  emitted_by,
   verdict,
   whole_from,
   with_taken,
@@ -74,7 +74,7 @@ use Rattle.dtls_stream.specs.declared.fragments.FragmentError.TheVariants.{
   Outside,
   OtherLength,
 }
-use Rattle.dtls_stream.proofs.HeardLemmas.{of_message_more, of_message_other, verdict_near}
+use Rattle.dtls_stream.proofs.ReceivedLemmas.{of_message_more, of_message_other, verdict_near}
 use Rattle.dtls_stream.proofs.SentLemmas.{AreAll, IsRun, all_of_message, covered_message, run_of}
 
 -- The messages among joined events, and among events that are all messages.
@@ -122,7 +122,7 @@ are_more ms [] f of l is = (l, is, tt)
 are_more ms (t ∷ ts) f of l is = (of.0, of.1, are_more ms ts f of.2 l is)
 
 -- A fragment that is added is near enough.
-taken_near : (l : Limits) (h : Heard) (f : Fragment) (t : Unit) → verdict l h f ≡ Ok t
+taken_near : (l : Limits) (h : Received) (f : Fragment) (t : Unit) → verdict l h f ≡ Ok t
     → f.message_seq < h.next + l.ahead
 taken_near l h f t = go (nat_lt f.message_seq h.next) (nat_le (h.next + l.ahead) f.message_seq) refl
   where
@@ -137,7 +137,7 @@ taken_near l h f t = go (nat_lt f.message_seq h.next) (nat_le (h.next + l.ahead)
     go false false e is = leb-false (h.next + l.ahead) f.message_seq e
 
 -- What holds after each fragment: all next messages that are whole were delivered.
-pub record IsOut (ms : List Sent) (l : Limits) (h : Heard) (out : List Message) : Type 0 where
+pub record IsOut (ms : List Sent) (l : Limits) (h : Received) (out : List Message) : Type 0 where
   pub taken : AreOf ms h.taken
   pub low : h.next ≤ length ms
   pub front : out ≡ take h.next (numbered 0 ms)
@@ -155,11 +155,11 @@ take-drop (suc a) b [] = nil b ∙ sym (nil (suc a + b))
 take-drop (suc a) b (x ∷ xs) = let e : suc (a + b) ≡ suc a + b = omega arith in
     ap (λ ys. x ∷ ys) (take-drop a b xs) ∙ ap (λ n. take n (x ∷ xs)) e
 
-out_taken : (ms : List Sent) (l : Limits) (h : Heard) (out : List Message) (f : Fragment)
+out_taken : (ms : List Sent) (l : Limits) (h : Received) (out : List Message) (f : Fragment)
     → IsOut ms l h out
     → f.message_seq < length ms → IsOf (sent ms f.message_seq) f →
     f.message_seq < h.next + l.ahead
-    → IsOut ms l (heard_by (Ok tt) l h f) (out ++ messages (told_by (Ok tt) l h f))
+    → IsOut ms l (received_by (Ok tt) l h f) (out ++ messages (emitted_by (Ok tt) l h f))
 out_taken ms l h out f was number is near =
     let ts : List Fragment = with_taken h f in
     let w : List Message = whole_from l.ahead h.next ts in
@@ -179,7 +179,7 @@ out_taken ms l h out f was number is near =
       near = λ k g. beyond k (omega (arith, g));
     }
   where
-    covers : (ms : List Sent) (l : Limits) (h : Heard) (out : List Message) (f : Fragment)
+    covers : (ms : List Sent) (l : Limits) (h : Received) (out : List Message) (f : Fragment)
         → IsOut ms l h out
         → (w : List Message) → IsRun ms (with_taken h f) l.ahead h.next w →
         (k : ℕ) → k < h.next + length w → (b : Bool) → nat_lt k h.next ≡ b
@@ -188,7 +188,7 @@ out_taken ms l h out f was number is near =
         covered_more ms h.taken f k (was.covered k (ltb-true k h.next e))
     covers ms l h out f was w run k g false e = run.covered k (ltb-false k h.next e) g
 
-    ended : (ms : List Sent) (l : Limits) (h : Heard) (f : Fragment) (w : List Message)
+    ended : (ms : List Sent) (l : Limits) (h : Received) (f : Fragment) (w : List Message)
         → IsRun ms (with_taken h f) l.ahead h.next w
         → ((k : ℕ) → h.next + l.ahead ≤ k → of_message k (with_taken h f) ≡ []) →
         (b : Bool) → nat_lt (length w) l.ahead ≡ b
@@ -197,27 +197,27 @@ out_taken ms l h out f was number is near =
     ended ms l h f w run beyond false e = let full = ltb-false (length w) l.ahead e in
         ap message_of (beyond (h.next + length w) (omega (arith, full)))
 
-out_step : (ms : List Sent) (l : Limits) (h : Heard) (out : List Message) (f : Fragment)
+out_step : (ms : List Sent) (l : Limits) (h : Received) (out : List Message) (f : Fragment)
     → IsOut ms l h out
     → f.message_seq < length ms → IsOf (sent ms f.message_seq) f →
-    IsOut ms l (heard l h f) (out ++ messages (told l h f))
+    IsOut ms l (received l h f) (out ++ messages (emitted l h f))
 out_step ms l h out f was number is = go (verdict l h f) refl
   where
     go : (v : Result Unit FragmentError) → verdict l h f ≡ v
-        → IsOut ms l (heard_by v l h f) (out ++ messages (told_by v l h f))
+        → IsOut ms l (received_by v l h f) (out ++ messages (emitted_by v l h f))
     go (Ok t) e = out_taken ms l h out f was number is (taken_near l h f t e)
     go (Err x) e = subst (IsOut ms l h) (sym (append-nil out)) was
 
-pub out_all : (ms : List Sent) (l : Limits) (h : Heard) (out : List Message) (fs : List Fragment)
+pub out_all : (ms : List Sent) (l : Limits) (h : Received) (out : List Message) (fs : List Fragment)
     → IsOut ms l h out
     → AreOf ms fs → IsOut ms l (after l h fs) (out ++ messages (events l h fs))
 unfolding after events
 out_all ms l h out [] was of = subst (IsOut ms l h) (sym (append-nil out)) was
 out_all ms l h out (f ∷ fs) was of =
-    subst (IsOut ms l (after l (heard l h f) fs))
-    (append_assoc out (messages (told l h f)) (messages (events l (heard l h f) fs))
-    ∙ sym (ap (λ m. out ++ m) (messages-append (told l h f) (events l (heard l h f) fs))))
-    (out_all ms l (heard l h f) (out ++ messages (told l h f)) fs
+    subst (IsOut ms l (after l (received l h f) fs))
+    (append_assoc out (messages (emitted l h f)) (messages (events l (received l h f) fs))
+    ∙ sym (ap (λ m. out ++ m) (messages-append (emitted l h f) (events l (received l h f) fs))))
+    (out_all ms l (received l h f) (out ++ messages (emitted l h f)) fs
     (out_step ms l h out f was of.0 of.1) of.2)
 
 pub out_begins : (ms : List Sent) (l : Limits) → IsOut ms l (record { taken = []; next = 0 }) []
@@ -247,7 +247,7 @@ taken_hand_out ms l fs of =
 
 -- If no message is too far ahead or too large, all fragments count: those refused are
 -- retransmissions.
-pub record IsAll (ms : List Sent) (h : Heard) (fs : List Fragment) : Type 0 where
+pub record IsAll (ms : List Sent) (h : Received) (fs : List Fragment) : Type 0 where
   pub same : (k : ℕ) → h.next ≤ k → of_message k h.taken ≡ of_message k fs
   pub done : (k : ℕ) → k < h.next → IsCovered ms fs k
 
@@ -263,7 +263,7 @@ agreed_ok m (g ∷ gs) f all is =
     (eq-eqb g.length f.length (all.0.size ∙ sym is.size))
     ∙ inside_ok m f is
 
-all_old : (ms : List Sent) (l : Limits) (h : Heard) (fs : List Fragment) (f : Fragment)
+all_old : (ms : List Sent) (l : Limits) (h : Received) (fs : List Fragment) (f : Fragment)
     → IsAll ms h fs
     → f.message_seq < h.next → IsAll ms h (fs ++ f ∷ [])
 all_old ms l h fs f was old = record {
@@ -275,10 +275,10 @@ all_old ms l h fs f was old = record {
   done = λ k g. covered_more ms fs f k (was.done k g);
 }
 
-all_taken : (ms : List Sent) (l : Limits) (h : Heard) (fs : List Fragment) (f : Fragment)
+all_taken : (ms : List Sent) (l : Limits) (h : Received) (fs : List Fragment) (f : Fragment)
     → IsAll ms h fs →
-    ((k : ℕ) → k < (heard_by (Ok tt) l h f).next → IsCovered ms (with_taken h f) k)
-    → IsAll ms (heard_by (Ok tt) l h f) (fs ++ f ∷ [])
+    ((k : ℕ) → k < (received_by (Ok tt) l h f).next → IsCovered ms (with_taken h f) k)
+    → IsAll ms (received_by (Ok tt) l h f) (fs ++ f ∷ [])
 all_taken ms l h fs f was covers = record {
   same = λ k g. both k (omega (arith, g));
   done = λ k g. at k g (nat_lt k h.next) refl;
@@ -288,7 +288,7 @@ all_taken ms l h fs f was covers = record {
     both k g = of_message_more k h.taken f ∙ ap (λ gs. gs ++ of_message k (f ∷ [])) (was.same k g)
         ∙ sym (of_message_more k fs f)
 
-    at : (k : ℕ) → k < (heard_by (Ok tt) l h f).next → (b : Bool) → nat_lt k h.next ≡ b
+    at : (k : ℕ) → k < (received_by (Ok tt) l h f).next → (b : Bool) → nat_lt k h.next ≡ b
         → IsCovered ms (fs ++ f ∷ []) k
     at k g true e = covered_more ms fs f k (was.done k (ltb-true k h.next e))
     at k g false e = subst (λ gs. Cover gs (length (sent ms k).body))
@@ -296,7 +296,7 @@ all_taken ms l h fs f was covers = record {
         ∙ ap (λ gs. gs ++ of_message k (f ∷ [])) (was.same k (ltb-false k h.next e))
         ∙ sym (of_message_more k fs f)) (covers k g)
 
-old_verdict : (l : Limits) (h : Heard) (f : Fragment) → f.message_seq < h.next
+old_verdict : (l : Limits) (h : Received) (f : Fragment) → f.message_seq < h.next
     → verdict l h f ≡ Err Old
 old_verdict l h f old = ap
     (λ b. cond {A = Result Unit FragmentError} b (Err Old)
@@ -306,13 +306,13 @@ old_verdict l h f old = ap
     (lt-ltb f.message_seq h.next old)
 
 -- What holds after a fragment.
-pub record IsStep (ms : List Sent) (l : Limits) (h : Heard) (out : List Message)
+pub record IsStep (ms : List Sent) (l : Limits) (h : Received) (out : List Message)
     (fs : List Fragment)
     (f : Fragment) : Type 0 where
-  pub outs : IsOut ms l (heard l h f) (out ++ messages (told l h f))
-  pub all : IsAll ms (heard l h f) (fs ++ f ∷ [])
+  pub outs : IsOut ms l (received l h f) (out ++ messages (emitted l h f))
+  pub all : IsAll ms (received l h f) (fs ++ f ∷ [])
 
-all_step : (ms : List Sent) (l : Limits) (h : Heard) (out : List Message) (fs : List Fragment)
+all_step : (ms : List Sent) (l : Limits) (h : Received) (out : List Message) (fs : List Fragment)
     (f : Fragment)
     → length ms ≤ l.ahead → AreSmall l ms → IsOut ms l h out → IsAll ms h fs →
     f.message_seq < length ms → IsOf (sent ms f.message_seq) f → IsStep ms l h out fs f
@@ -320,11 +320,11 @@ all_step ms l h out fs f few small was all number is =
     go (nat_lt f.message_seq h.next) refl (out_step ms l h out f was number is)
   where
     go : (b : Bool) → nat_lt f.message_seq h.next ≡ b
-        → IsOut ms l (heard l h f) (out ++ messages (told l h f))
+        → IsOut ms l (received l h f) (out ++ messages (emitted l h f))
         → IsStep ms l h out fs f
     go true e now = record {
       outs = now;
-      all = subst (λ v. IsAll ms (heard_by v l h f) (fs ++ f ∷ []))
+      all = subst (λ v. IsAll ms (received_by v l h f) (fs ++ f ∷ []))
           (sym (old_verdict l h f (ltb-true f.message_seq h.next e)))
           (all_old ms l h fs f all (ltb-true f.message_seq h.next e));
     }
@@ -337,19 +337,19 @@ all_step ms l h out fs f few small was all number is =
         (all_of_message ms f.message_seq h.taken was.taken) is in
         record {
           outs = now;
-          all = subst (λ v. IsAll ms (heard_by v l h f) (fs ++ f ∷ [])) (sym ok)
+          all = subst (λ v. IsAll ms (received_by v l h f) (fs ++ f ∷ [])) (sym ok)
               (all_taken ms l h fs f all
-              (subst (λ v. IsOut ms l (heard_by v l h f) (out ++ messages (told_by v l h f))) ok
+              (subst (λ v. IsOut ms l (received_by v l h f) (out ++ messages (emitted_by v l h f))) ok
               now).covered);
         }
 
 -- The events of these fragments, in order.
-pub record IsEnd (ms : List Sent) (l : Limits) (h : Heard) (out : List Message)
+pub record IsEnd (ms : List Sent) (l : Limits) (h : Received) (out : List Message)
     (fs gs : List Fragment) : Type 0 where
   pub outs : IsOut ms l (after l h gs) (out ++ messages (events l h gs))
   pub all : IsAll ms (after l h gs) (fs ++ gs)
 
-all_end : (ms : List Sent) (l : Limits) (h : Heard) (out : List Message) (fs gs : List Fragment)
+all_end : (ms : List Sent) (l : Limits) (h : Received) (out : List Message) (fs gs : List Fragment)
     → length ms ≤ l.ahead
     → AreSmall l ms → IsOut ms l h out → IsAll ms h fs → AreOf ms gs → IsEnd ms l h out fs gs
 unfolding after events
@@ -360,15 +360,15 @@ all_end ms l h out fs [] few small was all of =
     }
 all_end ms l h out fs (f ∷ gs) few small was all of =
     let one = all_step ms l h out fs f few small was all of.0 of.1 in
-    let more = all_end ms l (heard l h f) (out ++ messages (told l h f)) (fs ++ f ∷ []) gs few small
+    let more = all_end ms l (received l h f) (out ++ messages (emitted l h f)) (fs ++ f ∷ []) gs few small
     one.outs one.all
     of.2 in
     record {
-      outs = subst (IsOut ms l (after l (heard l h f) gs))
-          (append_assoc out (messages (told l h f)) (messages (events l (heard l h f) gs))
+      outs = subst (IsOut ms l (after l (received l h f) gs))
+          (append_assoc out (messages (emitted l h f)) (messages (events l (received l h f) gs))
           ∙ sym (ap (λ m. out ++ m)
-          (messages-append (told l h f) (events l (heard l h f) gs)))) more.outs;
-      all = subst (IsAll ms (after l (heard l h f) gs)) (append_assoc fs (f ∷ []) gs) more.all;
+          (messages-append (emitted l h f) (events l (received l h f) gs)))) more.outs;
+      all = subst (IsAll ms (after l (received l h f) gs)) (append_assoc fs (f ∷ []) gs) more.all;
     }
 
 pub all_hand_out : (ms : List Sent) (l : Limits) (fs : List Fragment) → length ms ≤ l.ahead
@@ -377,7 +377,7 @@ pub all_hand_out : (ms : List Sent) (l : Limits) (fs : List Fragment) → length
 all_hand_out ms l fs few small of =
     let end = all_end ms l (record { taken = []; next = 0 }) [] [] fs few small (out_begins ms l)
     (record { same = λ k g. refl; done = λ k g. absurd (omega (arith, g)) }) of in
-    let h : Heard = after l (record { taken = []; next = 0 }) fs in
+    let h : Received = after l (record { taken = []; next = 0 }) fs in
     record {
       count = h.next;
       low = end.outs.low;

@@ -29,7 +29,7 @@ use Rattle.layouts.specs.Bytes.{Bytes}
 use Rattle.segments.specs.Cells.{run}
 use Rattle.dtls_stream.specs.Fragments.{Fragment, Held, IsBody, IsComplete, first_at}
 use Rattle.dtls_stream.specs.Messages.{
-  Heard,
+  Received,
   IsPart,
   Kept,
   Limits,
@@ -114,13 +114,13 @@ part_empty [] is = refl
 part_empty (f ∷ fs) is = absurd is
 
 -- The buffer of the next message.
-pub front_part : (l : Limits) (h : Heard) (k : Kept) (o : Option Held) → Stands l h k → slot k 0 ≡ o
+pub front_part : (l : Limits) (h : Received) (k : Kept) (o : Option Held) → Stands l h k → slot k 0 ≡ o
     → IsPart (of_message h.next h.taken) o
 front_part l h k o st e =
     subst (λ n. IsPart (of_message n h.taken) o) (omega arith)
     (subst (IsPart (of_message (h.next + 0) h.taken)) e (st.each 0))
 
-pub front_some : (l : Limits) (h : Heard) (k : Kept) (p : Held) (b : Bytes) → Stands l h k
+pub front_some : (l : Limits) (h : Received) (k : Kept) (p : Held) (b : Bytes) → Stands l h k
     → slot k 0 ≡ Some p
     → IsBody p b →
     Some (record { msg_type = p.msg_type; message_seq = p.message_seq; body = b })
@@ -128,14 +128,14 @@ pub front_some : (l : Limits) (h : Heard) (k : Kept) (p : Held) (b : Bytes) → 
 front_some l h k p b st e body =
     sym (part_message (of_message h.next h.taken) p b (front_part l h k (Some p) st e) body)
 
-pub front_none : (l : Limits) (h : Heard) (k : Kept) (p : Held) → Stands l h k → slot k 0 ≡ Some p
+pub front_none : (l : Limits) (h : Received) (k : Kept) (p : Held) → Stands l h k → slot k 0 ≡ Some p
     → (IsComplete p → ⊥)
     → None ≡ message_of (of_message h.next h.taken)
 front_none l h k p st e not =
     sym (part_none (of_message h.next h.taken) p (front_part l h k (Some p) st e) not)
 
 -- Whether it is whole.
-pub front_whole : (l : Limits) (h : Heard) (k : Kept) (p : Held) (o : Option (Bor (List ℕ)))
+pub front_whole : (l : Limits) (h : Received) (k : Kept) (p : Held) (o : Option (Bor (List ℕ)))
     → Stands l h k
     → slot k 0 ≡ Some p →
     (IsSome o ↔ IsComplete p) → IfSome o (λ b. IsBody p b.now)

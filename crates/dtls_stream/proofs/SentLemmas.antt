@@ -42,7 +42,7 @@ use Rattle.dtls_stream.specs.Fragments.{Cover, Fragment, byte_at, first_at, or_e
 use Rattle.dtls_stream.specs.Messages.{Message, bytes_from, followed, message_of, of_message, whole_from}
 use Rattle.dtls_stream.specs.Sent.{AreOf, IsCovered, IsOf, Sent, numbered, sent}
 use Rattle.dtls_stream.proofs.FragmentLemmas.{given_in, given_below, given_above}
-use Rattle.dtls_stream.proofs.HeardLemmas.{of_message_first}
+use Rattle.dtls_stream.proofs.ReceivedLemmas.{of_message_first}
 use Rattle.dtls_stream.proofs.PartLemmas.{bytes_some, bytes_all}
 
 -- Each is a fragment of this message.

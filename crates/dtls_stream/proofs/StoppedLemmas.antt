@@ -5,11 +5,11 @@ use Rattle.std.proofs.lemmas.List.{drop_more, map-append, take-append-drop}
 use Rattle.dtls_stream.specs.Fragments.{Fragment, view_fragment, view_fragments}
 use Rattle.dtls_stream.specs.Messages.{
   AreHandedOut,
-  AreHeard,
+  AreReceived,
   AreKept,
   Event,
   Handshake,
-  Heard,
+  Received,
   IsStopped,
   Kept,
   Limits,
@@ -17,12 +17,12 @@ use Rattle.dtls_stream.specs.Messages.{
   Stands,
   after,
   events,
-  heard,
-  heard_by,
+  received,
+  received_by,
   message_of,
   of_message,
-  told,
-  told_by,
+  emitted,
+  emitted_by,
   verdict,
   view_event,
   view_events,
@@ -31,14 +31,14 @@ use Rattle.dtls_stream.specs.Messages.{
 }
 use Rattle.dtls_stream.specs.declared.event.Event.{Event as Lent}
 use Rattle.dtls_stream.specs.declared.fragments.Fragment.{Fragment as Given}
-use Rattle.dtls_stream.proofs.ToldLemmas.{IsOnTheWay, pushed_event, way_events, whole_end}
+use Rattle.dtls_stream.proofs.EmittedLemmas.{IsOnTheWay, pushed_event, way_events, whole_end}
 
 pub on_err : {P Q E : Type 0} (r : Result Unit E) → OnErr r P → (P → Q) → OnErr r Q
 on_err (Ok t) p f = tt
 on_err (Err e) p f = f p
 
 -- The next message isn't whole, so no more are delivered.
-pub ends_none : (l : Limits) (h : Heard) (es es' : List Event) (k : Kept)
+pub ends_none : (l : Limits) (h : Received) (es es' : List Event) (k : Kept)
     (way : IsOnTheWay l h es es' k) →
     is_some (message_of (of_message (h.next + way.moved) h.taken)) ≡ false
     → AreHandedOut l h es es' k
@@ -60,20 +60,20 @@ ends_none l h es es' k way none =
     is_none (Some m) e = absurd cc
 
 -- The messages that aren't delivered yet are buffered.
-pub kept_way : (l : Limits) (h : Heard) (es es' : List Event) (k : Kept) → IsOnTheWay l h es es' k
+pub kept_way : (l : Limits) (h : Received) (es es' : List Event) (k : Kept) → IsOnTheWay l h es es' k
     → AreKept l h es es' k
 kept_way l h es es' k way = record {
   kept = whole_from (l.ahead - way.moved) (h.next + way.moved) h.taken;
   next = h.next + way.moved;
   front = way.front;
-  told = way.told;
+  emitted = way.emitted;
   all = way.all;
   count = omega (arith, way.count);
   stands = way.stands;
 }
 
 -- The fragment was added, and not all that it completes was reported.
-pub stopped_out : (l : Limits) (h : Heard) (f : Fragment) (es es' : List Event) (k' : Kept)
+pub stopped_out : (l : Limits) (h : Received) (f : Fragment) (es es' : List Event) (k' : Kept)
     → verdict l h f ≡ Ok tt →
     AreKept l (record h { taken = with_taken h f }) es es' k' → IsStopped l h (f ∷ []) es es' k'
 unfolding events after
@@ -84,15 +84,15 @@ stopped_out l h f es es' k' ok out = record {
   kept = out.kept;
   next = out.next;
   front = out.front;
-  told = out.told;
-  all = out.all ∙ ap (λ v. told_by v l h f) (sym ok) ∙ sym (append-nil (told l h f));
-  count = out.count ∙ ap (λ v. (heard_by v l h f).next) (sym ok);
-  stands = subst (λ v. Stands l (record { taken = (heard_by v l h f).taken; next = out.next }) k')
+  emitted = out.emitted;
+  all = out.all ∙ ap (λ v. emitted_by v l h f) (sym ok) ∙ sym (append-nil (emitted l h f));
+  count = out.count ∙ ap (λ v. (received_by v l h f).next) (sym ok);
+  stands = subst (λ v. Stands l (record { taken = (received_by v l h f).taken; next = out.next }) k')
       (sym ok) out.stands;
 }
 
 -- The fragment wasn't added.
-pub stopped_none : (l : Limits) (h : Heard) (f : Fragment) (es : List Event) (k : Kept)
+pub stopped_none : (l : Limits) (h : Received) (f : Fragment) (es : List Event) (k : Kept)
     → Stands l h k
     → IsStopped l h (f ∷ []) es es k
 unfolding events after
@@ -103,40 +103,40 @@ stopped_none l h f es k st = record {
   kept = [];
   next = h.next;
   front = [];
-  told = sym (append-nil es);
+  emitted = sym (append-nil es);
   all = refl;
   count = omega arith;
   stands = st;
 }
 
-pub events_append : (l : Limits) (h : Heard) (fs gs : List Fragment)
+pub events_append : (l : Limits) (h : Received) (fs gs : List Fragment)
     → events l h (fs ++ gs) ≡ events l h fs ++ events l (after l h fs) gs
 unfolding events after
 events_append l h [] gs = refl
 events_append l h (f ∷ fs) gs =
-    ap (λ es. told l h f ++ es) (events_append l (heard l h f) fs gs)
-    ∙ sym (append_assoc (told l h f) (events l (heard l h f) fs)
-    (events l (after l (heard l h f) fs) gs))
+    ap (λ es. emitted l h f ++ es) (events_append l (received l h f) fs gs)
+    ∙ sym (append_assoc (emitted l h f) (events l (received l h f) fs)
+    (events l (after l (received l h f) fs) gs))
 
-pub after_append : (l : Limits) (h : Heard) (fs gs : List Fragment)
+pub after_append : (l : Limits) (h : Received) (fs gs : List Fragment)
     → after l h (fs ++ gs) ≡ after l (after l h fs) gs
 unfolding after
 after_append l h [] gs = refl
-after_append l h (f ∷ fs) gs = after_append l (heard l h f) fs gs
+after_append l h (f ∷ fs) gs = after_append l (received l h f) fs gs
 
 -- The fragments before one that wasn't fully reported.
-pub stopped_next : (l : Limits) (h : Heard) (fs : List Given) (i : ℕ) (d : Given)
+pub stopped_next : (l : Limits) (h : Received) (fs : List Given) (i : ℕ) (d : Given)
     (es es' es'' : List Event)
     (k k' : Kept) → i < length fs →
-    AreHeard l h (view_fragments (take i fs)) es es' k →
-    ((l : Limits) (h : Heard) → Stands l h k
+    AreReceived l h (view_fragments (take i fs)) es es' k →
+    ((l : Limits) (h : Received) → Stands l h k
     → IsStopped l h (view_fragment (get_or fs i d) ∷ []) es' es'' k')
     → IsStopped l h (view_fragments fs) es es'' k'
-stopped_next l h fs i d es es' es'' k k' low was hears =
+stopped_next l h fs i d es es' es'' k k' low was receives =
     let gs : List Fragment = view_fragments (take i fs) in
     let f : Fragment = view_fragment (get_or fs i d) in
     let rest : List Fragment = view_fragments (drop (i + 1) fs) in
-    let one = hears l (after l h gs) was.stands in
+    let one = receives l (after l h gs) was.stands in
     let all : view_fragments fs ≡ gs ++ f ∷ rest =
     ap view_fragments (sym (take-append-drop i fs))
     ∙ map-append view_fragment (take i fs) (drop i fs)
@@ -151,7 +151,7 @@ stopped_next l h fs i d es es' es'' k k' low was hears =
       kept = one.kept;
       next = one.next;
       front = events l h gs ++ one.front;
-      told = one.told ∙ ap (λ e. e ++ one.front) was.events
+      emitted = one.emitted ∙ ap (λ e. e ++ one.front) was.events
           ∙ append_assoc es (events l h gs) one.front;
       all = append_assoc (events l h gs) one.front (map Handshake one.kept)
           ∙ ap (λ e. events l h gs ++ e) one.all
@@ -166,13 +166,13 @@ pub any_err : {P E : Type 0} (r : Result Unit E) → P → OnErr r P
 any_err (Ok t) p = tt
 any_err (Err e) p = p
 
-pub stopped_same : (l : Limits) (h : Heard) (f : Fragment) (es es' : List Lent) (k k' : Kept)
+pub stopped_same : (l : Limits) (h : Received) (f : Fragment) (es es' : List Lent) (k k' : Kept)
     → Stands l h k → es' ≡ es
     → k' ≡ k →
     IsStopped l h (f ∷ []) (view_events es) (view_events es') k'
-stopped_same l h f es es' k k' st told same =
+stopped_same l h f es es' k k' st emitted same =
     subst (λ k'. IsStopped l h (f ∷ []) (view_events es) (view_events es') k') (sym same)
-    (subst (λ x. IsStopped l h (f ∷ []) (view_events es) (view_events x) k) (sym told)
+    (subst (λ x. IsStopped l h (f ∷ []) (view_events es) (view_events x) k) (sym emitted)
     (stopped_none l h f (view_events es) k st))
 
 pub pushed_on : (es es' es'' : List Lent) (e : Lent) → es' ≡ es → es'' ≡ es' ++ e ∷ []

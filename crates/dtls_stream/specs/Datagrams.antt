@@ -13,7 +13,7 @@ use Rattle.dtls_records.specs.DtlsRecord.{record_content}
 use Rattle.dtls_records.specs.DtlsRecord as dtls_record
 use Rattle.dtls_records.specs.DtlsHandshake as handshakes
 use Rattle.dtls_stream.specs.Fragments.{Fragment, fragment}
-use Rattle.dtls_stream.specs.Messages.{Alert, ChangeCipherSpec, Encrypted, EncryptedRecord, Event, Failed, Handshake, Heard, Kept, Limits, Message, Stands, after, events, messages}
+use Rattle.dtls_stream.specs.Messages.{Alert, ChangeCipherSpec, Encrypted, EncryptedRecord, Event, Failed, Handshake, Received, Kept, Limits, Message, Stands, after, events, messages}
 
 abbrev pub fragment_by : handshakes.Handshake → handshakes.Body → Option Fragment
 fragment_by m (handshakes.Fragment b) = Some (record {
@@ -46,21 +46,21 @@ event_of m = Failed Switch
 
 -- The state of a direction, and new events.
 abbrev pub Step : Type 0
-Step = Heard × List Event
+Step = Received × List Event
 
-abbrev pub then_step : Step → (Heard → Step) → Step
+abbrev pub then_step : Step → (Received → Step) → Step
 then_step s f = ((f s.0).0, s.1 ++ (f s.0).1)
 
 -- The fragments in a record of type 22.
-abbrev pub fragments_step : Answer (List Fragment) → Limits → Heard → Step
+abbrev pub fragments_step : Answer (List Fragment) → Limits → Received → Step
 fragments_step (Ok x) l h = (after l h x.0, events l h x.0 ++ left_over x.1)
 fragments_step (Err e) l h = (h, Failed (kind_of e) ∷ [])
 
-abbrev pub fragment_record_step : Bytes → Limits → Heard → Step
+abbrev pub fragment_record_step : Bytes → Limits → Received → Step
 fragment_record_step b l h = fragments_step (reading (list1 fragment) b) l h
 
 -- The messages in a record of another type.
-abbrev pub content_step : Answer (List dtls_record.Message) → Heard → Step
+abbrev pub content_step : Answer (List dtls_record.Message) → Received → Step
 content_step (Ok x) h = (h, map event_of x.0 ++ left_over x.1)
 content_step (Err e) h = (h, Failed (kind_of e) ∷ [])
 
@@ -72,7 +72,7 @@ content_bytes r =
     take 1 r.fragment else r.fragment
 
 -- A record that isn't of type handshake.
-abbrev pub content_record_step : RawRecord → Heard → Step
+abbrev pub content_record_step : RawRecord → Received → Step
 content_record_step r h = content_step (reading (record_content r.header) (content_bytes r)) h
 
 -- A record of an epoch above 0, with its fragment unparsed.
@@ -86,7 +86,7 @@ encrypted r = record {
 }
 
 -- One record. An epoch above 0 is encrypted and isn't parsed.
-abbrev pub record_step : Limits → Heard → RawRecord → Step
+abbrev pub record_step : Limits → Received → RawRecord → Step
 record_step l h r =
     cond (nat_lt 0 r.header.epoch) (h, Encrypted (encrypted r) ∷ []) (
     cond (r.header.content_type == 22) (fragment_record_step r.fragment l h)
@@ -97,21 +97,22 @@ abbrev pub unread : Bytes → Refusal → List Event
 unread [] e = []
 unread (b ∷ bs) e = Failed (kind_of e) ∷ []
 
-abbrev pub next_record : Answer RawRecord → Limits → Heard → Bytes → (Heard → Bytes → Step) → Step
+abbrev pub next_record : Answer RawRecord → Limits → Received → Bytes → (Received → Bytes → Step)
+    → Step
 next_record (Err e) l h b more = (h, unread b e)
 next_record (Ok x) l h b more = then_step (record_step l h x.0) (λ h. more h x.1)
 
 -- At most n records of a datagram, in order.
-unfoldable pub records_step : ℕ → Limits → Heard → Bytes → Step
+unfoldable pub records_step : ℕ → Limits → Received → Bytes → Step
 records_step zero l h b = (h, [])
 records_step (suc n) l h b = next_record (reading datagram_record b) l h b (records_step n l)
 
 -- A datagram. A record has at least one byte, so there are no more records than bytes.
-abbrev pub datagram : Limits → Heard → Bytes → Step
+abbrev pub datagram : Limits → Received → Bytes → Step
 datagram l h b = records_step (length b) l h b
 
 -- The state and the events after these datagrams, in order.
-unfoldable pub datagrams : Limits → Heard → List Bytes → Step
+unfoldable pub datagrams : Limits → Received → List Bytes → Step
 datagrams l h [] = (h, [])
 datagrams l h (d ∷ ds) = then_step (datagram l h d) (λ h. datagrams l h ds)
 
@@ -153,33 +154,34 @@ abbrev pub fragments_of : Bytes → List Fragment
 fragments_of b = fragments_within (length b) b
 
 -- Memory ran out while these events were appended: a prefix of them was.
-pub record AreToldInPart (all : List Event) (es : List Event) (es' : List Event) : Type 0 where
+pub record AreEmittedInPart (all : List Event) (es : List Event) (es' : List Event) : Type 0 where
   pub front : List Event
-  pub untold : List Event
-  pub split : all ≡ front ++ untold
-  pub told : es' ≡ es ++ front
+  pub not_emitted : List Event
+  pub split : all ≡ front ++ not_emitted
+  pub emitted : es' ≡ es ++ front
 
 -- Memory ran out within records with these fragments and these events. Earlier events stay, and a
 -- prefix of the fragments was added. Each of their messages is either reported or buffered, in
 -- order; the buffered ones are whole and come next.
-pub record IsCut (l : Limits) (h : Heard) (fs : List Fragment) (all : List Event) (es : List Event)
+pub record IsCut (l : Limits) (h : Received) (fs : List Fragment) (all : List Event)
+    (es : List Event)
     (es' : List Event) (k' : Kept) : Type 0 where
   pub first : List Fragment
   pub behind : List Fragment
   pub split : fs ≡ first ++ behind
   pub front : List Event
-  pub told : es' ≡ es ++ front
+  pub emitted : es' ≡ es ++ front
   pub kept : List Message
   pub none_lost : messages front ++ kept ≡ messages (events l h first)
-  pub untold : List Event
-  pub in_order : front ++ map Handshake kept ++ untold ≡ all
+  pub not_emitted : List Event
+  pub in_order : front ++ map Handshake kept ++ not_emitted ≡ all
   pub next : ℕ
   pub count : next + length kept ≡ (after l h first).next
   pub stands : Stands l (record { taken = (after l h first).taken; next = next }) k'
 
 -- Memory ran out within a record, and within a datagram.
-abbrev pub IsRecordCut : Limits → Heard → RawRecord → List Event → List Event → Kept → Type 0
+abbrev pub IsRecordCut : Limits → Received → RawRecord → List Event → List Event → Kept → Type 0
 IsRecordCut l h r es es' k' = IsCut l h (fragments_in_record r) (record_step l h r).1 es es' k'
 
-abbrev pub IsDatagramCut : Limits → Heard → Bytes → List Event → List Event → Kept → Type 0
+abbrev pub IsDatagramCut : Limits → Received → Bytes → List Event → List Event → Kept → Type 0
 IsDatagramCut l h b es es' k' = IsCut l h (fragments_of b) (datagram l h b).1 es es' k'

@@ -108,15 +108,15 @@ whole_from (suc n) next ts = followed (message_of (of_message next ts)) (whole_f
 
 -- The state of a direction: the fragments that were added, in order, and how many messages were
 -- delivered.
-pub record Heard : Type 0 where
+pub record Received : Type 0 where
   pub taken : List Fragment
   pub next : ℕ
 
-abbrev pub nothing : Heard
+abbrev pub nothing : Received
 nothing = record { taken = []; next = 0 }
 
 -- Nothing was read, and the messages before this number are missing.
-abbrev pub nothing_from : ℕ → Heard
+abbrev pub nothing_from : ℕ → Received
 nothing_from first = record { taken = []; next = first }
 
 -- Whether a fragment agrees with those of its message that were added.
@@ -125,19 +125,19 @@ agreed [] f = inside f
 agreed (g ∷ gs) f = agrees g.length f
 
 -- Whether a fragment is added.
-abbrev pub verdict : Limits → Heard → Fragment → Result Unit FragmentError
+abbrev pub verdict : Limits → Received → Fragment → Result Unit FragmentError
 verdict l h f =
     cond (nat_lt f.message_seq h.next) (Err Old) (
     cond (nat_le (h.next + l.ahead) f.message_seq) (Err TooFarAhead) (
     cond (nat_lt l.message f.length) (Err TooLarge) (
     agreed (of_message f.message_seq h.taken) f)))
 
-abbrev pub with_taken : Heard → Fragment → List Fragment
+abbrev pub with_taken : Received → Fragment → List Fragment
 with_taken h f = h.taken ++ f ∷ []
 
-abbrev pub heard_by : Result Unit FragmentError → Limits → Heard → Fragment → Heard
-heard_by (Err e) l h f = h
-heard_by (Ok t) l h f =
+abbrev pub received_by : Result Unit FragmentError → Limits → Received → Fragment → Received
+received_by (Err e) l h f = h
+received_by (Ok t) l h f =
     record {
       taken = with_taken h f;
       next =
@@ -145,16 +145,16 @@ heard_by (Ok t) l h f =
     }
 
 -- The state after this fragment. If it is added, all next messages that are covered are delivered.
-abbrev pub heard : Limits → Heard → Fragment → Heard
-heard l h f = heard_by (verdict l h f) l h f
+abbrev pub received : Limits → Received → Fragment → Received
+received l h f = received_by (verdict l h f) l h f
 
-abbrev pub told_by : Result Unit FragmentError → Limits → Heard → Fragment → List Event
-told_by (Err e) l h f = Refused f.message_seq e ∷ []
-told_by (Ok t) l h f = map Handshake (whole_from l.ahead h.next (with_taken h f))
+abbrev pub emitted_by : Result Unit FragmentError → Limits → Received → Fragment → List Event
+emitted_by (Err e) l h f = Refused f.message_seq e ∷ []
+emitted_by (Ok t) l h f = map Handshake (whole_from l.ahead h.next (with_taken h f))
 
 -- The events of a fragment: the messages that are delivered, or why it is refused.
-abbrev pub told : Limits → Heard → Fragment → List Event
-told l h f = told_by (verdict l h f) l h f
+abbrev pub emitted : Limits → Received → Fragment → List Event
+emitted l h f = emitted_by (verdict l h f) l h f
 
 -- The reassembly buffer of a direction: fragments of the next message and of those ahead of it.
 pub record Kept : Type 0 where
@@ -178,33 +178,34 @@ IsPart (f ∷ fs) None = ⊥
 IsPart (f ∷ fs) (Some h) = IsHeld f fs h
 
 -- The buffer agrees with the state.
-pub record Stands (l : Limits) (h : Heard) (k : Kept) : Type 0 where
+pub record Stands (l : Limits) (h : Received) (k : Kept) : Type 0 where
   pub limits : view_limits k.limits ≡ l
   pub next : k.next ≡ h.next
   pub few : length k.slots ≤ l.ahead
   pub each : (i : ℕ) → IsPart (of_message (h.next + i) h.taken) (slot k i)
 
 -- The next messages are delivered.
-pub record AreHandedOut (l : Limits) (h : Heard) (es : List Event) (es' : List Event)
+pub record AreHandedOut (l : Limits) (h : Received) (es : List Event) (es' : List Event)
     (k' : Kept) : Type 0 where
   pub events : es' ≡ es ++ map Handshake (whole_from l.ahead h.next h.taken)
   pub stands : Stands l (record h { next = h.next + length (whole_from l.ahead h.next h.taken) }) k'
 
 -- A fragment was read.
-pub record IsHeard (l : Limits) (h : Heard) (f : Fragment) (es : List Event) (es' : List Event)
+pub record IsReceived (l : Limits) (h : Received) (f : Fragment) (es : List Event)
+    (es' : List Event)
     (k' : Kept) : Type 0 where
-  pub events : es' ≡ es ++ told l h f
-  pub stands : Stands l (heard l h f) k'
+  pub events : es' ≡ es ++ emitted l h f
+  pub stands : Stands l (received l h f) k'
 
 -- The events of fragments, in order.
-unfoldable pub events : Limits → Heard → List Fragment → List Event
+unfoldable pub events : Limits → Received → List Fragment → List Event
 events l h [] = []
-events l h (f ∷ fs) = told l h f ++ events l (heard l h f) fs
+events l h (f ∷ fs) = emitted l h f ++ events l (received l h f) fs
 
 -- The state after these fragments.
-unfoldable pub after : Limits → Heard → List Fragment → Heard
+unfoldable pub after : Limits → Received → List Fragment → Received
 after l h [] = h
-after l h (f ∷ fs) = after l (heard l h f) fs
+after l h (f ∷ fs) = after l (received l h f) fs
 
 -- The messages among the events.
 abbrev pub messages : List Event → List Message
@@ -214,12 +215,12 @@ messages (e ∷ es) = messages es
 
 -- Memory ran out while messages were delivered: earlier events stay, and the rest of the messages
 -- are buffered and come next.
-pub record AreKept (l : Limits) (h : Heard) (es : List Event) (es' : List Event)
+pub record AreKept (l : Limits) (h : Received) (es : List Event) (es' : List Event)
     (k' : Kept) : Type 0 where
   pub kept : List Message
   pub next : ℕ
   pub front : List Event
-  pub told : es' ≡ es ++ front
+  pub emitted : es' ≡ es ++ front
   pub all : front ++ map Handshake kept ≡ map Handshake (whole_from l.ahead h.next h.taken)
   pub count : next + length kept ≡ h.next + length (whole_from l.ahead h.next h.taken)
   pub stands : Stands l (record h { next = next }) k'
@@ -227,7 +228,7 @@ pub record AreKept (l : Limits) (h : Heard) (es : List Event) (es' : List Event)
 -- Memory ran out within these fragments: earlier events stay, and a prefix of the fragments was
 -- added. Their events are reported except for messages that are still buffered, which are whole and
 -- come next.
-pub record IsStopped (l : Limits) (h : Heard) (fs : List Fragment) (es : List Event)
+pub record IsStopped (l : Limits) (h : Received) (fs : List Fragment) (es : List Event)
     (es' : List Event) (k' : Kept) : Type 0 where
   pub first : List Fragment
   pub behind : List Fragment
@@ -235,7 +236,7 @@ pub record IsStopped (l : Limits) (h : Heard) (fs : List Fragment) (es : List Ev
   pub kept : List Message
   pub next : ℕ
   pub front : List Event
-  pub told : es' ≡ es ++ front
+  pub emitted : es' ≡ es ++ front
   pub all : front ++ map Handshake kept ≡ events l h first
   pub count : next + length kept ≡ (after l h first).next
   pub stands : Stands l (record { taken = (after l h first).taken; next = next }) k'
@@ -264,7 +265,7 @@ pub record IsChangedAt (old : Kept) (at : ℕ) (new : Kept) : Type 0 where
   pub others : (i : ℕ) → (i ≡ at → ⊥) → slot new i ≡ slot old i
 
 -- These fragments were read, in order.
-pub record AreHeard (l : Limits) (h : Heard) (fs : List Fragment) (es : List Event)
+pub record AreReceived (l : Limits) (h : Received) (fs : List Fragment) (es : List Event)
     (es' : List Event) (k' : Kept) : Type 0 where
   pub events : es' ≡ es ++ events l h fs
   pub stands : Stands l (after l h fs) k'

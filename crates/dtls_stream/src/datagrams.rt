@@ -1,11 +1,11 @@
 //! The datagrams of one direction.
 ghost use Rattle.std.specs.Prelude.{◌≡◌, OnErr, OnOk, IfOk};
-ghost use Rattle.dtls_stream.specs.Messages.{Heard, Limits as Allowed, Stands, nothing, view_events, view_limits};
+ghost use Rattle.dtls_stream.specs.Messages.{Received, Limits as Allowed, Stands, nothing, view_events, view_limits};
 ghost use Rattle.dtls_stream.specs.Datagrams.{IsDatagramCut, IsStep, datagram as datagram_step, datagrams as datagrams_step, views};
 
 use crate::event::Event;
 use crate::messages::{Limits, Messages};
-use crate::records::{read_record_events, tell_unread};
+use crate::records::{emit_unread, read_record_events};
 use layouts::OutOfMemory;
 use raw_records::read_record;
 use std::alloc::Global;
@@ -26,11 +26,11 @@ pub fn read_datagram<'a>(
     datagram: &'a [u8],
     events: &mut Vec<Event<'a>>,
 ) -> Result<(), OutOfMemory>
-    ensures told { (l : Allowed) (h : Heard) → Stands l h messages.old
+    ensures emitted { (l : Allowed) (h : Received) → Stands l h messages.old
         → OnOk result
         (IsStep l (datagram_step l h datagram.now) (view_events events.old.items)
         (view_events events.new.items) messages.new) }
-    ensures stopped { (l : Allowed) (h : Heard) → Stands l h messages.old
+    ensures stopped { (l : Allowed) (h : Received) → Stands l h messages.old
         → OnErr result
         (IsDatagramCut l h datagram.now (view_events events.old.items)
         (view_events events.new.items) messages.new) }
@@ -42,7 +42,7 @@ pub fn read_datagram<'a>(
                 read_record_events(alloc, raw, messages, events)?;
                 left = rest;
             }
-            Err(error) => return tell_unread(left, error, events),
+            Err(error) => return emit_unread(left, error, events),
         }
     }
     Ok(())

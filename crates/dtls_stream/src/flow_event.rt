@@ -1,7 +1,7 @@
 //! A DTLS side's events as input for a flow.
 ghost use Rattle.std.specs.Prelude.{◌≡◌};
 ghost use Rattle.std.specs.Option.{option_map};
-ghost use Rattle.tls_flow.specs.Bytes.{view_heard};
+ghost use Rattle.tls_flow.specs.Bytes.{view_handshake_message};
 ghost use Rattle.dtls_stream.specs.Messages.{view_event};
 ghost use Rattle.dtls_stream.specs.FlowEvents.{event_in_datagram, event_in_datagram_with, message_in_datagram};
 
@@ -11,7 +11,8 @@ use tls_flow::{Direction, FlowEvent, HandshakeMessage, Kind};
 /// The handshake message of an event, with its ServerHello parsed; `None` if the event is another
 /// one.
 pub fn datagram_message<'a>(event: &'a Event<'_>) -> Option<HandshakeMessage<'a>>
-    ensures { option_map view_heard result ≡ message_in_datagram (view_event event.now) }
+    ensures { option_map view_handshake_message result
+        ≡ message_in_datagram (view_event event.now) }
 {
     match event {
         Event::Handshake(message) => Some(HandshakeMessage::of_datagrams(

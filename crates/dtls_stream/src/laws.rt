@@ -1,7 +1,7 @@
 //! Laws about the messages of one direction. Each is the contract of a function with an empty body.
 ghost use Rattle.std.specs.Prelude.{◌≡◌, ℕ, ◌≤◌, ◌++◌, List, length};
 ghost use Rattle.dtls_stream.specs.Fragments.{Fragment};
-ghost use Rattle.dtls_stream.specs.Messages.{Heard, Limits, after, events, messages, nothing};
+ghost use Rattle.dtls_stream.specs.Messages.{Received, Limits, after, events, messages, nothing};
 ghost use Rattle.dtls_stream.specs.Sent.{AreOf, AreSmall, IsHandedOut, Sent};
 
 /// For all messages that a peer sends, and all their fragments, cut in any way, in any order, mixed

@@ -2,7 +2,7 @@
 ghost use Rattle.std.specs.Prelude.{◌≡◌, ◌+◌, ◌≤◌, ◌<◌, ℕ, length, take, max, Err, None, IsErr, IsOk, IfOk, OnOk, is_some, get_or, if◌then◌else◌};
 ghost use Rattle.std.specs.Option.{option_map};
 ghost use Rattle.dtls_stream.specs.Fragments.{view_fragment};
-ghost use Rattle.dtls_stream.specs.Messages.{Heard, IsChangedAt, IsOrMemory, IsSlotAdded, Kept, Limits as Allowed, Stands, message_of, nothing, nothing_from, of_message, slot, slot_judged, verdict, view_limits, view_message, with_taken};
+ghost use Rattle.dtls_stream.specs.Messages.{Received, IsChangedAt, IsOrMemory, IsSlotAdded, Kept, Limits as Allowed, Stands, message_of, nothing, nothing_from, of_message, slot, slot_judged, verdict, view_limits, view_message, with_taken};
 
 use crate::event::Message;
 use crate::fragments::{Fragment, FragmentError, Fragments};
@@ -109,7 +109,7 @@ impl Messages {
 
     /// The number of the next message.
     pub fn next_number(&self) -> u32
-        ensures { (l : Allowed) (h : Heard) → Stands l h self.now → result ≡ h.next }
+        ensures { (l : Allowed) (h : Received) → Stands l h self.now → result ≡ h.next }
     {
         self.next
     }
@@ -151,9 +151,9 @@ impl Messages {
 
     /// Adds a fragment, or returns why it is refused; then nothing changes.
     pub fn add(&mut self, fragment: &Fragment) -> Result<(), FragmentError>
-        ensures answer { (l : Allowed) (h : Heard) → Stands l h self.old
+        ensures answer { (l : Allowed) (h : Received) → Stands l h self.old
             → IsOrMemory result (verdict l h (view_fragment fragment.now)) }
-        ensures taken { (l : Allowed) (h : Heard) → Stands l h self.old
+        ensures taken { (l : Allowed) (h : Received) → Stands l h self.old
             → OnOk result
             (Stands l (record h { taken = with_taken h (view_fragment fragment.now) }) self.new) }
         ensures refused { IsErr result → self.new ≡ self.old }
@@ -174,7 +174,7 @@ impl Messages {
 
     /// Whether the next message is whole.
     pub fn is_front_whole(&self) -> bool
-        ensures { (l : Allowed) (h : Heard) → Stands l h self.now
+        ensures { (l : Allowed) (h : Received) → Stands l h self.now
             → result ≡ is_some (message_of (of_message h.next h.taken)) }
     {
         let Some(Some(part)) = self.slots.first() else {
@@ -187,9 +187,9 @@ impl Messages {
     pub fn take_front(&mut self) -> Option<Message>
         ensures places { length self.new.slots + (if is_some result then 1 else 0)
             ≡ length self.old.slots }
-        ensures message { (l : Allowed) (h : Heard) → Stands l h self.old
+        ensures message { (l : Allowed) (h : Received) → Stands l h self.old
             → option_map view_message result ≡ message_of (of_message h.next h.taken) }
-        ensures stands { (l : Allowed) (h : Heard) → Stands l h self.old
+        ensures stands { (l : Allowed) (h : Received) → Stands l h self.old
             → Stands l (record h { next = (if is_some result then h.next + 1 else h.next) })
             self.new }
     {

@@ -1,7 +1,7 @@
 //! The events of fragments, in order.
 ghost use Rattle.std.specs.Prelude.{◌≡◌, ◌∷◌, [], OnOk, OnErr, IfOk};
 ghost use Rattle.dtls_stream.specs.Fragments.{view_fragment, view_fragments};
-ghost use Rattle.dtls_stream.specs.Messages.{AreHandedOut, AreHeard, AreKept, Heard, IsHeard, IsStopped, Limits as Allowed, Stands, events as events_of, nothing, view_events, view_limits};
+ghost use Rattle.dtls_stream.specs.Messages.{AreHandedOut, AreReceived, AreKept, Received, IsReceived, IsStopped, Limits as Allowed, Stands, events as events_of, nothing, view_events, view_limits};
 
 use crate::event::Event;
 use crate::fragments::{Fragment, FragmentError};
@@ -12,11 +12,11 @@ use tls_base::OutOfMemory;
 /// Delivers the next messages as long as they are whole. It reserves room for each before removing
 /// it, so that a message stays buffered if memory runs out.
 fn hand_out(messages: &mut Messages, events: &mut Vec<Event>) -> Result<(), OutOfMemory>
-    ensures told { (l : Allowed) (h : Heard) → Stands l h messages.old
+    ensures emitted { (l : Allowed) (h : Received) → Stands l h messages.old
         → OnOk result
         (AreHandedOut l h (view_events events.old.items) (view_events events.new.items)
         messages.new) }
-    ensures stopped { (l : Allowed) (h : Heard) → Stands l h messages.old
+    ensures stopped { (l : Allowed) (h : Received) → Stands l h messages.old
         → OnErr result
         (AreKept l h (view_events events.old.items) (view_events events.new.items) messages.new) }
 {
@@ -31,16 +31,16 @@ fn hand_out(messages: &mut Messages, events: &mut Vec<Event>) -> Result<(), OutO
 }
 
 /// Adds a fragment and appends its events.
-fn hear(
+fn receive(
     messages: &mut Messages,
     fragment: &Fragment,
     events: &mut Vec<Event>,
 ) -> Result<(), OutOfMemory>
-    ensures told { (l : Allowed) (h : Heard) → Stands l h messages.old
+    ensures emitted { (l : Allowed) (h : Received) → Stands l h messages.old
         → OnOk result
-        (IsHeard l h (view_fragment fragment.now) (view_events events.old.items)
+        (IsReceived l h (view_fragment fragment.now) (view_events events.old.items)
         (view_events events.new.items) messages.new) }
-    ensures stopped { (l : Allowed) (h : Heard) → Stands l h messages.old
+    ensures stopped { (l : Allowed) (h : Received) → Stands l h messages.old
         → OnErr result
         (IsStopped l h (view_fragment fragment.now ∷ []) (view_events events.old.items)
         (view_events events.new.items) messages.new) }
@@ -65,17 +65,17 @@ pub fn read_all(
     fragments: &[Fragment],
     events: &mut Vec<Event>,
 ) -> Result<(), OutOfMemory>
-    ensures told { (l : Allowed) (h : Heard) → Stands l h messages.old
+    ensures emitted { (l : Allowed) (h : Received) → Stands l h messages.old
         → OnOk result
-        (AreHeard l h (view_fragments fragments.now) (view_events events.old.items)
+        (AreReceived l h (view_fragments fragments.now) (view_events events.old.items)
         (view_events events.new.items) messages.new) }
-    ensures stopped { (l : Allowed) (h : Heard) → Stands l h messages.old
+    ensures stopped { (l : Allowed) (h : Received) → Stands l h messages.old
         → OnErr result
         (IsStopped l h (view_fragments fragments.now) (view_events events.old.items)
         (view_events events.new.items) messages.new) }
 {
     for fragment in fragments {
-        hear(messages, fragment, events)?;
+        receive(messages, fragment, events)?;
     }
     Ok(())
 }

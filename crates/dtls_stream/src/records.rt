@@ -6,8 +6,8 @@ ghost use Rattle.dtls_records.specs.DtlsRecord.{view_message as view_content};
 ghost use Rattle.std.specs.Option.{option_map};
 ghost use Rattle.dtls_records.specs.DtlsHandshake.{view_handshake};
 ghost use Rattle.dtls_stream.specs.Fragments.{view_fragment};
-ghost use Rattle.dtls_stream.specs.Messages.{Heard, Limits as Allowed, Stands, view_event, view_events};
-ghost use Rattle.dtls_stream.specs.Datagrams.{AreToldInPart, IsCut, IsRecordCut, IsStep, content_bytes as content_bytes_of, content_record_step, event_of, fragment_in, fragment_record_step, fragments_in_content, kind_of as kind_told, left_over, record_step, unread};
+ghost use Rattle.dtls_stream.specs.Messages.{Received, Limits as Allowed, Stands, view_event, view_events};
+ghost use Rattle.dtls_stream.specs.Datagrams.{AreEmittedInPart, IsCut, IsRecordCut, IsStep, content_bytes as content_bytes_of, content_record_step, event_of, fragment_in, fragment_record_step, fragments_in_content, kind_of as kind_emitted, left_over, record_step, unread};
 
 use crate::event::{EncryptedRecord, Event};
 use crate::fragments::Fragment;
@@ -39,7 +39,7 @@ pub fn fragment_of<'a>(message: &DTLSMessageHandshake<'a>) -> Option<Fragment<'a
 }
 
 /// The event of a message.
-fn told_as<'a>(message: &DTLSMessage<'a>) -> Event<'a>
+fn emitted_as<'a>(message: &DTLSMessage<'a>) -> Event<'a>
     ensures { view_event result ≡ event_of (view_content message.now) }
 {
     match message {
@@ -54,7 +54,7 @@ fn told_as<'a>(message: &DTLSMessage<'a>) -> Event<'a>
 
 /// The fault of a refusal. A datagram is whole, so missing bytes won't come.
 fn kind_of(error: Refused<Error<&[u8]>>) -> ErrorKind
-    ensures { result ≡ kind_told (refusal_of error.entry) }
+    ensures { result ≡ kind_emitted (refusal_of error.entry) }
 {
     match error {
         Refused::Error(error) => error.code,
@@ -63,8 +63,8 @@ fn kind_of(error: Refused<Error<&[u8]>>) -> ErrorKind
 }
 
 /// Appends a fault if bytes are left after what was parsed.
-fn tell_left_over(rest: &[u8], events: &mut Vec<Event>) -> Result<(), OutOfMemory>
-    ensures told { OnOk result
+fn emit_left_over(rest: &[u8], events: &mut Vec<Event>) -> Result<(), OutOfMemory>
+    ensures emitted { OnOk result
         (view_events events.new.items ≡ view_events events.old.items ++ left_over rest.now) }
     ensures stopped { OnErr result (view_events events.new.items ≡ view_events events.old.items) }
 {
@@ -75,12 +75,12 @@ fn tell_left_over(rest: &[u8], events: &mut Vec<Event>) -> Result<(), OutOfMemor
 }
 
 /// Appends a fault if no record can be parsed from the rest of a datagram.
-pub(crate) fn tell_unread(
+pub(crate) fn emit_unread(
     left: &[u8],
     error: Refused<Error<&[u8]>>,
     events: &mut Vec<Event>,
 ) -> Result<(), OutOfMemory>
-    ensures told { OnOk result
+    ensures emitted { OnOk result
         (view_events events.new.items ≡ view_events events.old.items ++ unread left.now
         (refusal_of error.entry)) }
     ensures stopped { OnErr result (view_events events.new.items ≡ view_events events.old.items) }
@@ -92,19 +92,19 @@ pub(crate) fn tell_unread(
 }
 
 /// Appends the events of messages.
-fn tell_messages<'a>(
+fn emit_messages<'a>(
     messages: &[DTLSMessage<'a>],
     events: &mut Vec<Event<'a>>,
 ) -> Result<(), OutOfMemory>
-    ensures told { OnOk result
+    ensures emitted { OnOk result
         (view_events events.new.items ≡ view_events events.old.items ++ map
         (λ m. event_of (view_content m)) messages.now) }
     ensures stopped { OnErr result
-        (AreToldInPart (map (λ m. event_of (view_content m)) messages.now)
+        (AreEmittedInPart (map (λ m. event_of (view_content m)) messages.now)
         (view_events events.old.items) (view_events events.new.items)) }
 {
     for message in messages {
-        events.push(told_as(message))?;
+        events.push(emitted_as(message))?;
     }
     Ok(())
 }
@@ -129,24 +129,24 @@ fn content_bytes<'a>(raw: &DTLSRawRecord<'a>) -> &'a [u8]
 }
 
 /// Appends the events of a record that isn't of type handshake.
-fn tell_content<'a>(
+fn emit_content<'a>(
     alloc: Global,
     raw: &DTLSRawRecord<'a>,
     events: &mut Vec<Event<'a>>,
 ) -> Result<(), OutOfMemory>
-    ensures told { (h : Heard)
+    ensures emitted { (h : Received)
         → OnOk result
         (view_events events.new.items ≡ view_events
         events.old.items ++ (content_record_step (view_raw_record raw.now) h).1) }
-    ensures stopped { (h : Heard)
+    ensures stopped { (h : Received)
         → OnErr result
-        (AreToldInPart (content_record_step (view_raw_record raw.now) h).1
+        (AreEmittedInPart (content_record_step (view_raw_record raw.now) h).1
         (view_events events.old.items) (view_events events.new.items)) }
 {
     match parse_dtls_record_with_header(alloc, content_bytes(raw), &raw.header) {
         Ok((rest, messages)) => {
-            tell_messages(&messages, events)?;
-            tell_left_over(rest, events)
+            emit_messages(&messages, events)?;
+            emit_left_over(rest, events)
         }
         Err(Refused::OutOfMemory) => Err(OutOfMemory),
         Err(error) => {
@@ -163,11 +163,11 @@ fn read_handshake(
     messages: &mut Messages,
     events: &mut Vec<Event>,
 ) -> Result<(), OutOfMemory>
-    ensures told { (l : Allowed) (h : Heard) → Stands l h messages.old
+    ensures emitted { (l : Allowed) (h : Received) → Stands l h messages.old
         → OnOk result
         (IsStep l (fragment_record_step bytes.now l h) (view_events events.old.items)
         (view_events events.new.items) messages.new) }
-    ensures stopped { (l : Allowed) (h : Heard) → Stands l h messages.old
+    ensures stopped { (l : Allowed) (h : Received) → Stands l h messages.old
         → OnErr result
         (IsCut l h (fragments_in_content bytes.now) (fragment_record_step bytes.now l h).1
         (view_events events.old.items) (view_events events.new.items) messages.new) }
@@ -175,7 +175,7 @@ fn read_handshake(
     match items1::<Fragment>(alloc, bytes) {
         Ok((rest, fragments)) => {
             read_all(messages, &fragments, events)?;
-            tell_left_over(rest, events)
+            emit_left_over(rest, events)
         }
         Err(Refused::OutOfMemory) => Err(OutOfMemory),
         Err(error) => {
@@ -196,11 +196,11 @@ pub fn read_record_events<'a>(
     messages: &mut Messages,
     events: &mut Vec<Event<'a>>,
 ) -> Result<(), OutOfMemory>
-    ensures told { (l : Allowed) (h : Heard) → Stands l h messages.old
+    ensures emitted { (l : Allowed) (h : Received) → Stands l h messages.old
         → OnOk result
         (IsStep l (record_step l h (view_raw_record raw.entry)) (view_events events.old.items)
         (view_events events.new.items) messages.new) }
-    ensures stopped { (l : Allowed) (h : Heard) → Stands l h messages.old
+    ensures stopped { (l : Allowed) (h : Received) → Stands l h messages.old
         → OnErr result
         (IsRecordCut l h (view_raw_record raw.entry) (view_events events.old.items)
         (view_events events.new.items) messages.new) }
@@ -218,5 +218,5 @@ pub fn read_record_events<'a>(
     if raw.header.content_type.0 == TlsRecordType::Handshake.0 {
         return read_handshake(alloc, raw.fragment, messages, events);
     }
-    tell_content(alloc, &raw, events)
+    emit_content(alloc, &raw, events)
 }

@@ -33,26 +33,26 @@ out_first fs out o i low =
 -- A fragment's bytes are those of the datagram.
 given_of : (d : Bytes) (f : IpFragment) (i y : ℕ) → IsPart d f.offset f.payload.now
     → given f i ≡ Some y → byte_at d i ≡ Some y
-given_of d f i y part told = go (ltb i f.offset) refl
+given_of d f i y part equal = go (ltb i f.offset) refl
   where
     go : (t : Bool) → ltb i f.offset ≡ t → byte_at d i ≡ Some y
-    go true e = let none = rw e at told in absurd cc
+    go true e = let none = rw e at equal in absurd cc
     go false e =
         let behind = ltb-false i f.offset e in
         let same : f.offset + (i - f.offset) ≡ i = omega (arith, behind) in
-        let there : byte_at f.payload.now (i - f.offset) ≡ Some y = rw e at told in
+        let there : byte_at f.payload.now (i - f.offset) ≡ Some y = rw e at equal in
         subst (λ k. byte_at d k ≡ Some y) same
         (part_byte d f.offset f.payload.now (i - f.offset) y part there)
 
 first_of : (d : Bytes) (fs : List IpFragment) (i y : ℕ) → AreOf d fs → first_at fs i ≡ Some y
     → byte_at d i ≡ Some y
-first_of d [] i y parts told = absurd cc
-first_of d (f ∷ fs) i y parts told = go (first_at fs i) refl (first_of d fs i y parts.2)
+first_of d [] i y parts equal = absurd cc
+first_of d (f ∷ fs) i y parts equal = go (first_at fs i) refl (first_of d fs i y parts.2)
   where
     go : (o : Option ℕ) → first_at fs i ≡ o → (first_at fs i ≡ Some y → byte_at d i ≡ Some y)
         → byte_at d i ≡ Some y
-    go None e before = given_of d f i y parts.0 (rw e at told)
-    go (Some x) e before = before (e ∙ (rw e at told))
+    go None e before = given_of d f i y parts.0 (rw e at equal)
+    go (Some x) e before = before (e ∙ (rw e at equal))
 
 -- Bytes that agree with the datagram at each offset, and are as long, are the datagram.
 run_all : (cs : Cells) (d : Bytes) → ((k y : ℕ) → cell cs k ≡ Some y → byte_at d k ≡ Some y)

@@ -270,8 +270,8 @@ agrees_at time f t o is h =
 
 pub agrees_missing : (time : ℕ) (k : Key) (f : IpFragment) (s : Step) (t u : Table) → k ≡ key_of f
     → s ≡ step.Missing → AddsAt s k f t u → is_other_end f (its time f t) ≡ false
-agrees_missing time k f s t u is said a =
-    let a' : AddsAt step.Missing k f t u = subst (λ x. AddsAt x k f t u) said a in
+agrees_missing time k f s t u is is_step a =
+    let a' : AddsAt step.Missing k f t u = subst (λ x. AddsAt x k f t u) is_step a in
     agrees_at time f t None (subst (λ x. at x t ≡ None) is a'.0) (begun_agrees time f)
 
 pub agrees_found : (time : ℕ) (k : Key) (f : IpFragment) (t : Table) (v : Waiting) → k ≡ key_of f
@@ -303,9 +303,9 @@ pub missing_becomes : {E : Type 0} (time : ℕ) (k : Key) (f : IpFragment) (s : 
     (r : Result FragmentOutcome E) (t v u : Table) → k ≡ key_of f
     → s ≡ step.Missing → AddsAt s k f t v → IfOk r (λ o. BeginsAt time k f o v u)
     → IfOk r (λ o. Becomes time f o t u)
-missing_becomes time k f s (Err e) t v u is said a b = _
-missing_becomes time k f s (Ok o) t v u is said a b =
-    let a' : AddsAt step.Missing k f t v = subst (λ x. AddsAt x k f t v) said a in
+missing_becomes time k f s (Err e) t v u is is_step a b = _
+missing_becomes time k f s (Ok o) t v u is is_step a b =
+    let a' : AddsAt step.Missing k f t v = subst (λ x. AddsAt x k f t v) is_step a in
     let b' = subst (λ l. BeginsAt time k f o l u) a'.1 b in
     begins time f o t u (subst (λ x. at x t ≡ None) is a'.0)
     (subst (λ x. BeginsAt time x f o t u) is b')
@@ -313,8 +313,8 @@ missing_becomes time k f s (Ok o) t v u is said a b =
 -- A fragment of a datagram that waits for more.
 pub waits_becomes : (time : ℕ) (k : Key) (f : IpFragment) (s : Step) (t u : Table) → k ≡ key_of f
     → s ≡ step.Waits → AddsAt s k f t u → Becomes time f outcome.Waits t u
-waits_becomes time k f s t u is said a =
-    let a' : AddsAt step.Waits k f t u = subst (λ x. AddsAt x k f t u) said a in
+waits_becomes time k f s t u is is_step a =
+    let a' : AddsAt step.Waits k f t u = subst (λ x. AddsAt x k f t u) is_step a in
     let b : AddsAt step.Waits (key_of f) f t u = subst (λ x. AddsAt step.Waits x f t u) is a' in (
       b.1,
       agrees_at time f t (Some b.0) b.2 b.3,
@@ -343,8 +343,8 @@ pub whole_becomes : (time : ℕ) (k : Key) (f : IpFragment) (s : Step) (o : Frag
     → k ≡ key_of f → s ≡ step.Whole
     → AddsAt s k f t v → IfSome (at k v) (λ w. is_whole w ≡ true → HandsOut f w o) → u ≡ others k v
     → Becomes time f o t u
-whole_becomes time k f s o t v u is said a h e =
-    let a' : AddsAt step.Whole k f t v = subst (λ x. AddsAt x k f t v) said a in
+whole_becomes time k f s o t v u is is_step a h e =
+    let a' : AddsAt step.Whole k f t v = subst (λ x. AddsAt x k f t v) is_step a in
     let found : at k v ≡ Some a'.1 = ap (at k) a'.6 ∙ at_with k t a'.0 a'.1 a'.2 in
     let handed : is_whole a'.1 ≡ true → HandsOut f a'.1 o =
     subst (λ p. IfSome p (λ w. is_whole w ≡ true → HandsOut f w o)) found h in

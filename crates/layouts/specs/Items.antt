@@ -66,17 +66,17 @@ abbrev pub refusal_in : {A : Type 0} → Layout A → Bytes → Option Refusal
 refusal_in l b = if length (left_in l b) == 0 then None else refused_by (reading l (left_in l b))
 
 -- The result of a call that reads on demand and leaves no rest: a value, or a refusal.
-abbrev pub told : {X Y : Type 0} → (X → Y) → Result X (Failed (Error (Bor (List ℕ))))
+abbrev pub returned : {X Y : Type 0} → (X → Y) → Result X (Failed (Error (Bor (List ℕ))))
     → Result Y Refusal
-told view (Ok x) = Ok (view x)
-told view (Err e) = Err (refusal_of e)
+returned view (Ok x) = Ok (view x)
+returned view (Err e) = Err (refusal_of e)
 
-abbrev pub IsTold : {X : Type 0} → Result X (Failed (Error (Bor (List ℕ)))) → Type 0
-IsTold (Ok x) = ⊤
-IsTold (Err e) = IsRefusal e
+abbrev pub IsReturned : {X : Type 0} → Result X (Failed (Error (Bor (List ℕ)))) → Type 0
+IsReturned (Ok x) = ⊤
+IsReturned (Err e) = IsRefusal e
 
 -- The call returns a: the value, or the refusal.
-pub record Tells {X Y : Type 0} (view : X → Y) (a : Result Y Refusal)
+pub record Returns {X Y : Type 0} (view : X → Y) (a : Result Y Refusal)
     (result : Result X (Failed (Error (Bor (List ℕ))))) : Type 0 where
-  pub answers : IsTold result
-  pub is : told view result ≡ a
+  pub answers : IsReturned result
+  pub is : returned view result ≡ a

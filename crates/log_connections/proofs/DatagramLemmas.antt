@@ -6,47 +6,47 @@ use Rattle.layouts.specs.Bytes.{Bytes}
 use Rattle.tls_flow.specs.Table.{outcome_at}
 use Rattle.tls_flow.specs.declared.symbol.Direction.{Direction}
 use Rattle.tls_summary.specs.HandshakeSummary.{HandshakeSummary}
-use Rattle.tls_summary.specs.Told.{connection_id_length}
+use Rattle.tls_summary.specs.Fields.{connection_id_length}
 use Rattle.dtls_analyzer.specs.Datagrams as datagrams
-use Rattle.dtls_analyzer.specs.Datagrams.{IsKnown, heard}
+use Rattle.dtls_analyzer.specs.Datagrams.{IsKnown, received}
 use Rattle.tls_observer.specs.Ends.{is_13}
 use Rattle.dtls_analyzer.specs.declared.datagram_analyzer.DatagramAnalyzer.{DatagramAnalyzer}
-use Rattle.log_connections.specs.Analysis.{HearsDatagram, HearsDatagramIn, counted}
+use Rattle.log_connections.specs.Analysis.{AnalyzesDatagram, AnalyzesDatagramIn, counted}
 use Rattle.log_connections.specs.declared.analysis.TlsAnalysis.{TlsAnalysis}
-use Rattle.log_connections.specs.declared.analysis.TransportAnalyzer.TheVariants as said
+use Rattle.log_connections.specs.declared.analysis.TransportAnalyzer.TheVariants as transport
 
 module _ {K : Type 0} where
   same_counts : (d : Direction) (b : Bytes) (a : TlsAnalysis K) (y : DatagramAnalyzer)
       (z : Option (Box K)) (p q : Bool) (m n : ℕ) → p ≡ q → m ≡ n
-      → counted d b p m (record a { said = said.Datagrams y; collector = z })
-      ≡ record (counted d b q n a) { said = said.Datagrams y; collector = z }
+      → counted d b p m (record a { transport = transport.Datagrams y; collector = z })
+      ≡ record (counted d b q n a) { transport = transport.Datagrams y; collector = z }
   same_counts d b a y z p q m n same eq =
-      ap (λ r. record (counted d b r m a) { said = said.Datagrams y; collector = z }) same
-      ∙ ap (λ r. record (counted d b q r a) { said = said.Datagrams y; collector = z }) eq
+      ap (λ r. record (counted d b r m a) { transport = transport.Datagrams y; collector = z }) same
+      ∙ ap (λ r. record (counted d b q r a) { transport = transport.Datagrams y; collector = z }) eq
 
-  pub heard_datagram : {E : Type 0} (r : Result Unit E) (u : Unit) (d : Direction) (b : Bytes)
+  pub received_datagram : {E : Type 0} (r : Result Unit E) (u : Unit) (d : Direction) (b : Bytes)
       (a e : TlsAnalysis K) (x y : DatagramAnalyzer) (z : Option (Box K)) (n : ℕ) (q : Bool)
       (h : HandshakeSummary)
-      → r ≡ Ok u → a.said ≡ said.Datagrams x
-      → ((k : datagrams.Analyzer) → IsKnown k x → OnOk r (IsKnown (heard k d b) y))
+      → r ≡ Ok u → a.transport ≡ transport.Datagrams x
+      → ((k : datagrams.Analyzer) → IsKnown k x → OnOk r (IsKnown (received k d b) y))
       → n ≡ connection_id_length d h
       → ((k : datagrams.Analyzer) → IsKnown k y → h ≡ k.handshake)
       → ((k : datagrams.Analyzer) → IsKnown k y → q ≡ is_13 (outcome_at k.flow.state))
-      → e ≡ counted d b q n (record a { said = said.Datagrams y; collector = z })
-      → HearsDatagram d b a e
-  heard_datagram r u d b a e x y z n q h was is hears length summary version counts =
-      subst (HearsDatagram d b a) (sym counts)
+      → e ≡ counted d b q n (record a { transport = transport.Datagrams y; collector = z })
+      → AnalyzesDatagram d b a e
+  received_datagram r u d b a e x y z n q h was is receives length summary version counts =
+      subst (AnalyzesDatagram d b a) (sym counts)
       (subst
-      (λ t. HearsDatagramIn t (said.Datagrams y) d b a
-      (counted d b q n (record a { said = said.Datagrams y; collector = z })))
+      (λ t. AnalyzesDatagramIn t (transport.Datagrams y) d b a
+      (counted d b q n (record a { transport = transport.Datagrams y; collector = z })))
       (sym is) (
         (λ k known.
-            let its : IsKnown (heard k d b) y =
-            subst (λ s. OnOk s (IsKnown (heard k d b) y)) was (hears k known) in (
+            let its : IsKnown (received k d b) y =
+            subst (λ s. OnOk s (IsKnown (received k d b) y)) was (receives k known) in (
               its,
-              same_counts d b a y z q (is_13 (outcome_at (heard k d b).flow.state)) n
-                  (connection_id_length d (heard k d b).handshake) (version (heard k d b) its)
-                  (length ∙ ap (connection_id_length d) (summary (heard k d b) its)),
+              same_counts d b a y z q (is_13 (outcome_at (received k d b).flow.state)) n
+                  (connection_id_length d (received k d b).handshake) (version (received k d b) its)
+                  (length ∙ ap (connection_id_length d) (summary (received k d b) its)),
             )),
         refl,
       ))

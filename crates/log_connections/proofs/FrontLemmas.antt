@@ -7,27 +7,27 @@ use Rattle.layouts.specs.Bytes.{Bytes}
 use Rattle.connections.specs.Stream.{stopped}
 use Rattle.connections.specs.declared.connection.Side.{Side}
 use Rattle.connections.specs.declared.stream.Stream.{Stream}
-use Rattle.tls_analyzer.specs.Analyzers.{IsHeardAsNone}
+use Rattle.tls_analyzer.specs.Analyzers.{IsReadAsNone}
 use Rattle.tls_analyzer.specs.declared.analyzer.Analyzer.{Analyzer}
-use Rattle.log_connections.specs.Analysis.{HearsNone, HearsNoneIn, direction_of}
+use Rattle.log_connections.specs.Analysis.{AnalyzesNone, AnalyzesNoneIn, direction_of}
 use Rattle.log_connections.specs.Fronts.{with_preamble}
 use Rattle.log_connections.specs.declared.analysis.TlsAnalysis.{TlsAnalysis}
-use Rattle.log_connections.specs.declared.analysis.TransportAnalyzer.TheVariants as said
+use Rattle.log_connections.specs.declared.analysis.TransportAnalyzer.TheVariants as transport
 use Rattle.log_connections.specs.declared.fronts.Preambles.{Preambles}
 
 module _ {K : Type 0} where
-  pub heard_none : (s : Side) (t u : Stream) (a b : TlsAnalysis K) (x : Analyzer) (f : Preambles)
+  pub received_none : (s : Side) (t u : Stream) (a b : TlsAnalysis K) (x : Analyzer) (f : Preambles)
       (y : Analyzer) (g : Preambles)
-      → a.said ≡ said.Stream x f → b ≡ record a { said = said.Stream y g }
-      → IsHeardAsNone x (direction_of a.is_turned s) y → g ≡ with_preamble s 0 f
+      → a.transport ≡ transport.Stream x f → b ≡ record a { transport = transport.Stream y g }
+      → IsReadAsNone x (direction_of a.is_turned s) y → g ≡ with_preamble s 0 f
       → u ≡ stopped t t.reading
-      → HearsNone s t u a b
-  unfolding HearsNone
-  heard_none s t u a b x f y g is made heard left stops =
-      subst (HearsNone s t u a) (sym made)
+      → AnalyzesNone s t u a b
+  unfolding AnalyzesNone
+  received_none s t u a b x f y g is made analysis left stops =
+      subst (AnalyzesNone s t u a) (sym made)
       (subst
-      (λ z. HearsNoneIn z (said.Stream y g) s t u a (record a { said = said.Stream y g }))
-      (sym is) (heard, left, stops, refl))
+      (λ z. AnalyzesNoneIn z (transport.Stream y g) s t u a (record a { transport = transport.Stream y g }))
+      (sym is) (analysis, left, stops, refl))
 
 -- Dropping more bytes than there are drops all.
 pub behind_all : (n m : ℕ) (b c : Bytes) → m ≡ min n (length b) → c ≡ drop m b → c ≡ drop n b

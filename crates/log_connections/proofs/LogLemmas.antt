@@ -23,7 +23,7 @@ use Rattle.connections.specs.declared.segment.Segment.{Segment}
 use Rattle.tls_detection.specs.Front.{held_datagram}
 use Rattle.log_connections.specs.Accessors.{BeginsAnother}
 use Rattle.log_connections.specs.Analysis.{direction_of}
-use Rattle.log_connections.specs.Log.{AcceptsAt, AcceptsIf, AcceptsSegment, BeginsAnotherIn, EndsAfter, EndsClosed, HearsFrom, HearsKept, HearsPending, HearsSegment, HearsSide, Logs, LogsDatagram, RefusesAt, RefusesIf, RefusesSegment, TakesIf, TakesIn, is_closed_in, is_damaged_in, verdict_in}
+use Rattle.log_connections.specs.Log.{AcceptsAt, AcceptsIf, AcceptsSegment, BeginsAnotherIn, EndsAfter, EndsClosed, AnalyzesFrom, AnalyzesKept, AnalyzesPending, AnalyzesSegment, AnalyzesSide, Logs, LogsDatagram, RefusesAt, RefusesIf, RefusesSegment, TakesIf, TakesIn, is_closed_in, is_damaged_in, verdict_in}
 use Rattle.log_connections.specs.Sink.{EndsAs}
 use Rattle.log_connections.specs.declared.analysis.TlsAnalysis.{TlsAnalysis}
 
@@ -64,69 +64,69 @@ module _ {K : Type 0} where
   put_where_true true s old mid is put = put
   put_where_true false s old mid is put = cc
 
-  pub segment_heard : (b : Bool) (s : Segment) (old mid : Table (TlsAnalysis K))
+  pub segment_received : (b : Bool) (s : Segment) (old mid : Table (TlsAnalysis K))
       (c d : Connection (TlsAnalysis K)) → b ≡ true
       → Puts b s old mid → mid.closed ≡ closed_behind b s old
       → Some c ≡ at (five_tuple_of s) mid.live
-      → HearsSide s (side_of c s.source) c d
-      → HearsSegment s old
+      → AnalyzesSide s (side_of c s.source) c d
+      → AnalyzesSegment s old
       (record mid { live = set_value (is_five_tuple (five_tuple_of s)) mid.live d })
-  segment_heard b s old mid c d is puts closed found hears =
+  segment_received b s old mid c d is puts closed found receives =
       let put = put_where_true b s old mid is puts in record {
         put = put.its;
         its = d;
         takes = put.takes;
-        hears =
-            subst (λ z. HearsSide s (side_of z s.source) z d)
-            (lent (five_tuple_of s) (TakesSegment s) old.live mid.live put c found) hears;
+        receives =
+            subst (λ z. AnalyzesSide s (side_of z s.source) z d)
+            (lent (five_tuple_of s) (TakesSegment s) old.live mid.live put c found) receives;
         stands = written_first (five_tuple_of s) (TakesSegment s) old.live mid.live put d;
         closed = closed ∙ ap (λ x. closed_behind x s old) is;
       }
 
   -- The open connection takes it.
-  pub heard_by_open : (s : Segment) (old : Table (TlsAnalysis K))
+  pub received_by_open : (s : Segment) (old : Table (TlsAnalysis K))
       (c put its : Connection (TlsAnalysis K))
       → Some c ≡ at (five_tuple_of s) old.live → Accepts s c put
-      → HearsSide s (side_of put s.source) put its
-      → HearsSegment s old (with_first (five_tuple_of s) its old)
-  heard_by_open s old c put its found accepts hears = record {
+      → AnalyzesSide s (side_of put s.source) put its
+      → AnalyzesSegment s old (with_first (five_tuple_of s) its old)
+  received_by_open s old c put its found accepts receives = record {
     put = put;
     its = its;
     takes = subst (λ o. TakesSegment s o put) found accepts;
-    hears = hears;
+    receives = receives;
     stands = stands_first (five_tuple_of s) old c its found;
     closed = subst (λ o. old.closed ≡ without_if (not (is_some o)) (five_tuple_of s) old.closed)
         found refl;
   }
 
   -- The open connection takes it in place, and comes first then.
-  pub heard_in_place : (s : Segment) (old : Table (TlsAnalysis K))
+  pub received_in_place : (s : Segment) (old : Table (TlsAnalysis K))
       (c put its : Connection (TlsAnalysis K))
       → Some c ≡ at (five_tuple_of s) old.live → Accepts s c put
-      → HearsSide s (side_of put s.source) put its
-      → HearsSegment s old
+      → AnalyzesSide s (side_of put s.source) put its
+      → AnalyzesSegment s old
       (promoting (five_tuple_of s) (with_other (five_tuple_of s) its old))
-  heard_in_place s old c put its found accepts hears = record {
+  received_in_place s old c put its found accepts receives = record {
     put = put;
     its = its;
     takes = subst (λ o. TakesSegment s o put) found accepts;
-    hears = hears;
+    receives = receives;
     stands = written_promoted (five_tuple_of s) old.live c its (sym found);
     closed = subst (λ o. old.closed ≡ without_if (not (is_some o)) (five_tuple_of s) old.closed)
         found refl;
   }
 
-  pub exchange_heard : (d : Datagram) (old : Table (TlsAnalysis K))
+  pub exchange_received : (d : Datagram) (old : Table (TlsAnalysis K))
       (c put its : Connection (TlsAnalysis K))
       → Some c ≡ at (five_tuple_of_datagram d) old.live → TakesDatagramIn d c put
-      → HearsFrom d put its
+      → AnalyzesFrom d put its
       → LogsDatagram d old
       (promoting (five_tuple_of_datagram d) (with_other (five_tuple_of_datagram d) its old))
-  exchange_heard d old c put its found takes hears = record {
+  exchange_received d old c put its found takes receives = record {
     put = put;
     its = its;
     takes = subst (λ o. TakesDatagram d o put) found takes;
-    hears = hears;
+    receives = receives;
     stands = written_promoted (five_tuple_of_datagram d) old.live c its (sym found);
     closed = refl;
   }
@@ -147,20 +147,20 @@ module _ {K : Type 0} where
       some_lent (five_tuple_of s) (TakesSegment s) old.live mid.live
       (put_where_true b s old mid is puts) (sym none)
 
-  pub datagram_heard : (g : Datagram) (old mid : Table (TlsAnalysis K))
+  pub datagram_received : (g : Datagram) (old mid : Table (TlsAnalysis K))
       (c d : Connection (TlsAnalysis K))
       → IsPut (five_tuple_of_datagram g) (TakesDatagram g) old.live mid.live
       → mid.closed ≡ old.closed
-      → Some c ≡ at (five_tuple_of_datagram g) mid.live → HearsFrom g c d
+      → Some c ≡ at (five_tuple_of_datagram g) mid.live → AnalyzesFrom g c d
       → LogsDatagram g old
       (record mid { live = set_value (is_five_tuple (five_tuple_of_datagram g)) mid.live d })
-  datagram_heard g old mid c d put closed found hears = record {
+  datagram_received g old mid c d put closed found receives = record {
     put = put.its;
     its = d;
     takes = put.takes;
-    hears =
-        subst (λ z. HearsFrom g z d)
-        (lent (five_tuple_of_datagram g) (TakesDatagram g) old.live mid.live put c found) hears;
+    receives =
+        subst (λ z. AnalyzesFrom g z d)
+        (lent (five_tuple_of_datagram g) (TakesDatagram g) old.live mid.live put c found) receives;
     stands = written_first (five_tuple_of_datagram g) (TakesDatagram g) old.live mid.live put d;
     closed = closed;
   }
@@ -223,11 +223,11 @@ module _ {K : Type 0} where
   let_in_judged s old c found is = ap (option_map lets_in) (some_judged s old c found)
       ∙ ap Some (sym is)
 
-  pub told_judged : (s : Segment) (old : Table (TlsAnalysis K)) (c : Connection (TlsAnalysis K))
+  pub acknowledging_judged : (s : Segment) (old : Table (TlsAnalysis K)) (c : Connection (TlsAnalysis K))
       (v : Verdict) → Some c ≡ at (five_tuple_of s) old.live → v ≡ verdict_of s c
       → false ≡ lets_in (verdict_of s c)
       → (verdict_in s old ≡ Some v) × (lets_in v ≡ false)
-  told_judged s old c v found is kept =
+  acknowledging_judged s old c v found is kept =
       (some_judged s old c found ∙ ap Some (sym is), ap lets_in is ∙ sym kept)
 
   pub is_belonging : (s : Segment) (old : Table (TlsAnalysis K))
@@ -264,11 +264,11 @@ module _ {K : Type 0} where
     } else mid) is);
   }
 
-  pub takes_in : (heard : Option Bool) (s : Segment) (old mid new : Table (TlsAnalysis K))
-      (over : Option (Connection (TlsAnalysis K))) → is_some heard ≡ belongs s old
-      → Logs (is_some heard) s old mid
-      → IfSome heard (λ closed. closed ≡ is_closed_in s mid)
-      → EndsAfter heard s mid new over → TakesIn s old new over
+  pub takes_in : (analysis : Option Bool) (s : Segment) (old mid new : Table (TlsAnalysis K))
+      (over : Option (Connection (TlsAnalysis K))) → is_some analysis ≡ belongs s old
+      → Logs (is_some analysis) s old mid
+      → IfSome analysis (λ closed. closed ≡ is_closed_in s mid)
+      → EndsAfter analysis s mid new over → TakesIn s old new over
   takes_in None s old mid new over is logs closed ends =
       subst (λ b. TakesIf b s old new over) is (ends.0 ∙ logs, ends.1)
   takes_in (Some true) s old mid new over is logs closed ends =
@@ -278,20 +278,20 @@ module _ {K : Type 0} where
       (mid, logs, stays_open s mid new over (sym closed) ends.0 ends.1)
 
   -- A verdict that lets a segment in is obeyed by taking it.
-  accepts_let_in : (j : Judgement) (another tells damage : Bool) (s : Segment)
+  accepts_let_in : (j : Judgement) (another acknowledges damage : Bool) (s : Segment)
       (old new : Table (TlsAnalysis K)) (over : Option (Connection (TlsAnalysis K)))
-      → (is_kept j && (not another && (not tells && not damage))) ≡ true
-      → TakesIn s old new over → AcceptsIf damage another j tells s old new over
+      → (is_kept j && (not another && (not acknowledges && not damage))) ≡ true
+      → TakesIn s old new over → AcceptsIf damage another j acknowledges s old new over
   accepts_let_in judgement.Taken false false false s old new over h t = t
   accepts_let_in judgement.Taken false false true s old new over h t = cc
   accepts_let_in judgement.Taken false true damage s old new over h t = cc
-  accepts_let_in judgement.Taken true tells damage s old new over h t = cc
+  accepts_let_in judgement.Taken true acknowledges damage s old new over h t = cc
   accepts_let_in judgement.Again false false false s old new over h t = t
   accepts_let_in judgement.Again false false true s old new over h t = cc
   accepts_let_in judgement.Again false true damage s old new over h t = cc
-  accepts_let_in judgement.Again true tells damage s old new over h t = cc
-  accepts_let_in (judgement.Waiting r) another tells damage s old new over h t = cc
-  accepts_let_in (judgement.Dropped r) another tells damage s old new over h t = cc
+  accepts_let_in judgement.Again true acknowledges damage s old new over h t = cc
+  accepts_let_in (judgement.Waiting r) another acknowledges damage s old new over h t = cc
+  accepts_let_in (judgement.Dropped r) another acknowledges damage s old new over h t = cc
 
   accepts_in : (v : Option Verdict) (s : Segment) (old new : Table (TlsAnalysis K))
       (over : Option (Connection (TlsAnalysis K))) → option_map lets_in v ≡ Some true
@@ -299,41 +299,41 @@ module _ {K : Type 0} where
   accepts_in None s old new over h t = cc
   accepts_in (Some v) s old new over h t =
       let is : lets_in v ≡ true = cc in
-      accepts_let_in v.judgement v.begins_another v.tells v.shows_damage s old new over is t
+      accepts_let_in v.judgement v.begins_another v.acknowledges v.shows_damage s old new over is t
 
   pub accepts_open : (s : Segment) (old mid new : Table (TlsAnalysis K))
       (over : Option (Connection (TlsAnalysis K)))
-      → option_map lets_in (verdict_in s old) ≡ Some true → HearsSegment s old mid
+      → option_map lets_in (verdict_in s old) ≡ Some true → AnalyzesSegment s old mid
       → EndsClosed s mid new over → AcceptsSegment s old new over
-  accepts_open s old mid new over is hears ends =
+  accepts_open s old mid new over is receives ends =
       accepts_in (verdict_in s old) s old new over is
-      (subst (λ b. TakesIf b s old new over) (sym (let_in_belongs s old is)) (mid, hears, ends))
+      (subst (λ b. TakesIf b s old new over) (sym (let_in_belongs s old is)) (mid, receives, ends))
 
-  pub accepts_told : (s : Segment) (old mid new : Table (TlsAnalysis K)) (v : Option Verdict)
+  pub accepts_acknowledging : (s : Segment) (old mid new : Table (TlsAnalysis K)) (v : Option Verdict)
       (over : Option (Connection (TlsAnalysis K))) → verdict_in s old ≡ v → mid ≡ old
       → AcceptsAt v s mid new over → AcceptsSegment s old new over
-  accepts_told s old mid new v over is same accepts =
+  accepts_acknowledging s old mid new v over is same accepts =
       subst (λ w. AcceptsAt w s old new over) (sym is)
       (subst (λ t. AcceptsAt v s t new over) same accepts)
 
   -- Memory is refused for a segment that no other connection begins with.
-  refuses_let_in : (j : Judgement) (another tells damage : Bool) (s : Segment)
+  refuses_let_in : (j : Judgement) (another acknowledges damage : Bool) (s : Segment)
       (old new : Table (TlsAnalysis K))
-      → (is_kept j && (not another && (not tells && not damage))) ≡ true
+      → (is_kept j && (not another && (not acknowledges && not damage))) ≡ true
       → RefusesIf damage another s old new None
-  refuses_let_in j another tells true s old new h = refl
-  refuses_let_in j false tells false s old new h = refl
-  refuses_let_in judgement.Taken true tells false s old new h = cc
-  refuses_let_in judgement.Again true tells false s old new h = cc
-  refuses_let_in (judgement.Waiting r) true tells false s old new h = cc
-  refuses_let_in (judgement.Dropped r) true tells false s old new h = cc
+  refuses_let_in j another acknowledges true s old new h = refl
+  refuses_let_in j false acknowledges false s old new h = refl
+  refuses_let_in judgement.Taken true acknowledges false s old new h = cc
+  refuses_let_in judgement.Again true acknowledges false s old new h = cc
+  refuses_let_in (judgement.Waiting r) true acknowledges false s old new h = cc
+  refuses_let_in (judgement.Dropped r) true acknowledges false s old new h = cc
 
   refuses_in : (v : Option Verdict) (s : Segment) (old new : Table (TlsAnalysis K))
       → option_map lets_in v ≡ Some true → RefusesAt v s old new None
   refuses_in None s old new h = refl
   refuses_in (Some v) s old new h =
       let is : lets_in v ≡ true = cc in
-      refuses_let_in v.judgement v.begins_another v.tells v.shows_damage s old new is
+      refuses_let_in v.judgement v.begins_another v.acknowledges v.shows_damage s old new is
 
   pub refuses_open : (s : Segment) (old new : Table (TlsAnalysis K))
       (over : Option (Connection (TlsAnalysis K)))
@@ -342,27 +342,27 @@ module _ {K : Type 0} where
   refuses_open s old new over is none =
       subst (RefusesSegment s old new) (sym none) (refuses_in (verdict_in s old) s old new is)
 
-  pub refuses_told : (s : Segment) (old mid new : Table (TlsAnalysis K)) (v : Option Verdict)
+  pub refuses_acknowledging : (s : Segment) (old mid new : Table (TlsAnalysis K)) (v : Option Verdict)
       (over : Option (Connection (TlsAnalysis K))) → verdict_in s old ≡ v → mid ≡ old
       → RefusesAt v s mid new over → RefusesSegment s old new over
-  refuses_told s old mid new v over is same refuses =
+  refuses_acknowledging s old mid new v over is same refuses =
       subst (λ w. RefusesAt w s old new over) (sym is)
       (subst (λ t. RefusesAt v s t new over) same refuses)
 
-  -- A pending segment is heard.
-  pub pending_heard : (e : FiveTuple) (k : Kept) (old : Table (TlsAnalysis K))
+  -- A pending segment is analyzed.
+  pub pending_received : (e : FiveTuple) (k : Kept) (old : Table (TlsAnalysis K))
       (c put its : Connection (TlsAnalysis K)) (s : Segment) → Some c ≡ at e old.live
       → AcceptsKept k c put → header_of s ≡ k.header → s.payload.now ≡ k.bytes
-      → HearsSide s (side_of put s.source) put its
-      → HearsPending e k old (with_first e its old)
-  pending_heard e k old c put its s found accepts header payload hears =
-      comes_in e (HearsKept k) old c its found (record {
+      → AnalyzesSide s (side_of put s.source) put its
+      → AnalyzesPending e k old (with_first e its old)
+  pending_received e k old c put its s found accepts header payload receives =
+      comes_in e (AnalyzesKept k) old c its found (record {
         put = put;
         segment = s;
         header = header;
         payload = payload;
         accepts = accepts;
-        hears = hears;
+        receives = receives;
       })
 
   -- A datagram's checksum counts as wrong, or not.
@@ -382,11 +382,11 @@ module _ {K : Type 0} where
       (c : Connection (TlsAnalysis K)) (b begins : Bool) (side : Side)
       → Some c ≡ at (five_tuple_of_datagram d) old.live → side ≡ side_of c d.source → begins ≡ b
       → BeginsAnother begins (direction_of c.attachment.is_turned side)
-      (held_datagram d.payload.now) c.attachment.said
+      (held_datagram d.payload.now) c.attachment.transport
       → BeginsAnotherIn b d (at (five_tuple_of_datagram d) old.live)
   another_begun d old c b begins side found from is another =
       subst (λ o. BeginsAnotherIn b d o) found
       (subst (λ z. BeginsAnother b (direction_of c.attachment.is_turned z)
-      (held_datagram d.payload.now) c.attachment.said) from
+      (held_datagram d.payload.now) c.attachment.transport) from
       (subst (λ y. BeginsAnother y (direction_of c.attachment.is_turned side)
-      (held_datagram d.payload.now) c.attachment.said) is another))
+      (held_datagram d.payload.now) c.attachment.transport) is another))

@@ -7,7 +7,7 @@ use Rattle.connections.specs.Memory.{IsAccounted, IsTakenOut, open_part, total}
 use Rattle.connections.specs.Table.{IsOver, NoneIsOver, Table, WasLast}
 use Rattle.connections.specs.declared.five_tuple.FiveTuple.{FiveTuple}
 use Rattle.connections.specs.declared.connection.Connection.{Connection}
-use Rattle.log_connections.specs.Sink.{Adds, EndsAs, EndsCrowded, EndsIdle, EndsLast, HearsLast, IsCrowded, IsCutOff, IsEnded, IsLastEnded, PassesAllButLast, PassesEnded, Receives, at_originator, at_responder, cut_off, marked_early, none, one, wholly}
+use Rattle.log_connections.specs.Sink.{Adds, EndsAs, EndsCrowded, EndsIdle, EndsLast, AnalyzesLast, IsCrowded, IsCutOff, IsEnded, IsLastEnded, PassesAllButLast, PassesEnded, Receives, at_originator, at_responder, cut_off, marked_early, none, one, wholly}
 use Rattle.log_connections.specs.declared.analysis.TlsAnalysis.{TlsAnalysis}
 
 module _ {X : Type 0} where
@@ -69,14 +69,14 @@ module _ {K : Type 0} where
     attachment = record c.attachment { is_ended_early = b };
   }) is
 
-  heard_marked : (c d e : Connection (TlsAnalysis K)) → HearsLast c d → e ≡ marked_early d
-      → HearsLast c e
-  heard_marked c d e hears is = subst (HearsLast c) (sym is) (record {
-    between = hears.between;
-    last = hears.last;
-    originator = hears.originator;
-    responder = hears.responder;
-    same = ap {A = Connection (TlsAnalysis K)} marked_early hears.same;
+  received_marked : (c d e : Connection (TlsAnalysis K)) → AnalyzesLast c d → e ≡ marked_early d
+      → AnalyzesLast c e
+  received_marked c d e receives is = subst (AnalyzesLast c) (sym is) (record {
+    between = receives.between;
+    last = receives.last;
+    originator = receives.originator;
+    responder = receives.responder;
+    same = ap {A = Connection (TlsAnalysis K)} marked_early receives.same;
   })
 
   cut_marked : (c d e : Connection (TlsAnalysis K)) → IsCutOff c d → e ≡ marked_early d
@@ -84,9 +84,9 @@ module _ {K : Type 0} where
   cut_marked c d e (at_originator last undone cut same) is =
       subst (IsCutOff c) (sym is)
       (at_originator last undone cut (ap {A = Connection (TlsAnalysis K)} marked_early same))
-  cut_marked c d e (at_responder between last hears undone cut same) is =
+  cut_marked c d e (at_responder between last receives undone cut same) is =
       subst (IsCutOff c) (sym is)
-      (at_responder between last hears undone cut
+      (at_responder between last receives undone cut
       (ap {A = Connection (TlsAnalysis K)} marked_early same))
 
   pub ended_cut : (c d e : Connection (TlsAnalysis K)) → IsCutOff c d → e ≡ marked_early d
@@ -96,7 +96,7 @@ module _ {K : Type 0} where
 
   pub marked : (c d e : Connection (TlsAnalysis K)) → IsEnded c d → e ≡ marked_early d
       → IsEnded c e
-  marked c d e (wholly hears) is = wholly (heard_marked c d e hears is)
+  marked c d e (wholly receives) is = wholly (received_marked c d e receives is)
   marked c d e (cut_off cut early) is = ended_cut c d e cut is
 
   pub marked_as : {B : Type 0} (value : B → Connection (TlsAnalysis K)) (taken : Option B)

@@ -13,63 +13,63 @@ use Rattle.tls_flow.specs.declared.state.Outcome.{Outcome}
 use Rattle.tls_flow.specs.declared.flow.Stop.{Stop}
 use Rattle.tls_summary.specs.HandshakeSummary.{HandshakeSummary, view_summary}
 use Rattle.dtls_analyzer.specs.Another.{begins_another}
-use Rattle.dtls_analyzer.specs.Datagrams.{IsKnown, spoken}
+use Rattle.dtls_analyzer.specs.Datagrams.{IsKnown, side_progress}
 use Rattle.dtls_analyzer.specs.Datagrams as datagrams
 use Rattle.tls_observer.specs.Ends.{is_established, is_resumed}
 use Rattle.log_connections.specs.declared.analysis.TlsAnalysis.{TlsAnalysis}
 use Rattle.log_connections.specs.declared.analysis.TransportAnalyzer.{TransportAnalyzer}
-use Rattle.log_connections.specs.declared.analysis.TransportAnalyzer.TheVariants as said
+use Rattle.log_connections.specs.declared.analysis.TransportAnalyzer.TheVariants as transport
 
 -- The summary of the handshake's clear messages.
 abbrev pub HasHandshake : HandshakeSummary → TransportAnalyzer → Type 0
-HasHandshake h (said.Stream x f) = h ≡ view_summary x.conversation_state.handshake
-HasHandshake h (said.Datagrams t) = (k : datagrams.Analyzer) → IsKnown k t → h ≡ k.handshake
+HasHandshake h (transport.Stream x f) = h ≡ view_summary x.conversation_state.handshake
+HasHandshake h (transport.Datagrams t) = (k : datagrams.Analyzer) → IsKnown k t → h ≡ k.handshake
 
 abbrev pub HasHistory : Bytes → TransportAnalyzer → Type 0
-HasHistory b (said.Stream x f) = b ≡ x.conversation_state.history.items
-HasHistory b (said.Datagrams t) = (k : datagrams.Analyzer) → IsKnown k t → b ≡ k.history
+HasHistory b (transport.Stream x f) = b ≡ x.conversation_state.history.items
+HasHistory b (transport.Datagrams t) = (k : datagrams.Analyzer) → IsKnown k t → b ≡ k.history
 
 abbrev pub HasOutcome : Outcome → TransportAnalyzer → Type 0
-HasOutcome o (said.Stream x f) = o ≡ outcome_at x.conversation_state.flow.state
-HasOutcome o (said.Datagrams t) =
+HasOutcome o (transport.Stream x f) = o ≡ outcome_at x.conversation_state.flow.state
+HasOutcome o (transport.Datagrams t) =
     (k : datagrams.Analyzer) → IsKnown k t → o ≡ outcome_at k.flow.state
 
 abbrev pub HasStop : Option Stop → TransportAnalyzer → Type 0
-HasStop s (said.Stream x f) = s ≡ x.conversation_state.flow.stop
-HasStop s (said.Datagrams t) = (k : datagrams.Analyzer) → IsKnown k t → s ≡ k.flow.stop
+HasStop s (transport.Stream x f) = s ≡ x.conversation_state.flow.stop
+HasStop s (transport.Datagrams t) = (k : datagrams.Analyzer) → IsKnown k t → s ≡ k.flow.stop
 
 -- The readable part of the handshake is complete, or not.
 abbrev pub IsEstablishedBy : Bool → TransportAnalyzer → Type 0
-IsEstablishedBy b (said.Stream x f) =
+IsEstablishedBy b (transport.Stream x f) =
     b ≡ is_established (outcome_at x.conversation_state.flow.state)
-IsEstablishedBy b (said.Datagrams t) =
+IsEstablishedBy b (transport.Datagrams t) =
     (k : datagrams.Analyzer) → IsKnown k t → b ≡ is_established (outcome_at k.flow.state)
 
 -- A session was resumed, or not.
 abbrev pub IsResumedBy : Bool → TransportAnalyzer → Type 0
-IsResumedBy b (said.Stream x f) =
+IsResumedBy b (transport.Stream x f) =
     b ≡ is_resumed (outcome_at x.conversation_state.flow.state)
     (view_summary x.conversation_state.handshake)
-IsResumedBy b (said.Datagrams t) =
+IsResumedBy b (transport.Datagrams t) =
     (k : datagrams.Analyzer) → IsKnown k t
     → b ≡ is_resumed (outcome_at k.flow.state) k.handshake
 
 -- The first messages of the side that speaks in this direction weren't captured. Only the message
 -- numbers of DTLS (RFC 6347, section 4.2.2) show that.
 abbrev pub LacksFront : Bool → Direction → TransportAnalyzer → Type 0
-LacksFront b d (said.Stream x f) = b ≡ false
-LacksFront b d (said.Datagrams t) =
-    (k : datagrams.Analyzer) → IsKnown k t → b ≡ (spoken k d).lacks_front
+LacksFront b d (transport.Stream x f) = b ≡ false
+LacksFront b d (transport.Datagrams t) =
+    (k : datagrams.Analyzer) → IsKnown k t → b ≡ (side_progress k d).lacks_front
 
--- A datagram that is sent in this direction begins another DTLS association, or not. Only one of the
--- client does.
+-- A datagram that is sent in this direction begins another DTLS association, or not. Only one of
+-- the client does.
 abbrev pub begins_by : Direction → datagrams.Analyzer → Bytes → Bool
 begins_by ToServer k datagram = begins_another k datagram
 begins_by FromServer k datagram = false
 
 abbrev pub BeginsAnother : Bool → Direction → Bytes → TransportAnalyzer → Type 0
-BeginsAnother b d datagram (said.Stream x f) = b ≡ false
-BeginsAnother b d datagram (said.Datagrams t) =
+BeginsAnother b d datagram (transport.Stream x f) = b ≡ false
+BeginsAnother b d datagram (transport.Datagrams t) =
     (k : datagrams.Analyzer) → IsKnown k t → b ≡ begins_by d k datagram
 
 module _ {K : Type 0} where

@@ -17,13 +17,13 @@ use Rattle.tls_detection.specs.Front.{first_message}
 use Rattle.tls_flow.specs.Table.{outcome_at}
 use Rattle.tls_flow.specs.declared.symbol.Direction.{Direction}
 use Rattle.tls_flow.specs.declared.symbol.Direction.TheVariants.{ToServer, FromServer}
-use Rattle.tls_analyzer.specs.Analyzers.{IsHeardAsNone, IsHeardInSsl2, IsHeardOn, IsNew, is_over, is_tls_on, is_unknown}
+use Rattle.tls_analyzer.specs.Analyzers.{IsReadAsNone, IsReadInSsl2, IsReadOn, IsNew, is_over, is_tls_on, is_unknown}
 use Rattle.dtls_analyzer.specs.DatagramRecords.{no_datagrams, with_datagram}
-use Rattle.dtls_analyzer.specs.Datagrams.{IsKnown, heard, untold}
+use Rattle.dtls_analyzer.specs.Datagrams.{IsKnown, received, nothing_observed}
 use Rattle.dtls_analyzer.specs.Datagrams as datagrams
 use Rattle.tls_observer.specs.Ends.{is_13}
 use Rattle.tls_analyzer.specs.Records.{no_records, with_bytes}
-use Rattle.tls_summary.specs.Told.{connection_id_length}
+use Rattle.tls_summary.specs.Fields.{connection_id_length}
 use Rattle.tunnels.specs.Tunnel.{listed}
 use Rattle.tunnels.specs.declared.tunnel.Tunnel.{Tunnel}
 use Rattle.tunnels.specs.declared.tunnel.Tunnels.{Tunnels}
@@ -31,7 +31,7 @@ use Rattle.log_connections.specs.declared.analysis.PieceKind.{PieceKind}
 use Rattle.log_connections.specs.declared.analysis.PieceKind.TheVariants as pieces
 use Rattle.log_connections.specs.declared.analysis.TlsAnalysis.{TlsAnalysis}
 use Rattle.log_connections.specs.declared.analysis.TransportAnalyzer.{TransportAnalyzer}
-use Rattle.log_connections.specs.declared.analysis.TransportAnalyzer.TheVariants as said
+use Rattle.log_connections.specs.declared.analysis.TransportAnalyzer.TheVariants as transport
 use Rattle.log_connections.specs.Fronts.{At, InSsl2, Nowhere, PassesOver as Passes, Start, Waits, beginning, begun_behind, no_preambles, passing, preamble, with_preamble}
 
 -- The originator is the client, unless its first message is a server's: then the sides are turned.
@@ -55,8 +55,8 @@ turned_by (Some kind) s opened =
 
 -- Of neither side it is decided whether it speaks TLS.
 abbrev pub is_silent_in : TransportAnalyzer → Bool
-is_silent_in (said.Stream x f) = is_unknown x ToServer && is_unknown x FromServer
-is_silent_in (said.Datagrams x) = false
+is_silent_in (transport.Stream x f) = is_unknown x ToServer && is_unknown x FromServer
+is_silent_in (transport.Datagrams x) = false
 
 -- Whether the sides are turned, by the first message of the connection. Later ones don't matter.
 abbrev pub turned : Option ℕ → Side → Bool → TransportAnalyzer → Bool → Bool
@@ -69,14 +69,14 @@ stopped_if false t = t
 
 -- Where a side's TLS begins, by the next bytes of its stream. It answers if the other's began.
 abbrev pub begins_in : Side → Direction → Bool → TransportAnalyzer → Bytes → Start
-begins_in s d last (said.Stream x f) b =
+begins_in s d last (transport.Stream x f) b =
     beginning (is_unknown x d) x.is_tls last (preamble s f) b
-begins_in s d last (said.Datagrams x) b = Waits
+begins_in s d last (transport.Datagrams x) b = Waits
 
 -- A side whose TLS was found and is complete, or that speaks none, is analyzed no further.
 abbrev pub is_over_in : Direction → TransportAnalyzer → Bool
-is_over_in d (said.Stream x f) = is_over x d
-is_over_in d (said.Datagrams x) = false
+is_over_in d (transport.Stream x f) = is_over x d
+is_over_in d (transport.Datagrams x) = false
 
 -- A segment's bytes are passed on, if it has any.
 abbrev pub passing_on : Segment → Stream → Stream
@@ -89,28 +89,28 @@ is_client FromServer = false
 
 -- How many bytes came before a side's TLS. Over UDP there are none.
 abbrev pub preamble_of : Side → TransportAnalyzer → ℕ
-preamble_of s (said.Stream x f) = preamble s f
-preamble_of s (said.Datagrams x) = 0
+preamble_of s (transport.Stream x f) = preamble s f
+preamble_of s (transport.Datagrams x) = 0
 
 -- A side with other bytes before its TLS is answered if the other speaks TLS.
 abbrev pub is_answered : Side → Side → Bool → TransportAnalyzer → Bool
-is_answered s other turned (said.Stream x f) =
+is_answered s other turned (transport.Stream x f) =
     preamble s f == 0 || is_tls_on x (direction_of turned other)
-is_answered s other turned (said.Datagrams t) = true
+is_answered s other turned (transport.Datagrams t) = true
 
 -- Whether it is TLS, which both sides have to speak if other bytes came before it; or DTLS.
-abbrev pub IsSpokenBy : Bool → Bool → TransportAnalyzer → Type 0
-IsSpokenBy b turned (said.Stream x f) =
-    b ≡ (x.is_tls && is_answered Originator Responder turned (said.Stream x f)
-    && is_answered Responder Originator turned (said.Stream x f))
-IsSpokenBy b turned (said.Datagrams t) = (k : datagrams.Analyzer) → IsKnown k t → b ≡ k.is_dtls
+abbrev pub IsTlsBy : Bool → Bool → TransportAnalyzer → Type 0
+IsTlsBy b turned (transport.Stream x f) =
+    b ≡ (x.is_tls && is_answered Originator Responder turned (transport.Stream x f)
+    && is_answered Responder Originator turned (transport.Stream x f))
+IsTlsBy b turned (transport.Datagrams t) = (k : datagrams.Analyzer) → IsKnown k t → b ≡ k.is_dtls
 
 -- Nothing was analyzed: over TCP the beginning of TLS is looked for on both sides.
 abbrev pub IsSilent : Protocol → TransportAnalyzer → Type 0
-IsSilent Tcp (said.Stream x f) = IsNew x × (f ≡ no_preambles)
-IsSilent Tcp (said.Datagrams t) = ⊥
-IsSilent Udp (said.Stream x f) = ⊥
-IsSilent Udp (said.Datagrams t) = IsKnown untold t
+IsSilent Tcp (transport.Stream x f) = IsNew x × (f ≡ no_preambles)
+IsSilent Tcp (transport.Datagrams t) = ⊥
+IsSilent Udp (transport.Stream x f) = ⊥
+IsSilent Udp (transport.Datagrams t) = IsKnown nothing_observed t
 
 -- All but chains are passed on as they come.
 abbrev pub are_passed : PieceKind → Bool
@@ -131,13 +131,13 @@ tunnels_in (Some b) = listed b.value
 module _ {K : Type 0} where
   -- A new analysis: the originator counts as client, and no byte or record was read.
   abbrev pub IsBegun : Protocol → TlsAnalysis K → Type 0
-  IsBegun protocol a = IsSilent protocol a.said
+  IsBegun protocol a = IsSilent protocol a.transport
       × (a ≡ record {
         alloc = a.alloc;
         protocol = protocol;
-        said = a.said;
+        transport = a.transport;
         is_turned = false;
-        heard = 0;
+        received = 0;
         is_ended_early = false;
         collector = None;
         tunnels = None;
@@ -165,103 +165,105 @@ module _ {K : Type 0} where
   -- which side is the client.
   abbrev pub analyzing : Side → Bool → Bytes → TlsAnalysis K → TlsAnalysis K → TlsAnalysis K
   analyzing s opened b a new = record (counting s b a) {
-    said = new.said;
-    is_turned = turned (first_message b) s opened a.said a.is_turned;
-    heard = plus a.heard (length b);
+    transport = new.transport;
+    is_turned = turned (first_message b) s opened a.transport a.is_turned;
+    received = plus a.received (length b);
     collector = new.collector;
   }
 
   -- The next bytes of a side's stream were analyzed behind the n bytes before its TLS, and all of
   -- them were read. The stream is read no further if the side is over then.
-  abbrev pub HearsAtIn : TransportAnalyzer → TransportAnalyzer → Side → Bool → ℕ → Stream → Stream
+  abbrev pub AnalyzesAtIn : TransportAnalyzer → TransportAnalyzer → Side → Bool → ℕ → Stream
+      → Stream
       → TlsAnalysis K → TlsAnalysis K → Type 0
-  HearsAtIn (said.Stream x f) (said.Stream y g) s opened n t u a b =
-      IsHeardOn x (direction_of b.is_turned s) (drop n (next_bytes t t.reading)) y
+  AnalyzesAtIn (transport.Stream x f) (transport.Stream y g) s opened n t u a b =
+      IsReadOn x (direction_of b.is_turned s) (drop n (next_bytes t t.reading)) y
       × (g ≡ begun_behind (is_unknown x (direction_of b.is_turned s)) s n f)
       × (u ≡ stopped_if (is_over y (direction_of b.is_turned s))
       (handing_on (length (next_bytes t t.reading)) t))
       × (b ≡ analyzing s opened (drop n (next_bytes t t.reading)) a b)
-  HearsAtIn (said.Stream x f) (said.Datagrams y) s opened n t u a b = ⊥
-  HearsAtIn (said.Datagrams x) y s opened n t u a b = (b ≡ a) × (u ≡ t)
+  AnalyzesAtIn (transport.Stream x f) (transport.Datagrams y) s opened n t u a b = ⊥
+  AnalyzesAtIn (transport.Datagrams x) y s opened n t u a b = (b ≡ a) × (u ≡ t)
 
-  unfoldable pub HearsAt : Side → Bool → ℕ → Stream → Stream → TlsAnalysis K → TlsAnalysis K
+  unfoldable pub AnalyzesAt : Side → Bool → ℕ → Stream → Stream → TlsAnalysis K → TlsAnalysis K
       → Type 0
-  HearsAt s opened n t u a b = HearsAtIn a.said b.said s opened n t u a b
+  AnalyzesAt s opened n t u a b = AnalyzesAtIn a.transport b.transport s opened n t u a b
 
   -- This many bytes of it were skipped, and no more.
   abbrev pub PassesOverIn : TransportAnalyzer → Side → ℕ → Stream → Stream → TlsAnalysis K
       → TlsAnalysis K → Type 0
-  PassesOverIn (said.Stream x f) s n t u a b =
-      (b ≡ record a { said = said.Stream x (passing s n f) }) × (u ≡ handing_on n t)
-  PassesOverIn (said.Datagrams x) s n t u a b = (b ≡ a) × (u ≡ t)
+  PassesOverIn (transport.Stream x f) s n t u a b =
+      (b ≡ record a { transport = transport.Stream x (passing s n f) }) × (u ≡ handing_on n t)
+  PassesOverIn (transport.Datagrams x) s n t u a b = (b ≡ a) × (u ≡ t)
 
   unfoldable pub PassesOver : Side → ℕ → Stream → Stream → TlsAnalysis K → TlsAnalysis K → Type 0
-  PassesOver s n t u a b = PassesOverIn a.said s n t u a b
+  PassesOver s n t u a b = PassesOverIn a.transport s n t u a b
 
   -- The side was analyzed as one that doesn't speak TLS, and is read no further.
-  abbrev pub HearsNoneIn : TransportAnalyzer → TransportAnalyzer → Side → Stream → Stream
+  abbrev pub AnalyzesNoneIn : TransportAnalyzer → TransportAnalyzer → Side → Stream → Stream
       → TlsAnalysis K → TlsAnalysis K → Type 0
-  HearsNoneIn (said.Stream x f) (said.Stream y g) s t u a b =
-      IsHeardAsNone x (direction_of a.is_turned s) y × (g ≡ with_preamble s 0 f)
-      × (u ≡ stopped t t.reading) × (b ≡ record a { said = b.said })
-  HearsNoneIn (said.Stream x f) (said.Datagrams y) s t u a b = ⊥
-  HearsNoneIn (said.Datagrams x) y s t u a b = (b ≡ a) × (u ≡ t)
+  AnalyzesNoneIn (transport.Stream x f) (transport.Stream y g) s t u a b =
+      IsReadAsNone x (direction_of a.is_turned s) y × (g ≡ with_preamble s 0 f)
+      × (u ≡ stopped t t.reading) × (b ≡ record a { transport = b.transport })
+  AnalyzesNoneIn (transport.Stream x f) (transport.Datagrams y) s t u a b = ⊥
+  AnalyzesNoneIn (transport.Datagrams x) y s t u a b = (b ≡ a) × (u ≡ t)
 
-  unfoldable pub HearsNone : Side → Stream → Stream → TlsAnalysis K → TlsAnalysis K → Type 0
-  HearsNone s t u a b = HearsNoneIn a.said b.said s t u a b
+  unfoldable pub AnalyzesNone : Side → Stream → Stream → TlsAnalysis K → TlsAnalysis K → Type 0
+  AnalyzesNone s t u a b = AnalyzesNoneIn a.transport b.transport s t u a b
 
   -- A side's SSL 2.0 ClientHello was analyzed.
-  abbrev pub HearsHelloIn : TransportAnalyzer → TransportAnalyzer → Side → ssl2.ClientHello
+  abbrev pub AnalyzesHelloIn : TransportAnalyzer → TransportAnalyzer → Side → ssl2.ClientHello
       → TlsAnalysis K → TlsAnalysis K → Type 0
-  HearsHelloIn (said.Stream x f) (said.Stream y g) s hello a b =
-      IsHeardInSsl2 x (direction_of b.is_turned s) hello y × (g ≡ f)
+  AnalyzesHelloIn (transport.Stream x f) (transport.Stream y g) s hello a b =
+      IsReadInSsl2 x (direction_of b.is_turned s) hello y × (g ≡ f)
       × (b ≡ record a {
-        said = b.said;
-        is_turned = turned (Some 1) s false a.said a.is_turned;
+        transport = b.transport;
+        is_turned = turned (Some 1) s false a.transport a.is_turned;
       })
-  HearsHelloIn (said.Stream x f) (said.Datagrams y) s hello a b = ⊥
-  HearsHelloIn (said.Datagrams x) y s hello a b = b ≡ a
+  AnalyzesHelloIn (transport.Stream x f) (transport.Datagrams y) s hello a b = ⊥
+  AnalyzesHelloIn (transport.Datagrams x) y s hello a b = b ≡ a
 
-  unfoldable pub HearsHello : Side → ssl2.ClientHello → TlsAnalysis K → TlsAnalysis K → Type 0
-  HearsHello s hello a b = HearsHelloIn a.said b.said s hello a b
+  unfoldable pub AnalyzesHello : Side → ssl2.ClientHello → TlsAnalysis K → TlsAnalysis K → Type 0
+  AnalyzesHello s hello a b = AnalyzesHelloIn a.transport b.transport s hello a b
 
-  abbrev pub HearsBy : Start → Side → Bool → Stream → Stream → TlsAnalysis K → TlsAnalysis K
+  abbrev pub AnalyzesBy : Start → Side → Bool → Stream → Stream → TlsAnalysis K → TlsAnalysis K
       → Type 0
-  HearsBy Waits s opened t u a b = (u ≡ t) × (b ≡ a)
-  HearsBy (Passes n) s opened t u a b = PassesOver s n t u a b
-  HearsBy (At n) s opened t u a b = HearsAt s opened n t u a b
-  HearsBy (InSsl2 hello n) s opened t u a b = HearsHello s hello a b × (u ≡ handing_on n t)
-  HearsBy Nowhere s opened t u a b = HearsNone s t u a b
+  AnalyzesBy Waits s opened t u a b = (u ≡ t) × (b ≡ a)
+  AnalyzesBy (Passes n) s opened t u a b = PassesOver s n t u a b
+  AnalyzesBy (At n) s opened t u a b = AnalyzesAt s opened n t u a b
+  AnalyzesBy (InSsl2 hello n) s opened t u a b = AnalyzesHello s hello a b × (u ≡ handing_on n t)
+  AnalyzesBy Nowhere s opened t u a b = AnalyzesNone s t u a b
 
   -- The next bytes of a side's stream were analyzed from where its TLS begins, or skipped.
-  unfoldable pub HearsFurther : Side → Bool → Bool → Stream → Stream → TlsAnalysis K
+  unfoldable pub AnalyzesFurther : Side → Bool → Bool → Stream → Stream → TlsAnalysis K
       → TlsAnalysis K → Type 0
-  HearsFurther s opened last t u a b =
-      HearsBy
-      (begins_in s (direction_of a.is_turned s) last a.said (next_bytes t t.reading)) s opened t u
+  AnalyzesFurther s opened last t u a b =
+      AnalyzesBy
+      (begins_in s (direction_of a.is_turned s) last a.transport
+      (next_bytes t t.reading)) s opened t u
       a b
 
   -- A side that is over and has no next bytes is read no further. That of any other is analyzed.
   abbrev pub is_done : Side → Stream → TlsAnalysis K → Bool
   is_done s t a = length (next_bytes t t.reading) == 0
-      && is_over_in (direction_of a.is_turned s) a.said
+      && is_over_in (direction_of a.is_turned s) a.transport
 
-  abbrev pub HearsUnless : Bool → Side → Bool → Bool → Stream → Stream → TlsAnalysis K
+  abbrev pub AnalyzesUnless : Bool → Side → Bool → Bool → Stream → Stream → TlsAnalysis K
       → TlsAnalysis K → Type 0
-  HearsUnless true s opened last t u a b = (u ≡ stopped t t.reading) × (b ≡ a)
-  HearsUnless false s opened last t u a b = HearsFurther s opened last t u a b
+  AnalyzesUnless true s opened last t u a b = (u ≡ stopped t t.reading) × (b ≡ a)
+  AnalyzesUnless false s opened last t u a b = AnalyzesFurther s opened last t u a b
 
-  unfoldable pub HearsStream : Side → Bool → Bool → Stream → Stream → TlsAnalysis K
+  unfoldable pub AnalyzesStream : Side → Bool → Bool → Stream → Stream → TlsAnalysis K
       → TlsAnalysis K → Type 0
-  HearsStream s opened last t u a b = HearsUnless (is_done s t a) s opened last t u a b
+  AnalyzesStream s opened last t u a b = AnalyzesUnless (is_done s t a) s opened last t u a b
 
   -- Memory was refused while a side's bytes were analyzed. What was analyzed before counts, and
   -- everything else stays, the bytes included.
   abbrev pub IsCutIn : TlsAnalysis K → TlsAnalysis K → Type 0
   IsCutIn a b = b ≡ record a {
-    said = b.said;
+    transport = b.transport;
     is_turned = b.is_turned;
-    heard = b.heard;
+    received = b.received;
     collector = b.collector;
   }
 
@@ -270,29 +272,30 @@ module _ {K : Type 0} where
 
   -- The next bytes were analyzed, up to and after an urgent byte, if one follows them. Only bytes
   -- before it may show where TLS begins.
-  pub data HearsNext (side : Side) (opened : Bool) (t u : Stream) (a b : TlsAnalysis K)
+  pub data AnalyzesNext (side : Side) (opened : Bool) (t u : Stream) (a b : TlsAnalysis K)
       : Type 0 where
     all :
-        has_urgent_next u ≡ false → HearsStream side opened (is_cut_short t t.reading) t u a b
-        → HearsNext side opened t u a b
+        has_urgent_next u ≡ false → AnalyzesStream side opened (is_cut_short t t.reading) t u a b
+        → AnalyzesNext side opened t u a b
     around_urgent :
         (mid : Stream) (between : TlsAnalysis K)
-        → HearsStream side opened (is_cut_short t t.reading) t mid a between
+        → AnalyzesStream side opened (is_cut_short t t.reading) t mid a between
         → has_urgent_next mid ≡ true
-        → HearsStream side opened (is_cut_short (passing_urgent mid) (passing_urgent mid).reading)
+        → AnalyzesStream side opened
+        (is_cut_short (passing_urgent mid) (passing_urgent mid).reading)
         (passing_urgent mid) u between b
-        → HearsNext side opened t u a b
+        → AnalyzesNext side opened t u a b
 
   -- The next bytes were analyzed. In a stream that is read no further, the records in the segment's
   -- bytes are counted, as long as none is missing.
   abbrev pub counting_on : Side → Segment → Stream → TlsAnalysis K → TlsAnalysis K
   counting_on side s t a = if has_data s then counting side (passed t.passing s) a else a
 
-  pub record HearsOn (side : Side) (opened : Bool) (s : Segment) (t u : Stream)
+  pub record AnalyzesOn (side : Side) (opened : Bool) (s : Segment) (t u : Stream)
       (a b : TlsAnalysis K) : Type 0 where
     pub mid : Stream
     pub between : TlsAnalysis K
-    pub hears : HearsNext side opened t mid a between
+    pub receives : AnalyzesNext side opened t mid a between
     pub passes : u ≡ passing_on s mid
     pub counts : b ≡ counting_on side s mid between
 
@@ -321,22 +324,22 @@ module _ {K : Type 0} where
       (connection_id_length d k.handshake) a
 
   -- A side's datagram, or the DTLS datagram inside it, was analyzed.
-  abbrev pub HearsDatagramIn : TransportAnalyzer → TransportAnalyzer → Direction → Bytes
+  abbrev pub AnalyzesDatagramIn : TransportAnalyzer → TransportAnalyzer → Direction → Bytes
       → TlsAnalysis K → TlsAnalysis K → Type 0
-  HearsDatagramIn (said.Datagrams t) (said.Datagrams u) d datagram a b =
-      ((k : datagrams.Analyzer) → IsKnown k t → IsKnown (heard k d datagram) u
-      × (b ≡ record (counting_datagram d datagram (heard k d datagram) a) {
-        said = b.said;
+  AnalyzesDatagramIn (transport.Datagrams t) (transport.Datagrams u) d datagram a b =
+      ((k : datagrams.Analyzer) → IsKnown k t → IsKnown (received k d datagram) u
+      × (b ≡ record (counting_datagram d datagram (received k d datagram) a) {
+        transport = b.transport;
         collector = b.collector;
       }))
       × (b ≡ record a {
-        said = b.said;
+        transport = b.transport;
         collector = b.collector;
         by_originator = b.by_originator;
         by_responder = b.by_responder;
       })
-  HearsDatagramIn (said.Datagrams t) (said.Stream y g) d datagram a b = ⊥
-  HearsDatagramIn (said.Stream x f) y d datagram a b = b ≡ a
+  AnalyzesDatagramIn (transport.Datagrams t) (transport.Stream y g) d datagram a b = ⊥
+  AnalyzesDatagramIn (transport.Stream x f) y d datagram a b = b ≡ a
 
-  abbrev pub HearsDatagram : Direction → Bytes → TlsAnalysis K → TlsAnalysis K → Type 0
-  HearsDatagram d datagram a b = HearsDatagramIn a.said b.said d datagram a b
+  abbrev pub AnalyzesDatagram : Direction → Bytes → TlsAnalysis K → TlsAnalysis K → Type 0
+  AnalyzesDatagram d datagram a b = AnalyzesDatagramIn a.transport b.transport d datagram a b

@@ -7,21 +7,21 @@ use Rattle.tunnels.specs.declared.tunnel.Tunnels.{Tunnels}
 use Rattle.log_connections.specs.declared.analysis.TheConstants.{ANALYSIS_COST, COLLECTOR_COST, MAX_BUFFERS, TUNNELS_COST}
 use Rattle.log_connections.specs.declared.analysis.TlsAnalysis.{TlsAnalysis}
 use Rattle.log_connections.specs.declared.analysis.TransportAnalyzer.{TransportAnalyzer}
-use Rattle.log_connections.specs.declared.analysis.TransportAnalyzer.TheVariants as said
+use Rattle.log_connections.specs.declared.analysis.TransportAnalyzer.TheVariants as transport
 
 -- The most that the buffers of a conversation take, by the bytes that were analyzed: they double
 -- when they are full.
 abbrev pub buffers_of : ℕ → ℕ
-buffers_of heard = min (min (heard * 2) (2 ^ 64 - 1)) MAX_BUFFERS
+buffers_of received = min (min (received * 2) (2 ^ 64 - 1)) MAX_BUFFERS
 
 -- Over TCP, what the analyzer keeps, and its buffers. Over UDP no clause bounds it.
 abbrev pub least_of_transport : TransportAnalyzer → ℕ → ℕ
-least_of_transport (said.Stream x f) heard = plus (capacity_of x) (buffers_of heard)
-least_of_transport (said.Datagrams t) heard = 0
+least_of_transport (transport.Stream x f) received = plus (capacity_of x) (buffers_of received)
+least_of_transport (transport.Datagrams t) received = 0
 
 abbrev pub most_of_transport : TransportAnalyzer → ℕ → ℕ
-most_of_transport (said.Stream x f) heard = plus (capacity_of x) (buffers_of heard)
-most_of_transport (said.Datagrams t) heard = 2 ^ 64 - 1
+most_of_transport (transport.Stream x f) received = plus (capacity_of x) (buffers_of received)
+most_of_transport (transport.Datagrams t) received = 2 ^ 64 - 1
 
 abbrev pub of_tunnels : Option (Box Tunnels) → ℕ
 of_tunnels None = 0
@@ -34,9 +34,9 @@ module _ {K : Type 0} where
   of_collector M (Some b) = plus (M b.value) COLLECTOR_COST
 
   abbrev pub most_bytes_of : (K → ℕ) → TlsAnalysis K → ℕ
-  most_bytes_of M a = plus (plus (plus (most_of_transport a.said a.heard)
+  most_bytes_of M a = plus (plus (plus (most_of_transport a.transport a.received)
       (of_collector M a.collector)) (of_tunnels a.tunnels)) ANALYSIS_COST
 
   abbrev pub least_bytes_of : TlsAnalysis K → ℕ
-  least_bytes_of a = plus (plus (plus (least_of_transport a.said a.heard)
+  least_bytes_of a = plus (plus (plus (least_of_transport a.transport a.received)
       (of_collector (λ _. 0) a.collector)) (of_tunnels a.tunnels)) ANALYSIS_COST

@@ -10,7 +10,7 @@ use Rattle.connections.specs.declared.five_tuple.Protocol.TheVariants.{Tcp, Udp}
 use Rattle.tls_flow.specs.declared.state.Outcome.{Outcome}
 use Rattle.tls_flow.specs.declared.state.Outcome.TheVariants as outcome
 use Rattle.log_connections.specs.Accessors.{HasOutcome, LacksFront}
-use Rattle.log_connections.specs.Analysis.{IsSpokenBy, direction_of}
+use Rattle.log_connections.specs.Analysis.{IsTlsBy, direction_of}
 use Rattle.log_connections.specs.declared.analysis.TlsAnalysis.{TlsAnalysis}
 
 abbrev pub with_protocol : Protocol → Counts → Counts
@@ -35,20 +35,20 @@ module _ {K : Type 0} where
     pub one : Bool
     pub other : Bool
     pub of_originator :
-        LacksFront one (direction_of c.attachment.is_turned Originator) c.attachment.said
+        LacksFront one (direction_of c.attachment.is_turned Originator) c.attachment.transport
     pub of_responder :
-        LacksFront other (direction_of c.attachment.is_turned Responder) c.attachment.said
+        LacksFront other (direction_of c.attachment.is_turned Responder) c.attachment.transport
     pub is : b ≡ (lacks c.from_originator c.from_originator.reading
         || (lacks c.from_responder c.from_responder.reading || (one || other)))
 
   -- A connection counts by its protocol, its outcome and its gaps, or as one that is neither TLS
   -- nor DTLS.
   pub data IsCounted (c : Connection (TlsAnalysis K)) (old new : Counts) : Type 0 where
-    speaks :
-        (o : Outcome) (gap : Bool) → IsSpokenBy true c.attachment.is_turned c.attachment.said
-        → HasOutcome o c.attachment.said → HasGap gap c
+    counts_tls :
+        (o : Outcome) (gap : Bool) → IsTlsBy true c.attachment.is_turned c.attachment.transport
+        → HasOutcome o c.attachment.transport → HasGap gap c
         → new ≡ with_gap gap (with_outcome o (with_protocol c.protocol old)) → IsCounted c old new
-    speaks_none :
-        IsSpokenBy false c.attachment.is_turned c.attachment.said
+    counts_none :
+        IsTlsBy false c.attachment.is_turned c.attachment.transport
         → new ≡ record old { other_connections = one_more old.other_connections }
         → IsCounted c old new

@@ -7,3 +7,4 @@ pub mod Sink
 pub mod Log
 pub mod Reading
 pub mod Packet
+pub mod Lends

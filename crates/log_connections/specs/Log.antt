@@ -28,7 +28,7 @@ use Rattle.connections.specs.declared.receiver.Judgement.TheVariants as judgemen
 use Rattle.connections.specs.declared.segment.Segment.{Segment}
 use Rattle.tls_detection.specs.Front.{held_datagram}
 use Rattle.log_connections.specs.Accessors.{BeginsAnother}
-use Rattle.log_connections.specs.Analysis.{HearsDatagram, HearsOn, direction_of}
+use Rattle.log_connections.specs.Analysis.{AnalyzesDatagram, AnalyzesOn, direction_of}
 use Rattle.log_connections.specs.Capacity.{most_bytes_of}
 use Rattle.log_connections.specs.Sink.{EndsAs}
 use Rattle.log_connections.specs.declared.analysis.TlsAnalysis.{TlsAnalysis}
@@ -49,14 +49,14 @@ uncounted r = record r { counts = nothing_counted }
 -- A segment is analyzed at once exactly if its connection is open, and the receiver's verdict lets
 -- it in.
 abbrev pub IsReceived : Reception → Option Verdict → Type 0
-IsReceived (reception.Heard closed) v = option_map lets_in v ≡ Some true
-IsReceived (reception.Told verdict) v = (v ≡ Some verdict) × (lets_in verdict ≡ false)
+IsReceived (reception.Received closed) v = option_map lets_in v ≡ Some true
+IsReceived (reception.Judged verdict) v = (v ≡ Some verdict) × (lets_in verdict ≡ false)
 IsReceived reception.NoneOpen v = v ≡ None
 
 -- Whether both sides closed its connection then.
 abbrev pub IsClosedAs : Reception → Bool → Type 0
-IsClosedAs (reception.Heard closed) is_closed = closed ≡ is_closed
-IsClosedAs (reception.Told verdict) is_closed = ⊤
+IsClosedAs (reception.Received closed) is_closed = closed ≡ is_closed
+IsClosedAs (reception.Judged verdict) is_closed = ⊤
 IsClosedAs reception.NoneOpen is_closed = ⊤
 
 -- A packet that its receiver drops for a wrong checksum counts as damaged. One that belongs to no
@@ -80,30 +80,30 @@ module _ {K : Type 0} where
 
   -- The next bytes of a side's stream are analyzed. Everything else in the connection stays, the
   -- other side's stream included.
-  abbrev pub HearsSide : Segment → Side → Connection (TlsAnalysis K) → Connection (TlsAnalysis K)
+  abbrev pub AnalyzesSide : Segment → Side → Connection (TlsAnalysis K) → Connection (TlsAnalysis K)
       → Type 0
-  HearsSide s Originator c c' =
+  AnalyzesSide s Originator c c' =
       (a : TlsAnalysis K) × IsReady c.attachment a
-      × HearsOn Originator (has_opening c) s c.from_originator c'.from_originator a c'.attachment
+      × AnalyzesOn Originator (has_opening c) s c.from_originator c'.from_originator a c'.attachment
       × (c' ≡ record c { from_originator = c'.from_originator; attachment = c'.attachment })
-  HearsSide s Responder c c' =
+  AnalyzesSide s Responder c c' =
       (a : TlsAnalysis K) × IsReady c.attachment a
-      × HearsOn Responder (has_opening c) s c.from_responder c'.from_responder a c'.attachment
+      × AnalyzesOn Responder (has_opening c) s c.from_responder c'.from_responder a c'.attachment
       × (c' ≡ record c { from_responder = c'.from_responder; attachment = c'.attachment })
 
   -- The segment's connection takes it, and the next bytes of its sender's stream are analyzed. All
   -- other connections stay.
-  pub record HearsSegment (s : Segment) (old new : Table (TlsAnalysis K)) : Type 0 where
+  pub record AnalyzesSegment (s : Segment) (old new : Table (TlsAnalysis K)) : Type 0 where
     pub put : Connection (TlsAnalysis K)
     pub its : Connection (TlsAnalysis K)
     pub takes : TakesSegment s (at (five_tuple_of s) old.live) put
-    pub hears : HearsSide s (side_of put s.source) put its
+    pub receives : AnalyzesSide s (side_of put s.source) put its
     pub stands : new.live ≡ (five_tuple_of s, its) ∷ others (five_tuple_of s) old.live
     pub closed : new.closed ≡ closed_behind true s old
 
   -- A segment without a connection changes none.
   abbrev pub Logs : Bool → Segment → Table (TlsAnalysis K) → Table (TlsAnalysis K) → Type 0
-  Logs true s old new = HearsSegment s old new
+  Logs true s old new = AnalyzesSegment s old new
   Logs false s old new = new ≡ old
 
   -- What its open connection's receiver does with a segment; and whether both sides closed it.
@@ -115,8 +115,8 @@ module _ {K : Type 0} where
 
   -- A segment that its open connection analyzed is logged. For any other nothing changes.
   abbrev pub LogsOpen : Reception → Segment → Table (TlsAnalysis K) → Table (TlsAnalysis K) → Type 0
-  LogsOpen (reception.Heard closed) s old new = HearsSegment s old new
-  LogsOpen (reception.Told verdict) s old new = new ≡ old
+  LogsOpen (reception.Received closed) s old new = AnalyzesSegment s old new
+  LogsOpen (reception.Judged verdict) s old new = new ≡ old
   LogsOpen reception.NoneOpen s old new = new ≡ old
 
   -- A closed connection ends, and counts as closed from then on. Any other stays.
@@ -137,57 +137,60 @@ module _ {K : Type 0} where
   abbrev pub TakesIf : Bool → Segment → Table (TlsAnalysis K) → Table (TlsAnalysis K)
       → Option (Connection (TlsAnalysis K)) → Type 0
   TakesIf true s old new over =
-      (mid : Table (TlsAnalysis K)) × HearsSegment s old mid × EndsClosed s mid new over
+      (mid : Table (TlsAnalysis K)) × AnalyzesSegment s old mid × EndsClosed s mid new over
   TakesIf false s old new over = (new ≡ old) × (over ≡ None)
 
   abbrev pub TakesIn : Segment → Table (TlsAnalysis K) → Table (TlsAnalysis K)
       → Option (Connection (TlsAnalysis K)) → Type 0
   TakesIn s old new over = TakesIf (belongs s old) s old new over
 
-  -- A pending segment is added to its sender's stream, whose next bytes are analyzed. Its connection
-  -- comes first then, and all others stay.
-  pub record HearsKept (k : Kept) (c c' : Connection (TlsAnalysis K)) : Type 0 where
+  -- A pending segment is added to its sender's stream, whose next bytes are analyzed. Its
+  -- connection comes first then, and all others stay.
+  pub record AnalyzesKept (k : Kept) (c c' : Connection (TlsAnalysis K)) : Type 0 where
     pub put : Connection (TlsAnalysis K)
     pub segment : Segment
     pub header : header_of segment ≡ k.header
     pub payload : segment.payload.now ≡ k.bytes
     pub accepts : AcceptsKept k c put
-    pub hears : HearsSide segment (side_of put segment.source) put c'
+    pub receives : AnalyzesSide segment (side_of put segment.source) put c'
 
-  abbrev pub HearsPending : FiveTuple → Kept → Table (TlsAnalysis K) → Table (TlsAnalysis K) → Type 0
-  HearsPending e k old new = ComesFirst e (HearsKept k) (at e old.live) old new
+  abbrev pub AnalyzesPending : FiveTuple → Kept → Table (TlsAnalysis K) → Table (TlsAnalysis K)
+      → Type 0
+  AnalyzesPending e k old new = ComesFirst e (AnalyzesKept k) (at e old.live) old new
 
   -- A pending segment that a segment acknowledges is taken out, and analyzed if bytes of it are
   -- missing; or there is none.
-  pub data HearsOne (s : Segment) (old new : Table (TlsAnalysis K)) : Bool → Type 0 where
+  pub data AnalyzesOne (s : Segment) (old new : Table (TlsAnalysis K)) : Bool → Type 0 where
     none : pending_outcome_in s old ≡ None → new ≡ without_pending_segment s old
-        → HearsOne s old new false
+        → AnalyzesOne s old new false
     had : pending_outcome_in s old ≡ Some outcome.Had → new ≡ without_pending_segment s old
-        → HearsOne s old new true
+        → AnalyzesOne s old new true
     taken :
         (k : Kept) → pending_outcome_in s old ≡ Some (outcome.Taken k)
-        → HearsPending (five_tuple_of s) k (without_pending_segment s old) new
-        → HearsOne s old new true
+        → AnalyzesPending (five_tuple_of s) k (without_pending_segment s old) new
+        → AnalyzesOne s old new true
 
   -- The pending segments that a segment acknowledges are analyzed one by one, at most this many.
-  pub data HearsAcknowledged (s : Segment)
+  pub data AnalyzesAcknowledged (s : Segment)
       : ℕ → Table (TlsAnalysis K) → Table (TlsAnalysis K) → Type 0 where
-    enough : (t : Table (TlsAnalysis K)) → HearsAcknowledged s 0 t t
+    enough : (t : Table (TlsAnalysis K)) → AnalyzesAcknowledged s 0 t t
     no_more :
-        (n : ℕ) (t u : Table (TlsAnalysis K)) → HearsOne s t u false → HearsAcknowledged s n t u
+        (n : ℕ) (t u : Table (TlsAnalysis K)) → AnalyzesOne s t u false
+        → AnalyzesAcknowledged s n t u
     one_then :
-        (m n : ℕ) (t mid u : Table (TlsAnalysis K)) → m ≡ n + 1 → HearsOne s t mid true
-        → HearsAcknowledged s n mid u → HearsAcknowledged s m t u
+        (m n : ℕ) (t mid u : Table (TlsAnalysis K)) → m ≡ n + 1 → AnalyzesOne s t mid true
+        → AnalyzesAcknowledged s n mid u → AnalyzesAcknowledged s m t u
 
-  abbrev pub HearsAllAcknowledged : Segment → Table (TlsAnalysis K) → Table (TlsAnalysis K) → Type 0
-  HearsAllAcknowledged s old new = HearsAcknowledged s MAX_PENDING old new
+  abbrev pub AnalyzesAllAcknowledged : Segment → Table (TlsAnalysis K) → Table (TlsAnalysis K)
+      → Type 0
+  AnalyzesAllAcknowledged s old new = AnalyzesAcknowledged s MAX_PENDING old new
 
   -- The receiver takes a segment or already has it: it is analyzed, behind the pending ones that it
   -- acknowledges, if it may acknowledge any.
   abbrev pub TakesBehind : Bool → Segment → Table (TlsAnalysis K) → Table (TlsAnalysis K)
       → Option (Connection (TlsAnalysis K)) → Type 0
   TakesBehind true s old new over =
-      (mid : Table (TlsAnalysis K)) × HearsAllAcknowledged s old mid × TakesIn s mid new over
+      (mid : Table (TlsAnalysis K)) × AnalyzesAllAcknowledged s old mid × TakesIn s mid new over
   TakesBehind false s old new over = TakesIn s old new over
 
   -- Everything before a segment was damaged: its connection restarts and takes it.
@@ -217,24 +220,26 @@ module _ {K : Type 0} where
 
   abbrev pub AcceptsJudged : Judgement → Bool → Segment → Table (TlsAnalysis K)
       → Table (TlsAnalysis K) → Option (Connection (TlsAnalysis K)) → Type 0
-  AcceptsJudged judgement.Taken tells s old new over = TakesBehind tells s old new over
-  AcceptsJudged judgement.Again tells s old new over = TakesBehind tells s old new over
-  AcceptsJudged (judgement.Waiting r) tells s old new over =
+  AcceptsJudged judgement.Taken acknowledges s old new over =
+      TakesBehind acknowledges s old new over
+  AcceptsJudged judgement.Again acknowledges s old new over =
+      TakesBehind acknowledges s old new over
+  AcceptsJudged (judgement.Waiting r) acknowledges s old new over =
       (new ≡ with_waiting_segment r s old) × (over ≡ None)
-  AcceptsJudged (judgement.Dropped r) tells s old new over =
+  AcceptsJudged (judgement.Dropped r) acknowledges s old new over =
       (new ≡ with_dropped_segment r s old) × (over ≡ None)
 
   -- The log does what the verdict requires.
   abbrev pub AcceptsIf : Bool → Bool → Judgement → Bool → Segment → Table (TlsAnalysis K)
       → Table (TlsAnalysis K) → Option (Connection (TlsAnalysis K)) → Type 0
-  AcceptsIf true begins_another j tells s old new over = TakesAnew s old new over
-  AcceptsIf false true j tells s old new over = TakesInAnother s old new over
-  AcceptsIf false false j tells s old new over = AcceptsJudged j tells s old new over
+  AcceptsIf true begins_another j acknowledges s old new over = TakesAnew s old new over
+  AcceptsIf false true j acknowledges s old new over = TakesInAnother s old new over
+  AcceptsIf false false j acknowledges s old new over = AcceptsJudged j acknowledges s old new over
 
   abbrev pub AcceptsBy : Verdict → Segment → Table (TlsAnalysis K) → Table (TlsAnalysis K)
       → Option (Connection (TlsAnalysis K)) → Type 0
   AcceptsBy v s old new over =
-      AcceptsIf v.shows_damage v.begins_another v.judgement v.tells s old new over
+      AcceptsIf v.shows_damage v.begins_another v.judgement v.acknowledges s old new over
 
   -- A segment is accepted by the verdict of its open connection. Without one it may begin one.
   abbrev pub AcceptsAt : Option Verdict → Segment → Table (TlsAnalysis K) → Table (TlsAnalysis K)
@@ -246,7 +251,8 @@ module _ {K : Type 0} where
       → Option (Connection (TlsAnalysis K)) → Type 0
   AcceptsSegment s old new over = AcceptsAt (verdict_in s old) s old new over
 
-  -- Memory was refused for a segment. A connection is over by it only if another one took its place.
+  -- Memory was refused for a segment. A connection is over by it only if another one took its
+  -- place.
   abbrev pub RefusesIf : Bool → Bool → Segment → Table (TlsAnalysis K) → Table (TlsAnalysis K)
       → Option (Connection (TlsAnalysis K)) → Type 0
   RefusesIf true begins_another s old new over = over ≡ None
@@ -263,10 +269,11 @@ module _ {K : Type 0} where
   RefusesSegment s old new over = RefusesAt (verdict_in s old) s old new over
 
   -- A datagram, or the DTLS datagram inside it, is analyzed. Everything else in the exchange stays.
-  abbrev pub HearsFrom : Datagram → Connection (TlsAnalysis K) → Connection (TlsAnalysis K) → Type 0
-  HearsFrom d c c' =
+  abbrev pub AnalyzesFrom : Datagram → Connection (TlsAnalysis K) → Connection (TlsAnalysis K)
+      → Type 0
+  AnalyzesFrom d c c' =
       (a : TlsAnalysis K) × IsReady c.attachment a
-      × HearsDatagram (direction_of c.attachment.is_turned (side_of c d.source))
+      × AnalyzesDatagram (direction_of c.attachment.is_turned (side_of c d.source))
       (held_datagram d.payload.now) a c'.attachment
       × (c' ≡ record c { attachment = c'.attachment })
 
@@ -275,7 +282,7 @@ module _ {K : Type 0} where
     pub put : Connection (TlsAnalysis K)
     pub its : Connection (TlsAnalysis K)
     pub takes : TakesDatagram d (at (five_tuple_of_datagram d) old.live) put
-    pub hears : HearsFrom d put its
+    pub receives : AnalyzesFrom d put its
     pub stands : new.live ≡ (five_tuple_of_datagram d, its) ∷ others
         (five_tuple_of_datagram d) old.live
     pub closed : new.closed ≡ old.closed
@@ -289,12 +296,12 @@ module _ {K : Type 0} where
   BeginsAnotherIn begins d None = ⊥
   BeginsAnotherIn begins d (Some c) =
       BeginsAnother begins (direction_of c.attachment.is_turned (side_of c d.source))
-      (held_datagram d.payload.now) c.attachment.said
+      (held_datagram d.payload.now) c.attachment.transport
 
   -- How a datagram is delivered: analyzed, damaged, beginning another association, or without an
   -- open exchange.
   abbrev pub IsDelivered : Delivery → Datagram → Table (TlsAnalysis K) → Type 0
-  IsDelivered delivery.Heard d t = (is_damaged_in d t ≡ Some false)
+  IsDelivered delivery.Received d t = (is_damaged_in d t ≡ Some false)
       × BeginsAnotherIn false d (at (five_tuple_of_datagram d) t.live)
   IsDelivered delivery.Damaged d t = is_damaged_in d t ≡ Some true
   IsDelivered delivery.BeginsAnother d t = (is_damaged_in d t ≡ Some false)
@@ -305,7 +312,7 @@ module _ {K : Type 0} where
   -- nothing changes.
   abbrev pub LogsExchange : Delivery → Datagram → Table (TlsAnalysis K)
       → Table (TlsAnalysis K) → Type 0
-  LogsExchange delivery.Heard d old new = LogsDatagram d old new
+  LogsExchange delivery.Received d old new = LogsDatagram d old new
   LogsExchange delivery.Damaged d old new = DropsDatagram d true old new
   LogsExchange delivery.BeginsAnother d old new = new ≡ old
   LogsExchange delivery.NoneOpen d old new = new ≡ old
@@ -325,7 +332,7 @@ module _ {K : Type 0} where
 
   abbrev pub AcceptsDelivered : Delivery → Datagram → Table (TlsAnalysis K) → Table (TlsAnalysis K)
       → Option (Connection (TlsAnalysis K)) → Type 0
-  AcceptsDelivered delivery.Heard d old new over = LogsDatagram d old new × (over ≡ None)
+  AcceptsDelivered delivery.Received d old new over = LogsDatagram d old new × (over ≡ None)
   AcceptsDelivered delivery.Damaged d old new over = DropsDatagram d true old new × (over ≡ None)
   AcceptsDelivered delivery.BeginsAnother d old new over = LogsInAnother d old new over
   AcceptsDelivered delivery.NoneOpen d old new over =
@@ -344,14 +351,16 @@ module _ {K : Type 0} where
       : Option (Connection (TlsAnalysis K)) → Type 0 where
     before_next : new ≡ old → RefusesInNext d old new None
     behind_next :
-        (mid : Table (TlsAnalysis K)) → BeginsAfter d (at (five_tuple_of_datagram d) old.live) old mid
+        (mid : Table (TlsAnalysis K))
+        → BeginsAfter d (at (five_tuple_of_datagram d) old.live) old mid
         → KeepsOthers (five_tuple_of_datagram d) mid.live new.live
         → RefusesInNext d old new (at (five_tuple_of_datagram d) old.live)
 
-  -- Memory was refused for a datagram. An exchange is over by it only if another one took its place.
+  -- Memory was refused for a datagram. An exchange is over by it only if another one took its
+  -- place.
   abbrev pub RefusesDelivered : Delivery → Datagram → Table (TlsAnalysis K) → Table (TlsAnalysis K)
       → Option (Connection (TlsAnalysis K)) → Type 0
-  RefusesDelivered delivery.Heard d old new over = over ≡ None
+  RefusesDelivered delivery.Received d old new over = over ≡ None
   RefusesDelivered delivery.Damaged d old new over = over ≡ None
   RefusesDelivered delivery.BeginsAnother d old new over = RefusesInNext d old new over
   RefusesDelivered delivery.NoneOpen d old new over = over ≡ None
@@ -372,7 +381,8 @@ module _ {K : Type 0} where
   Takes (arrival.Segment s) old new over = AcceptsSegment s old new over
   Takes (arrival.Datagram d) old new over = AcceptsDatagram d old new over
 
-  -- Bytes that disagreed in a datagram's fragments are counted for the sender of the arrival inside.
+  -- Bytes that disagreed in a datagram's fragments are counted for the sender of the arrival
+  -- inside.
   abbrev pub disagreeing_from : Side → ℕ → Connection (TlsAnalysis K) → Connection (TlsAnalysis K)
   disagreeing_from Originator n c =
       record c { from_originator = with_more_disagreeing n c.from_originator }

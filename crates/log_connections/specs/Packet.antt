@@ -37,8 +37,8 @@ IsReadBehind (InFragments a n) read reader = uncounted reader ≡ uncounted read
 -- M is the most memory that a connection's collector takes.
 module _ {K : Type 0} (M : K → ℕ) where
   -- An arrival is accepted. The sink receives the connection that is over by it. Without memory for
-  -- the arrival, it receives the connection that another one replaced, the arrival's connection, and
-  -- the longest-idle one.
+  -- the arrival, it receives the connection that another one replaced, the arrival's connection,
+  -- and the longest-idle one.
   pub data Arrives (a : Arrival) (old new : Table (TlsAnalysis K))
       (before after : Option (List (Connection (TlsAnalysis K)))) : Type 0 where
     ends :
@@ -54,8 +54,8 @@ module _ {K : Type 0} (M : K → ℕ) where
         → EndsAfterRefusal (five_tuple_in a) over mid.live new.live before after
         → Arrives a old new before after
 
-  -- The sink refused the connection that is over by an arrival, its pieces, or one of those that end
-  -- without memory for the arrival; or there was none to end. All others stay.
+  -- The sink refused the connection that is over by an arrival, its pieces, or one of those that
+  -- end without memory for the arrival; or there was none to end. All others stay.
   pub data StopsArriving {E : Type 0} (a : Arrival) (error : LogError E)
       (old new : Table (TlsAnalysis K))
       (before after : Option (List (Connection (TlsAnalysis K)))) : Type 0 where

@@ -27,7 +27,8 @@ HoldsInside p d old new c = (a : Arrival)
 pub data HoldsJoined (p : Packet)
     : ℕ → ArrivalReader → Option CompletedDatagram → ArrivalReader → Content → Type 0 where
   none : (n : ℕ) (r : ArrivalReader) → HoldsJoined p n r None r Nothing
-  enough : (r : ArrivalReader) (whole : Option CompletedDatagram) → HoldsJoined p 0 r whole r Nothing
+  enough : (r : ArrivalReader) (whole : Option CompletedDatagram)
+      → HoldsJoined p 0 r whole r Nothing
   inside :
       (m n : ℕ) (old new : ArrivalReader) (d : CompletedDatagram) (c : Content) → m ≡ n + 1
       → HoldsInside p d old new c → HoldsJoined p m old (Some d) new c
@@ -50,7 +51,8 @@ HoldsFragment p old new c = (next : ArrivalReader) × (whole : Option CompletedD
 -- What the reader finds in a packet: an arrival; or none, but maybe a fragment.
 pub data Holds (p : Packet) (old new : ArrivalReader) (c : Content) : Type 0 where
   one : (a : Arrival) → Reads p old new (Some a) → c ≡ Whole a → Holds p old new c
-  joined : (mid : ArrivalReader) → Reads p old mid None → HoldsFragment p mid new c → Holds p old new c
+  joined : (mid : ArrivalReader) → Reads p old mid None → HoldsFragment p mid new c
+      → Holds p old new c
 
 -- The reader may ask for memory for a packet: for its network, if networks are told apart, or for
 -- its fragment.

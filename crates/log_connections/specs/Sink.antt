@@ -6,7 +6,7 @@ use Rattle.connections.specs.Table.{IsOver, NoneIsOver, Table, at, others}
 use Rattle.connections.specs.declared.five_tuple.FiveTuple.{FiveTuple}
 use Rattle.connections.specs.declared.connection.Connection.{Connection}
 use Rattle.connections.specs.declared.connection.Side.TheVariants.{Originator, Responder}
-use Rattle.log_connections.specs.Analysis.{HearsStream, IsCutIn, is_done}
+use Rattle.log_connections.specs.Analysis.{AnalyzesStream, IsCutIn, is_done}
 use Rattle.log_connections.specs.declared.analysis.TlsAnalysis.{TlsAnalysis}
 use Rattle.log_connections.specs.declared.sink.LogError.{LogError}
 use Rattle.log_connections.specs.declared.sink.LogError.TheVariants.{OutOfMemory, Sink}
@@ -39,21 +39,23 @@ module _ {X : Type 0} where
   as_list (Some x) = x ∷ []
 
   -- A sink received it, or failed and has what it had.
-  abbrev pub Receives : {E : Type 0} → Option (List X) → Option (List X) → Result Unit E → X → Type 0
+  abbrev pub Receives : {E : Type 0} → Option (List X) → Option (List X) → Result Unit E → X
+      → Type 0
   Receives old new (Ok u) x = Adds old new (x ∷ [])
   Receives old new (Err e) x = Adds old new []
 
 module _ {K : Type 0} where
   -- The last bytes of both streams, which were held back, were analyzed, and it may be marked as
   -- ended early. All else stays.
-  pub record HearsLast (c c' : Connection (TlsAnalysis K)) : Type 0 where
+  pub record AnalyzesLast (c c' : Connection (TlsAnalysis K)) : Type 0 where
     pub between : TlsAnalysis K
     pub last : TlsAnalysis K
     pub originator :
-        HearsStream Originator (has_opening c) true c.from_originator c'.from_originator
+        AnalyzesStream Originator (has_opening c) true c.from_originator c'.from_originator
         c.attachment between
     pub responder :
-        HearsStream Responder (has_opening c) true c.from_responder c'.from_responder between last
+        AnalyzesStream Responder
+        (has_opening c) true c.from_responder c'.from_responder between last
     pub same :
         c' ≡ record c {
           from_originator = c'.from_originator;
@@ -73,7 +75,7 @@ module _ {K : Type 0} where
         → IsCutOff c c'
     at_responder :
         (between last : TlsAnalysis K)
-        → HearsStream Originator (has_opening c) true c.from_originator c'.from_originator
+        → AnalyzesStream Originator (has_opening c) true c.from_originator c'.from_originator
         c.attachment between
         → is_done Responder c.from_responder between ≡ false → IsCutIn between last
         → c' ≡ record c {
@@ -85,7 +87,7 @@ module _ {K : Type 0} where
   -- A connection ended: its last bytes were analyzed, or it ended early, since memory was refused
   -- for them.
   pub data IsEnded (c c' : Connection (TlsAnalysis K)) : Type 0 where
-    wholly : HearsLast c c' → IsEnded c c'
+    wholly : AnalyzesLast c c' → IsEnded c c'
     cut_off : IsCutOff c c' → c'.attachment.is_ended_early ≡ true → IsEnded c c'
 
   abbrev pub EndsAs : Option (Connection (TlsAnalysis K)) → Option (Connection (TlsAnalysis K))
@@ -121,7 +123,8 @@ module _ {K : Type 0} where
       → Option (Connection (TlsAnalysis K)) → Type 0
   EndsCrowded limit t u None = (u.live ≡ t.live)
       × (IsAccounted t → total u.live ≤ open_part limit)
-  EndsCrowded limit t u (Some c') = (c : Connection (TlsAnalysis K)) × IsLastEnded t.live u.live c c'
+  EndsCrowded limit t u (Some c') =
+      (c : Connection (TlsAnalysis K)) × IsLastEnded t.live u.live c c'
       × (open_part limit < t.held)
 
   -- It is marked as ended early.
@@ -221,7 +224,8 @@ module _ {K : Type 0} where
       × Adds old between (as_list over) × EndsRefused e xs ys between new
 
   -- Or it refused that one, and no other ended; or one of the two.
-  pub data StopsAfterRefusal {E : Type 0} (e : FiveTuple) (over : Option (Connection (TlsAnalysis K)))
+  pub data StopsAfterRefusal {E : Type 0} (e : FiveTuple)
+      (over : Option (Connection (TlsAnalysis K)))
       (t u : Table (TlsAnalysis K)) (old new : Option (List (Connection (TlsAnalysis K))))
       (error : LogError E) : Type 0 where
     at_replaced : IsOfSink error → is_some over ≡ true → u ≡ t → Adds old new []

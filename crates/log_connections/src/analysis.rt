@@ -1,17 +1,19 @@
 //! The TLS or DTLS analysis of a connection.
 ghost use Rattle.std.specs.Prelude.{◌≡◌, ◌≤◌, ◌||◌, ◌^◌, ℕ, OnErr, OnOk, Some, drop, false};
 ghost use Rattle.std.specs.Option.{option_copied_mut, option_map};
+ghost use Rattle.std.specs.Borrow.{sem};
 ghost use Rattle.tls_detection.specs.Front.{first_message as first_in, held_datagram as held_datagram_of};
 ghost use Rattle.connections.specs.Stream.{is_cut_short};
 ghost use Rattle.ssl2_hello.specs.ClientHello.{view_client_hello as view_ssl2_hello};
 ghost use Rattle.tls_summary.specs.HandshakeSummary.{view_summary};
 ghost use Rattle.log_connections.specs.Accessors.{BeginsAnother, HasHandshake, HasHistory, HasOutcome, HasStop, IsEstablishedBy, IsResumedBy, LacksFront, records_of};
-ghost use Rattle.log_connections.specs.Analysis.{HearsAt, HearsDatagram, HearsFurther, HearsHello, HearsNone, HearsStream, IsBegun as IsBegunAs, IsCut, IsCutIn, IsPrepared, IsSpokenBy, Keeps, PassesOver, are_passed as are_passed_on, begins_in, counted, counting, direction_of as direction_by, is_answered as is_answered_in, is_done as is_done_in, is_over_in, is_responder as is_responder_side, is_silent_in, noted_tunnels, preamble_of, stopped_if, tunnels_in, turned, turned_by as turned_by_message};
+ghost use Rattle.log_connections.specs.Analysis.{AnalyzesAt, AnalyzesDatagram, AnalyzesFurther, AnalyzesHello, AnalyzesNone, AnalyzesStream, IsBegun as IsBegunAs, IsCut, IsCutIn, IsPrepared, IsTlsBy, Keeps, PassesOver, are_passed as are_passed_on, begins_in, counted, counting, direction_of as direction_by, is_answered as is_answered_in, is_done as is_done_in, is_over_in, is_responder as is_responder_side, is_silent_in, noted_tunnels, preamble_of, stopped_if, tunnels_in, turned, turned_by as turned_by_message};
 ghost use Rattle.log_connections.specs.Capacity.{buffers_of as buffers_by, least_bytes_of, least_of_transport, most_bytes_of, most_of_transport, of_collector as of_collector_in, of_tunnels as of_tunnels_in};
 ghost use Rattle.log_connections.specs.Fronts.{view_beginning};
+ghost use Rattle.log_connections.specs.Lends.{lends_collector};
 
-use crate::audience::Audience;
 use crate::fronts::{Beginning, Preambles, begins_at};
+use crate::piece_observer::PieceObserver;
 use connections::{Attachment, Protocol, Side, Stream};
 use dtls_analyzer::{DatagramAnalyzer, DatagramRecordCounter};
 use ssl2_hello::Ssl2ClientHello;
@@ -92,12 +94,12 @@ enum TransportAnalyzer {
 pub struct TlsAnalysis<K> {
     alloc: Global,
     protocol: Protocol,
-    said: TransportAnalyzer,
+    transport: TransportAnalyzer,
     // Whether the originator is the TLS server.
     is_turned: bool,
     // How many bytes of both streams were analyzed. The buffers of a conversation take at most
     // twice as many.
-    heard: usize,
+    received: usize,
     /// Whether it was ended early, as the longest-idle connection when memory ran short.
     pub is_ended_early: bool,
     // The collector, if pieces are kept. Boxed, since most logs keep none.
@@ -114,21 +116,21 @@ pub struct TlsAnalysis<K> {
 
 /// Returns an upper bound for the buffers of a conversation of which this many bytes were analyzed.
 /// Their memory grows by doubling.
-fn buffers_of(heard: usize) -> usize
-    ensures { result ≡ buffers_by heard }
+fn buffers_of(received: usize) -> usize
+    ensures { result ≡ buffers_by received }
 {
-    heard.saturating_mul(2).min(MAX_BUFFERS)
+    received.saturating_mul(2).min(MAX_BUFFERS)
 }
 
-/// Returns an upper bound for the memory of an analyzer and its buffers, in bytes. `heard` bytes
+/// Returns an upper bound for the memory of an analyzer and its buffers, in bytes. `received` bytes
 /// were analyzed over TCP.
-fn of_transport(said: &TransportAnalyzer, heard: usize) -> usize
-    ensures enough { least_of_transport said.now heard ≤ result }
-    ensures within { result ≤ most_of_transport said.now heard }
+fn of_transport(transport: &TransportAnalyzer, received: usize) -> usize
+    ensures enough { least_of_transport transport.now received ≤ result }
+    ensures within { result ≤ most_of_transport transport.now received }
 {
-    match said {
+    match transport {
         TransportAnalyzer::Stream(analyzer, _) => {
-            analyzer.capacity().saturating_add(buffers_of(heard))
+            analyzer.capacity().saturating_add(buffers_of(received))
         }
         TransportAnalyzer::Datagrams(analyzer) => analyzer.capacity(),
     }
@@ -215,16 +217,16 @@ impl<K: PieceCollector> Attachment for TlsAnalysis<K> {
     fn begin(alloc: Global, protocol: Protocol) -> TlsAnalysis<K>
         ensures { IsBegunAs protocol result }
     {
-        let said = match protocol {
+        let transport = match protocol {
             Protocol::Tcp => TransportAnalyzer::Stream(Analyzer::new(alloc), Preambles::NONE),
             Protocol::Udp => TransportAnalyzer::Datagrams(DatagramAnalyzer::new(alloc)),
         };
         TlsAnalysis {
             alloc,
             protocol,
-            said,
+            transport,
             is_turned: false,
-            heard: 0,
+            received: 0,
             is_ended_early: false,
             collector: None,
             tunnels: None,
@@ -241,7 +243,7 @@ impl<K: PieceCollector> Attachment for TlsAnalysis<K> {
         ensures enough { least_bytes_of self.now ≤ result }
         ensures within { result ≤ most_bytes_of K.most_bytes self.now }
     {
-        of_transport(&self.said, self.heard)
+        of_transport(&self.transport, self.received)
             .saturating_add(of_collector(&self.collector))
             .saturating_add(of_tunnels(&self.tunnels))
             .saturating_add(ANALYSIS_COST)
@@ -252,9 +254,9 @@ impl<K: PieceCollector> TlsAnalysis<K> {
     /// Returns whether it is TLS or DTLS. If other bytes came before TLS, both sides have to speak
     /// it.
     pub fn is_tls_or_dtls(&self) -> bool
-        ensures { IsSpokenBy result self.now.is_turned self.now.said }
+        ensures { IsTlsBy result self.now.is_turned self.now.transport }
     {
-        match &self.said {
+        match &self.transport {
             TransportAnalyzer::Stream(analyzer, _) => analyzer.is_tls()
                 && self.is_answered(Side::Originator, Side::Responder)
                 && self.is_answered(Side::Responder, Side::Originator),
@@ -265,9 +267,9 @@ impl<K: PieceCollector> TlsAnalysis<K> {
     /// Returns whether a side with other bytes before its TLS is answered in TLS. A lone hello may
     /// be part of another protocol's content, such as a file.
     fn is_answered(&self, side: Side, other: Side) -> bool
-        ensures { result ≡ is_answered_in side other self.now.is_turned self.now.said }
+        ensures { result ≡ is_answered_in side other self.now.is_turned self.now.transport }
     {
-        match &self.said {
+        match &self.transport {
             TransportAnalyzer::Stream(analyzer, preambles) => {
                 preambles.of(side) == 0 || analyzer.is_tls_on(self.direction(other))
             }
@@ -277,9 +279,9 @@ impl<K: PieceCollector> TlsAnalysis<K> {
 
     /// Returns the handshake summary.
     pub fn handshake(&self) -> &HandshakeSummary
-        ensures { HasHandshake (view_summary result.now) self.now.said }
+        ensures { HasHandshake (view_summary result.now) self.now.transport }
     {
-        match &self.said {
+        match &self.transport {
             TransportAnalyzer::Stream(analyzer, _) => analyzer.handshake(),
             TransportAnalyzer::Datagrams(analyzer) => analyzer.handshake(),
         }
@@ -287,9 +289,9 @@ impl<K: PieceCollector> TlsAnalysis<K> {
 
     /// Returns a letter for each event, as in Zeek's ssl_history.
     pub fn history(&self) -> &[u8]
-        ensures { HasHistory result.now self.now.said }
+        ensures { HasHistory result.now self.now.transport }
     {
-        match &self.said {
+        match &self.transport {
             TransportAnalyzer::Stream(analyzer, _) => analyzer.history(),
             TransportAnalyzer::Datagrams(analyzer) => analyzer.history(),
         }
@@ -297,9 +299,9 @@ impl<K: PieceCollector> TlsAnalysis<K> {
 
     /// Returns the state of the handshake.
     pub fn outcome(&self) -> Outcome
-        ensures { HasOutcome result self.now.said }
+        ensures { HasOutcome result self.now.transport }
     {
-        match &self.said {
+        match &self.transport {
             TransportAnalyzer::Stream(analyzer, _) => analyzer.outcome(),
             TransportAnalyzer::Datagrams(analyzer) => analyzer.outcome(),
         }
@@ -307,9 +309,9 @@ impl<K: PieceCollector> TlsAnalysis<K> {
 
     /// Returns the event that ended the handshake without success, if one did.
     pub fn stop(&self) -> Option<Stop>
-        ensures { HasStop result self.now.said }
+        ensures { HasStop result self.now.transport }
     {
-        match &self.said {
+        match &self.transport {
             TransportAnalyzer::Stream(analyzer, _) => analyzer.stop(),
             TransportAnalyzer::Datagrams(analyzer) => analyzer.stop(),
         }
@@ -317,9 +319,9 @@ impl<K: PieceCollector> TlsAnalysis<K> {
 
     /// Returns whether the readable part of the handshake is complete.
     pub fn is_established(&self) -> bool
-        ensures { IsEstablishedBy result self.now.said }
+        ensures { IsEstablishedBy result self.now.transport }
     {
-        match &self.said {
+        match &self.transport {
             TransportAnalyzer::Stream(analyzer, _) => analyzer.is_established(),
             TransportAnalyzer::Datagrams(analyzer) => analyzer.is_established(),
         }
@@ -327,9 +329,9 @@ impl<K: PieceCollector> TlsAnalysis<K> {
 
     /// Returns whether a session was resumed.
     pub fn is_resumed(&self) -> bool
-        ensures { IsResumedBy result self.now.said }
+        ensures { IsResumedBy result self.now.transport }
     {
-        match &self.said {
+        match &self.transport {
             TransportAnalyzer::Stream(analyzer, _) => analyzer.is_resumed(),
             TransportAnalyzer::Datagrams(analyzer) => analyzer.is_resumed(),
         }
@@ -338,9 +340,9 @@ impl<K: PieceCollector> TlsAnalysis<K> {
     /// Returns whether the first messages of a side weren't captured, by the message numbers of
     /// DTLS.
     pub fn lacks_front(&self, side: Side) -> bool
-        ensures { LacksFront result (direction_by self.now.is_turned side) self.now.said }
+        ensures { LacksFront result (direction_by self.now.is_turned side) self.now.transport }
     {
-        match &self.said {
+        match &self.transport {
             TransportAnalyzer::Stream(_, _) => false,
             TransportAnalyzer::Datagrams(analyzer) => analyzer.lacks_front(self.direction(side)),
         }
@@ -349,9 +351,9 @@ impl<K: PieceCollector> TlsAnalysis<K> {
     /// Returns whether a side's datagram begins another DTLS association.
     pub(crate) fn begins_another(&self, side: Side, payload: &[u8]) -> bool
         ensures { BeginsAnother result (direction_by self.now.is_turned side)
-            (held_datagram_of payload.now) self.now.said }
+            (held_datagram_of payload.now) self.now.transport }
     {
-        match &self.said {
+        match &self.transport {
             TransportAnalyzer::Stream(_, _) => false,
             TransportAnalyzer::Datagrams(analyzer) => {
                 matches!(self.direction(side), Direction::ToServer)
@@ -417,12 +419,11 @@ impl<K: PieceCollector> TlsAnalysis<K> {
 
     /// Returns the collector, if pieces are kept.
     pub fn collector(&mut self) -> Option<&mut K>
-        ensures { option_copied_mut result ≡ option_map (λ b. b.value) self.old.collector }
+        ensures* writes_back { sem 𝓛 (lends_collector K.row self.entry result) }
+        ensures value { option_copied_mut result ≡ option_map (λ b. b.value) self.old.collector }
     {
-        match &mut self.collector {
-            Some(collector) => Some(&mut **collector),
-            None => None,
-        }
+        let collector = self.collector.as_mut()?;
+        Some(collector.as_mut())
     }
 
     /// Returns the collector, if there is one.
@@ -458,9 +459,9 @@ impl<K: PieceCollector> TlsAnalysis<K> {
 
     /// Returns how many bytes came before a side's TLS; 0 if no TLS was found.
     pub fn preamble(&self, side: Side) -> u64
-        ensures { result ≡ preamble_of side self.now.said }
+        ensures { result ≡ preamble_of side self.now.transport }
     {
-        match &self.said {
+        match &self.transport {
             TransportAnalyzer::Stream(_, preambles) => preambles.of(side),
             TransportAnalyzer::Datagrams(_) => 0,
         }
@@ -468,9 +469,9 @@ impl<K: PieceCollector> TlsAnalysis<K> {
 
     /// Returns whether neither side of a stream is analyzed yet.
     fn are_silent(&self) -> bool
-        ensures { result ≡ is_silent_in self.now.said }
+        ensures { result ≡ is_silent_in self.now.transport }
     {
-        match &self.said {
+        match &self.transport {
             TransportAnalyzer::Stream(analyzer, _) => {
                 analyzer.is_unknown(Direction::ToServer)
                     && analyzer.is_unknown(Direction::FromServer)
@@ -483,7 +484,7 @@ impl<K: PieceCollector> TlsAnalysis<K> {
     fn see_client(&mut self, side: Side, bytes: &[u8], is_opened: bool)
         ensures { self.new ≡ record self.old {
           is_turned =
-              turned (first_in bytes.now) side is_opened self.old.said self.old.is_turned;
+              turned (first_in bytes.now) side is_opened self.old.transport self.old.is_turned;
         } }
     {
         if !self.are_silent() {
@@ -496,7 +497,7 @@ impl<K: PieceCollector> TlsAnalysis<K> {
     /// message of the connection.
     fn see_ssl2_client(&mut self, side: Side)
         ensures { self.new ≡ record self.old
-            { is_turned = turned (Some 1) side false self.old.said self.old.is_turned } }
+            { is_turned = turned (Some 1) side false self.old.transport self.old.is_turned } }
     {
         if !self.are_silent() {
             return;
@@ -515,7 +516,7 @@ impl<K: PieceCollector> TlsAnalysis<K> {
     }
 
     /// Analyzes a side's bytes behind the `n` bytes before its TLS.
-    #[tactic(auto, unfolding(crate::specs::Analysis::HearsAt))]
+    #[tactic(auto, unfolding(crate::specs::Analysis::AnalyzesAt))]
     fn analyze_at(
         &mut self,
         stream: &mut Stream,
@@ -524,30 +525,30 @@ impl<K: PieceCollector> TlsAnalysis<K> {
         n: usize,
         known: &mut CertificateCache,
     ) -> Result<(), AllocError>
-        ensures heard { OnOk result
-            (HearsAt side is_opened n stream.old stream.new self.old self.new) }
+        ensures analysis { OnOk result
+            (AnalyzesAt side is_opened n stream.old stream.new self.old self.new) }
         ensures cut { OnErr result (IsCut stream.old stream.new self.old self.new) }
     {
         let all = stream.available();
         let bytes = behind(all, n);
         self.see_client(side, bytes, is_opened);
         let direction = self.direction(side);
-        let TransportAnalyzer::Stream(analyzer, preambles) = &mut self.said else {
+        let TransportAnalyzer::Stream(analyzer, preambles) = &mut self.transport else {
             return Ok(());
         };
         preambles.begin(analyzer.is_unknown(direction), side, n);
-        self.heard = self.heard.saturating_add(bytes.len());
-        let mut audience = Audience {
+        self.received = self.received.saturating_add(bytes.len());
+        let mut observer = PieceObserver {
             collector: mem::replace(&mut self.collector, None),
             known,
         };
-        let is_heard = analyzer.analyze_with(self.alloc, direction, bytes, &mut audience);
-        let Audience {
+        let is_received = analyzer.analyze_with(self.alloc, direction, bytes, &mut observer);
+        let PieceObserver {
             collector,
             known: _,
-        } = audience;
+        } = observer;
         self.collector = collector;
-        is_heard?;
+        is_received?;
         let is_over = analyzer.is_over(direction);
         self.count_records(side, bytes);
         let len = all.len();
@@ -558,27 +559,27 @@ impl<K: PieceCollector> TlsAnalysis<K> {
 
     /// Analyzes the SSL 2.0 ClientHello with which a side begins. What is behind it is analyzed
     /// with the next bytes.
-    #[tactic(auto, unfolding(crate::specs::Analysis::HearsHello))]
+    #[tactic(auto, unfolding(crate::specs::Analysis::AnalyzesHello))]
     fn analyze_ssl2(&mut self, side: Side, hello: &Ssl2ClientHello<'_>) -> Result<(), AllocError>
-        ensures heard { OnOk result
-            (HearsHello side (view_ssl2_hello hello.now) self.old self.new) }
+        ensures analysis { OnOk result
+            (AnalyzesHello side (view_ssl2_hello hello.now) self.old self.new) }
         ensures cut { OnErr result (IsCutIn self.old self.new) }
     {
         self.see_ssl2_client(side);
         let direction = self.direction(side);
-        let TransportAnalyzer::Stream(analyzer, _) = &mut self.said else {
+        let TransportAnalyzer::Stream(analyzer, _) = &mut self.transport else {
             return Ok(());
         };
         analyzer.analyze_ssl2(self.alloc, direction, hello)
     }
 
     /// Analyzes a side as one that doesn't speak TLS, and stops reading its stream.
-    #[tactic(auto, unfolding(crate::specs::Analysis::HearsNone))]
+    #[tactic(auto, unfolding(crate::specs::Analysis::AnalyzesNone))]
     fn skip_side(&mut self, stream: &mut Stream, side: Side)
-        ensures { HearsNone side stream.old stream.new self.old self.new }
+        ensures { AnalyzesNone side stream.old stream.new self.old self.new }
     {
         let direction = self.direction(side);
-        let TransportAnalyzer::Stream(analyzer, preambles) = &mut self.said else {
+        let TransportAnalyzer::Stream(analyzer, preambles) = &mut self.transport else {
             return;
         };
         preambles.clear(side);
@@ -591,7 +592,7 @@ impl<K: PieceCollector> TlsAnalysis<K> {
     fn pass_over(&mut self, stream: &mut Stream, side: Side, n: usize)
         ensures { PassesOver side n stream.old stream.new self.old self.new }
     {
-        if let TransportAnalyzer::Stream(_, preambles) = &mut self.said {
+        if let TransportAnalyzer::Stream(_, preambles) = &mut self.transport {
             preambles.pass(side, n);
             stream.take(n);
         }
@@ -601,9 +602,10 @@ impl<K: PieceCollector> TlsAnalysis<K> {
     /// an urgent byte, if they `are_last`.
     fn beginning<'b>(&self, bytes: &'b [u8], side: Side, are_last: bool) -> Beginning<'b>
         ensures { view_beginning result
-            ≡ begins_in side (direction_by self.now.is_turned side) are_last self.now.said bytes.now }
+            ≡ begins_in side (direction_by self.now.is_turned side) are_last self.now.transport
+            bytes.now }
     {
-        match &self.said {
+        match &self.transport {
             TransportAnalyzer::Stream(analyzer, preambles) => begins_at(
                 analyzer.is_unknown(self.direction(side)),
                 analyzer.is_tls(),
@@ -617,9 +619,9 @@ impl<K: PieceCollector> TlsAnalysis<K> {
 
     /// Returns whether a side is analyzed no further.
     fn is_over(&self, side: Side) -> bool
-        ensures { result ≡ is_over_in (direction_by self.now.is_turned side) self.now.said }
+        ensures { result ≡ is_over_in (direction_by self.now.is_turned side) self.now.transport }
     {
-        match &self.said {
+        match &self.transport {
             TransportAnalyzer::Stream(analyzer, _) => analyzer.is_over(self.direction(side)),
             TransportAnalyzer::Datagrams(_) => false,
         }
@@ -635,7 +637,7 @@ impl<K: PieceCollector> TlsAnalysis<K> {
     /// Analyzes the next bytes of a side's stream, from where its TLS begins, and skips those
     /// before. They are its last if they `are_last`. The connection's opening was captured if it
     /// `is_opened`.
-    #[tactic(auto, unfolding(crate::specs::Analysis::HearsStream))]
+    #[tactic(auto, unfolding(crate::specs::Analysis::AnalyzesStream))]
     pub(crate) fn analyze_stream(
         &mut self,
         stream: &mut Stream,
@@ -644,8 +646,8 @@ impl<K: PieceCollector> TlsAnalysis<K> {
         are_last: bool,
         known: &mut CertificateCache,
     ) -> Result<(), AllocError>
-        ensures heard { OnOk result
-            (HearsStream side is_opened (are_last || is_cut_short stream.old stream.old.reading)
+        ensures analysis { OnOk result
+            (AnalyzesStream side is_opened (are_last || is_cut_short stream.old stream.old.reading)
             stream.old stream.new self.old self.new) }
         ensures cut { OnErr result (IsCut stream.old stream.new self.old self.new) }
         ensures undone { OnErr result (is_done_in side stream.old self.old ≡ false) }
@@ -655,12 +657,12 @@ impl<K: PieceCollector> TlsAnalysis<K> {
             stream.stop();
             return Ok(());
         }
-        self.hear_further(stream, side, is_opened, are_last, known)
+        self.analyze_further(stream, side, is_opened, are_last, known)
     }
 
     /// Analyzes the next bytes of a side that has any, or may be analyzed further.
-    #[tactic(auto, unfolding(crate::specs::Analysis::HearsFurther))]
-    fn hear_further(
+    #[tactic(auto, unfolding(crate::specs::Analysis::AnalyzesFurther))]
+    fn analyze_further(
         &mut self,
         stream: &mut Stream,
         side: Side,
@@ -668,8 +670,8 @@ impl<K: PieceCollector> TlsAnalysis<K> {
         are_last: bool,
         known: &mut CertificateCache,
     ) -> Result<(), AllocError>
-        ensures heard { OnOk result
-            (HearsFurther side is_opened (are_last || is_cut_short stream.old stream.old.reading)
+        ensures analysis { OnOk result
+            (AnalyzesFurther side is_opened (are_last || is_cut_short stream.old stream.old.reading)
             stream.old stream.new self.old self.new) }
         ensures cut { OnErr result (IsCut stream.old stream.new self.old self.new) }
     {
@@ -717,23 +719,23 @@ impl<K: PieceCollector> TlsAnalysis<K> {
         known: &mut CertificateCache,
     ) -> Result<(), AllocError>
         ensures { OnOk result
-            (HearsDatagram direction (held_datagram_of payload.now) self.old self.new) }
+            (AnalyzesDatagram direction (held_datagram_of payload.now) self.old self.new) }
     {
         let payload = held_datagram(payload);
-        let TransportAnalyzer::Datagrams(analyzer) = &mut self.said else {
+        let TransportAnalyzer::Datagrams(analyzer) = &mut self.transport else {
             return Ok(());
         };
-        let mut audience = Audience {
+        let mut observer = PieceObserver {
             collector: mem::replace(&mut self.collector, None),
             known,
         };
-        let is_heard = analyzer.analyze_with(self.alloc, direction, payload, &mut audience);
-        let Audience {
+        let is_received = analyzer.analyze_with(self.alloc, direction, payload, &mut observer);
+        let PieceObserver {
             collector,
             known: _,
-        } = audience;
+        } = observer;
         self.collector = collector;
-        is_heard?;
+        is_received?;
         // (the version and the connection ids may be in this datagram, before its encrypted
         // records)
         let id_len = analyzer.handshake().connection_id_len(direction);

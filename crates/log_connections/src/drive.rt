@@ -193,8 +193,8 @@ impl<K: PieceCollector> Log<K> {
         self.end_crowded(arrival.time(), sink)
     }
 
-    /// Adds a segment or datagram to its connection. Passes the connection that is over by it to the
-    /// sink, or else the pieces that it completed.
+    /// Adds a segment or datagram to its connection. Passes the connection that is over by it to
+    /// the sink, or else the pieces that it completed.
     fn process_arrival<S: Sink<K>>(
         &mut self,
         arrival: &Arrival<'_>,

@@ -2,7 +2,7 @@
 ghost use Rattle.std.specs.Prelude.{◌≡◌, ◌<◌, IfSome, OnErr, OnOk, length};
 ghost use Rattle.std.specs.Option.{option_map};
 ghost use Rattle.log_connections.specs.Log.{uncounted};
-ghost use Rattle.log_connections.specs.Sink.{EndsAs, EndsIdle, EndsLast, HearsLast, IsCutOff, IsEnded};
+ghost use Rattle.log_connections.specs.Sink.{EndsAs, EndsIdle, EndsLast, AnalyzesLast, IsCutOff, IsEnded};
 
 use crate::analysis::{PieceCollector, TlsAnalysis};
 use crate::log::Log;
@@ -15,15 +15,15 @@ fn analyze_last<K: PieceCollector>(
     connection: &mut Connection<TlsAnalysis<K>>,
     known: &mut CertificateCache,
 ) -> Result<(), AllocError>
-    ensures heard { OnOk result (HearsLast connection.old connection.new) }
+    ensures analysis { OnOk result (AnalyzesLast connection.old connection.new) }
     ensures cut { OnErr result (IsCutOff connection.old connection.new) }
 {
     let is_opened = connection.has_opening();
-    let heard = &mut connection.attachment;
+    let analysis = &mut connection.attachment;
     let stream = &mut connection.from_originator;
-    heard.analyze_stream(stream, Side::Originator, is_opened, true, known)?;
+    analysis.analyze_stream(stream, Side::Originator, is_opened, true, known)?;
     let stream = &mut connection.from_responder;
-    heard.analyze_stream(stream, Side::Responder, is_opened, true, known)
+    analysis.analyze_stream(stream, Side::Responder, is_opened, true, known)
 }
 
 impl<K: PieceCollector> Log<K> {

@@ -3,7 +3,7 @@ ghost use Rattle.std.specs.Prelude.{◌≡◌, IfErr, IfOk, OnErr, OnOk};
 ghost use Rattle.std.specs.Option.{option_map};
 ghost use Rattle.connections.specs.Datagram.{five_tuple_of_datagram};
 ghost use Rattle.connections.specs.Segment.{is_refused};
-ghost use Rattle.log_connections.specs.Log.{AcceptsDatagram, BeginsUnless, HearsFrom, IsDelivered, KeepsOthers, LogsDatagram, LogsExchange, LogsInAnother, RefusesDatagram, RefusesInNext, uncounted};
+ghost use Rattle.log_connections.specs.Log.{AcceptsDatagram, BeginsUnless, AnalyzesFrom, IsDelivered, KeepsOthers, LogsDatagram, LogsExchange, LogsInAnother, RefusesDatagram, RefusesInNext, uncounted};
 ghost use Rattle.log_connections.specs.declared.exchanges.Delivery.TheVariants as delivered;
 
 use crate::analysis::{PieceCollector, PieceKind, TlsAnalysis};
@@ -17,7 +17,7 @@ use tunnels::Tunnels;
 /// What happened to a datagram.
 pub enum Delivery {
     /// Its exchange analyzed it.
-    Heard,
+    Received,
     /// It was counted for a wrong checksum.
     Damaged,
     /// It begins another exchange in place of the open one.
@@ -34,13 +34,13 @@ fn analyze_from<K: PieceCollector>(
     tunnels: &Tunnels,
     known: &mut CertificateCache,
 ) -> Result<(), AllocError>
-    ensures { OnOk result (HearsFrom datagram.now exchange.old exchange.new) }
+    ensures { OnOk result (AnalyzesFrom datagram.now exchange.old exchange.new) }
 {
     let side = exchange.side_of(datagram.source);
-    let heard = &mut exchange.attachment;
-    let direction = heard.direction(side);
-    heard.prepare(tunnels, kept)?;
-    heard.analyze_datagram(direction, datagram.payload, known)
+    let analysis = &mut exchange.attachment;
+    let direction = analysis.direction(side);
+    analysis.prepare(tunnels, kept)?;
+    analysis.analyze_datagram(direction, datagram.payload, known)
 }
 
 impl<K: PieceCollector> Log<K> {
@@ -53,7 +53,7 @@ impl<K: PieceCollector> Log<K> {
         ensures delivered { IfOk result
             (λ delivery. IsDelivered delivery datagram.now self.old.connections) }
         ensures refused { OnErr result
-            (IsDelivered delivered.Heard datagram.now self.old.connections) }
+            (IsDelivered delivered.Received datagram.now self.old.connections) }
         ensures others { KeepsOthers (five_tuple_of_datagram datagram.now) self.old.connections.live
             self.new.connections.live }
         ensures memory { self.new.memory ≡ self.old.memory }
@@ -81,7 +81,7 @@ impl<K: PieceCollector> Log<K> {
         )?;
         self.is_unsettled = !exchange.is_settled();
         self.connections.promote(&five_tuple);
-        Ok(Delivery::Heard)
+        Ok(Delivery::Received)
     }
 
     /// Analyzes a datagram in its exchange. Removes and returns the exchange that another one
@@ -100,7 +100,7 @@ impl<K: PieceCollector> Log<K> {
         ensures reader { uncounted self.new.arrivals ≡ uncounted self.old.arrivals }
     {
         match self.analyze_exchange(datagram)? {
-            Delivery::Heard => Ok(None),
+            Delivery::Received => Ok(None),
             Delivery::Damaged => {
                 add_one(&mut self.arrivals.counts.damaged);
                 Ok(None)

@@ -14,7 +14,6 @@
 #![tactic(auto)]
 
 mod analysis;
-mod audience;
 mod drive;
 mod ending;
 mod exchanges;
@@ -22,6 +21,7 @@ mod found;
 mod fronts;
 mod log;
 mod memory;
+mod piece_observer;
 mod sink;
 
 pub use analysis::{ANALYSIS_COST, PieceCollector, PieceKind, TlsAnalysis};

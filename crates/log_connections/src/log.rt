@@ -6,8 +6,8 @@ ghost use Rattle.arrivals.specs.Reader.{IsNew};
 ghost use Rattle.connections.specs.Connection.{is_for_checksum, lets_in, side_of};
 ghost use Rattle.connections.specs.Segment.{five_tuple_of};
 ghost use Rattle.connections.specs.Table.{at, belongs, with_dropped_segment, with_waiting_segment};
-ghost use Rattle.log_connections.specs.Analysis.{HearsNext, HearsOn};
-ghost use Rattle.log_connections.specs.Log.{Accepts, AcceptsBy, AcceptsJudged, AcceptsSegment, EndsAfter, EndsClosed, HearsAllAcknowledged, HearsOne, HearsPending, HearsSide, IsClosedAs, IsReceived, KeepsOthers, Logs, LogsOpen, Refuses, RefusesIf, RefusesInAnother, RefusesSegment, Settles, Takes, TakesAnew, TakesBehind, TakesIn, TakesInAnother, damaged_if, disagreeing_from, is_closed_in, uncounted, verdict_in, with_disagreeing, with_stray};
+ghost use Rattle.log_connections.specs.Analysis.{AnalyzesNext, AnalyzesOn};
+ghost use Rattle.log_connections.specs.Log.{Accepts, AcceptsBy, AcceptsJudged, AcceptsSegment, EndsAfter, EndsClosed, AnalyzesAllAcknowledged, AnalyzesOne, AnalyzesPending, AnalyzesSide, IsClosedAs, IsReceived, KeepsOthers, Logs, LogsOpen, Refuses, RefusesIf, RefusesInAnother, RefusesSegment, Settles, Takes, TakesAnew, TakesBehind, TakesIn, TakesInAnother, damaged_if, disagreeing_from, is_closed_in, uncounted, verdict_in, with_disagreeing, with_stray};
 
 use crate::analysis::{PieceCollector, PieceKind, TlsAnalysis};
 use crate::memory::SPARE;
@@ -60,9 +60,9 @@ impl<K> From<AllocError> for Refused<K> {
 /// What happened to a segment.
 enum Reception {
     /// Its connection analyzed it, and is closed or not.
-    Heard(bool),
+    Received(bool),
     /// Its connection didn't change; this is its verdict.
-    Told(Verdict),
+    Judged(Verdict),
     /// There is no open connection.
     NoneOpen,
 }
@@ -70,17 +70,18 @@ enum Reception {
 /// Analyzes the next bytes of a side's stream, on both sides of an urgent byte.
 #[inline(always)]
 fn analyze_next<K: PieceCollector>(
-    heard: &mut TlsAnalysis<K>,
+    analysis: &mut TlsAnalysis<K>,
     stream: &mut Stream,
     side: Side,
     is_opened: bool,
     known: &mut CertificateCache,
 ) -> Result<(), AllocError>
-    ensures { OnOk result (HearsNext side is_opened stream.old stream.new heard.old heard.new) }
+    ensures { OnOk result
+        (AnalyzesNext side is_opened stream.old stream.new analysis.old analysis.new) }
 {
-    heard.analyze_stream(stream, side, is_opened, false, known)?;
+    analysis.analyze_stream(stream, side, is_opened, false, known)?;
     if stream.pass_urgent() {
-        heard.analyze_stream(stream, side, is_opened, false, known)?;
+        analysis.analyze_stream(stream, side, is_opened, false, known)?;
     }
     Ok(())
 }
@@ -89,7 +90,7 @@ fn analyze_next<K: PieceCollector>(
 /// segment's records.
 #[inline(always)]
 fn analyze_side<K: PieceCollector>(
-    heard: &mut TlsAnalysis<K>,
+    analysis: &mut TlsAnalysis<K>,
     stream: &mut Stream,
     side: Side,
     is_opened: bool,
@@ -97,11 +98,11 @@ fn analyze_side<K: PieceCollector>(
     known: &mut CertificateCache,
 ) -> Result<(), AllocError>
     ensures { OnOk result
-        (HearsOn side is_opened segment.now stream.old stream.new heard.old heard.new) }
+        (AnalyzesOn side is_opened segment.now stream.old stream.new analysis.old analysis.new) }
 {
-    analyze_next(heard, stream, side, is_opened, known)?;
+    analyze_next(analysis, stream, side, is_opened, known)?;
     if segment.has_data() {
-        heard.count_records(side, stream.pass(segment));
+        analysis.count_records(side, stream.pass(segment));
     }
     Ok(())
 }
@@ -116,20 +117,20 @@ fn analyze<K: PieceCollector>(
     known: &mut CertificateCache,
 ) -> Result<(), AllocError>
     ensures { OnOk result
-        (HearsSide segment.now (side_of connection.old segment.now.source) connection.old
+        (AnalyzesSide segment.now (side_of connection.old segment.now.source) connection.old
         connection.new) }
 {
     let (side, is_opened) = (connection.side_of(segment.source), connection.has_opening());
-    let heard = &mut connection.attachment;
-    heard.prepare(tunnels, kept)?;
+    let analysis = &mut connection.attachment;
+    analysis.prepare(tunnels, kept)?;
     match side {
         Side::Originator => {
             let stream = &mut connection.from_originator;
-            analyze_side(heard, stream, side, is_opened, segment, known)
+            analyze_side(analysis, stream, side, is_opened, segment, known)
         }
         Side::Responder => {
             let stream = &mut connection.from_responder;
-            analyze_side(heard, stream, side, is_opened, segment, known)
+            analyze_side(analysis, stream, side, is_opened, segment, known)
         }
     }
 }
@@ -183,7 +184,8 @@ impl<K: PieceCollector> Log<K> {
         &mut self,
         arrival: &Arrival<'_>,
     ) -> Result<Option<Box<Connection<TlsAnalysis<K>>>>, Refused<K>>
-        ensures accepted { IfOk result (λ over. Accepts K.most_bytes arrival.now self.old.connections
+        ensures accepted { IfOk result
+            (λ over. Accepts K.most_bytes arrival.now self.old.connections
             self.new.connections (option_map (λ b. b.value) over)) }
         ensures refused { IfErr result (λ refused. Refuses arrival.now self.old.connections
             self.new.connections (option_map (λ b. b.value) refused.over)) }
@@ -236,10 +238,11 @@ impl<K: PieceCollector> Log<K> {
     /// both sides closed the connection, or `None` if the segment belongs to none.
     fn analyze_segment(&mut self, segment: &Segment<'_>) -> Result<Option<bool>, AllocError>
         ensures logged { IfOk result
-            (λ heard. Logs (is_some heard) segment.now self.old.connections self.new.connections) }
+            (λ analyzed. Logs (is_some analyzed) segment.now self.old.connections
+            self.new.connections) }
         ensures belongs { IfOk result
-            (λ heard. is_some heard ≡ belongs segment.now self.old.connections) }
-        ensures closed { IfOk result (λ heard. IfSome heard
+            (λ analyzed. is_some analyzed ≡ belongs segment.now self.old.connections) }
+        ensures closed { IfOk result (λ analyzed. IfSome analyzed
             (λ closed. closed ≡ is_closed_in segment.now self.new.connections)) }
         ensures others { KeepsOthers (five_tuple_of segment.now) self.old.connections.live
             self.new.connections.live }
@@ -265,10 +268,11 @@ impl<K: PieceCollector> Log<K> {
     /// Adds a segment that may begin a connection, and analyzes the bytes that it completes.
     fn analyze_first(&mut self, segment: &Segment<'_>) -> Result<Option<bool>, AllocError>
         ensures logged { IfOk result
-            (λ heard. Logs (is_some heard) segment.now self.old.connections self.new.connections) }
+            (λ analyzed. Logs (is_some analyzed) segment.now self.old.connections
+            self.new.connections) }
         ensures belongs { IfOk result
-            (λ heard. is_some heard ≡ belongs segment.now self.old.connections) }
-        ensures closed { IfOk result (λ heard. IfSome heard
+            (λ analyzed. is_some analyzed ≡ belongs segment.now self.old.connections) }
+        ensures closed { IfOk result (λ analyzed. IfSome analyzed
             (λ closed. closed ≡ is_closed_in segment.now self.new.connections)) }
         ensures others { KeepsOthers (five_tuple_of segment.now) self.old.connections.live
             self.new.connections.live }
@@ -301,8 +305,8 @@ impl<K: PieceCollector> Log<K> {
         five_tuple: &FiveTuple,
         kept: &PendingSegment,
     ) -> Result<(), AllocError>
-        ensures heard { OnOk result
-            (HearsPending five_tuple.now kept.now self.old.connections self.new.connections) }
+        ensures analysis { OnOk result
+            (AnalyzesPending five_tuple.now kept.now self.old.connections self.new.connections) }
         ensures others { KeepsOthers five_tuple.now self.old.connections.live
             self.new.connections.live }
         ensures memory { self.new.memory ≡ self.old.memory }
@@ -323,8 +327,8 @@ impl<K: PieceCollector> Log<K> {
 
     /// Analyzes the pending segments that this segment acknowledges.
     fn analyze_acknowledged(&mut self, segment: &Segment<'_>) -> Result<(), AllocError>
-        ensures heard { OnOk result
-            (HearsAllAcknowledged segment.now self.old.connections self.new.connections) }
+        ensures analysis { OnOk result
+            (AnalyzesAllAcknowledged segment.now self.old.connections self.new.connections) }
         ensures others { KeepsOthers (five_tuple_of segment.now) self.old.connections.live
             self.new.connections.live }
         ensures memory { self.new.memory ≡ self.old.memory }
@@ -342,8 +346,8 @@ impl<K: PieceCollector> Log<K> {
     /// Removes a pending segment that this segment acknowledges, and analyzes it if its receiver
     /// took it. Returns whether there was one.
     fn analyze_one_acknowledged(&mut self, segment: &Segment<'_>) -> Result<bool, AllocError>
-        ensures heard { IfOk result
-            (λ was_one. HearsOne segment.now self.old.connections self.new.connections was_one) }
+        ensures analysis { IfOk result
+            (λ was_one. AnalyzesOne segment.now self.old.connections self.new.connections was_one) }
         ensures others { KeepsOthers (five_tuple_of segment.now) self.old.connections.live
             self.new.connections.live }
         ensures memory { self.new.memory ≡ self.old.memory }
@@ -372,8 +376,8 @@ impl<K: PieceCollector> Log<K> {
         ensures memory { self.new.memory ≡ self.old.memory }
         ensures reader { uncounted self.new.arrivals ≡ uncounted self.old.arrivals }
     {
-        let heard = self.analyze_segment(segment)?;
-        self.end_analyzed(segment, heard)
+        let analysis = self.analyze_segment(segment)?;
+        self.end_analyzed(segment, analysis)
     }
 
     /// Counts a segment that belongs to no connection, as damaged or stray. (The last
@@ -397,16 +401,16 @@ impl<K: PieceCollector> Log<K> {
     fn end_analyzed(
         &mut self,
         segment: &Segment<'_>,
-        heard: Option<bool>,
+        analysis: Option<bool>,
     ) -> Result<Option<Box<Connection<TlsAnalysis<K>>>>, AllocError>
-        ensures ended { IfOk result (λ over. EndsAfter heard segment.now self.old.connections
+        ensures ended { IfOk result (λ over. EndsAfter analysis segment.now self.old.connections
             self.new.connections (option_map (λ b. b.value) over)) }
         ensures others { KeepsOthers (five_tuple_of segment.now) self.old.connections.live
             self.new.connections.live }
         ensures memory { self.new.memory ≡ self.old.memory }
         ensures reader { uncounted self.new.arrivals ≡ uncounted self.old.arrivals }
     {
-        match heard {
+        match analysis {
             Some(true) => self.take_closed(segment),
             Some(false) => Ok(None),
             None => {
@@ -460,7 +464,8 @@ impl<K: PieceCollector> Log<K> {
     /// up once, and looks at the segment once.
     fn analyze_open(&mut self, segment: &Segment<'_>) -> Result<Reception, AllocError>
         ensures logged { IfOk result
-            (λ reception. LogsOpen reception segment.now self.old.connections self.new.connections) }
+            (λ reception. LogsOpen reception segment.now self.old.connections
+            self.new.connections) }
         ensures judged { IfOk result
             (λ reception. IsReceived reception (verdict_in segment.now self.old.connections)) }
         ensures refused { OnErr result
@@ -477,7 +482,7 @@ impl<K: PieceCollector> Log<K> {
             return Ok(Reception::NoneOpen);
         };
         if let Some(verdict) = connection.accept_or_judge(self.alloc, segment)? {
-            return Ok(Reception::Told(verdict));
+            return Ok(Reception::Judged(verdict));
         }
         analyze(
             connection,
@@ -490,7 +495,7 @@ impl<K: PieceCollector> Log<K> {
         self.is_unsettled = segment.has_data() && !connection.is_settled();
         let is_closed = connection.is_closed();
         self.connections.promote(&five_tuple);
-        Ok(Reception::Heard(is_closed))
+        Ok(Reception::Received(is_closed))
     }
 
     /// Processes a TCP segment by what its receiver does with it. Removes and returns its
@@ -509,13 +514,13 @@ impl<K: PieceCollector> Log<K> {
         ensures reader { uncounted self.new.arrivals ≡ uncounted self.old.arrivals }
     {
         match self.analyze_open(segment)? {
-            Reception::Heard(false) => Ok(None),
-            Reception::Heard(true) => Ok(self.take_closed(segment)?),
+            Reception::Received(false) => Ok(None),
+            Reception::Received(true) => Ok(self.take_closed(segment)?),
             Reception::NoneOpen => {
-                let heard = self.analyze_first(segment)?;
-                Ok(self.end_analyzed(segment, heard)?)
+                let analysis = self.analyze_first(segment)?;
+                Ok(self.end_analyzed(segment, analysis)?)
             }
-            Reception::Told(verdict) => self.accept_by(segment, verdict),
+            Reception::Judged(verdict) => self.accept_by(segment, verdict),
         }
     }
 
@@ -554,7 +559,7 @@ impl<K: PieceCollector> Log<K> {
         if verdict.begins_another {
             return self.take_replaced(segment);
         }
-        Ok(self.accept_judged(segment, verdict.judgement, verdict.tells)?)
+        Ok(self.accept_judged(segment, verdict.judgement, verdict.acknowledges)?)
     }
 
     /// Restarts the connection of a segment, since everything before it was damaged, and analyzes
@@ -574,15 +579,15 @@ impl<K: PieceCollector> Log<K> {
         self.take_segment(segment)
     }
 
-    /// Processes a segment by what its receiver does with it. It `tells` if it may acknowledge
-    /// pending segments.
+    /// Processes a segment by what its receiver does with it. It `acknowledges` if it may
+    /// acknowledge pending segments.
     fn accept_judged(
         &mut self,
         segment: &Segment<'_>,
         judgement: Judgement,
-        tells: bool,
+        acknowledges: bool,
     ) -> Result<Option<Box<Connection<TlsAnalysis<K>>>>, AllocError>
-        ensures accepted { IfOk result (λ over. AcceptsJudged judgement tells segment.now
+        ensures accepted { IfOk result (λ over. AcceptsJudged judgement acknowledges segment.now
             self.old.connections self.new.connections (option_map (λ b. b.value) over)) }
         ensures others { KeepsOthers (five_tuple_of segment.now) self.old.connections.live
             self.new.connections.live }
@@ -598,8 +603,8 @@ impl<K: PieceCollector> Log<K> {
                 self.keep_waiting(segment, reason)?;
                 Ok(None)
             }
-            Judgement::Taken => self.take_behind(segment, tells),
-            Judgement::Again => self.take_behind(segment, tells),
+            Judgement::Taken => self.take_behind(segment, acknowledges),
+            Judgement::Again => self.take_behind(segment, acknowledges),
         }
     }
 
@@ -631,20 +636,22 @@ impl<K: PieceCollector> Log<K> {
         self.connections.wait(segment, reason)
     }
 
-    /// Analyzes a segment, behind the pending segments that it acknowledges if it `tells` of any.
+    /// Analyzes a segment, behind the pending segments that it acknowledges if it `acknowledges` of
+    /// any.
     fn take_behind(
         &mut self,
         segment: &Segment<'_>,
-        tells: bool,
+        acknowledges: bool,
     ) -> Result<Option<Box<Connection<TlsAnalysis<K>>>>, AllocError>
-        ensures taken { IfOk result (λ over. TakesBehind tells segment.now self.old.connections
+        ensures taken { IfOk result
+            (λ over. TakesBehind acknowledges segment.now self.old.connections
             self.new.connections (option_map (λ b. b.value) over)) }
         ensures others { KeepsOthers (five_tuple_of segment.now) self.old.connections.live
             self.new.connections.live }
         ensures memory { self.new.memory ≡ self.old.memory }
         ensures reader { uncounted self.new.arrivals ≡ uncounted self.old.arrivals }
     {
-        if !tells {
+        if !acknowledges {
             return self.take_segment(segment);
         }
         self.analyze_acknowledged(segment)?;

@@ -5,7 +5,7 @@
 //! formatted when it is written. [`Object`](objects::Object) builds a JSON object field by field,
 //! and [`TextCache`](text_cache::TextCache) caches fields that were written before.
 //!
-//! This crate has no clauses, only tests.
+//! What it writes is only tested: clauses cover how cipher suites without a name are written.
 #![tactic(auto)]
 
 pub mod cell;

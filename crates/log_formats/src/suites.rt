@@ -1,4 +1,7 @@
 //! Names of cipher suites.
+ghost use Rattle.std.specs.Prelude.{◌≡◌};
+ghost use Rattle.log_formats.specs.Suites.{are_numbered as are_numbered_in};
+
 use crate::cell::Cell;
 use crate::text::{Text, name_or_number};
 use ssl2_hello::CipherSpec;
@@ -37,7 +40,9 @@ fn named(line: &str) -> Option<(u16, &str)> {
 
 impl Suites {
     /// Returns names without a list: all suites are written in this way.
-    pub fn new(alloc: Global, others: OtherSuites) -> Suites {
+    pub fn new(alloc: Global, others: OtherSuites) -> Suites
+        ensures { result.others ≡ others }
+    {
         Suites {
             names: BTreeMap::new(alloc),
             others,
@@ -77,7 +82,9 @@ impl Suites {
     }
 
     /// Returns whether suites without a name in the list are written by number.
-    pub fn are_numbered(&self) -> bool {
+    pub fn are_numbered(&self) -> bool
+        ensures { result ≡ are_numbered_in self.now }
+    {
         matches!(self.others, OtherSuites::Numbered)
     }
 

@@ -69,8 +69,8 @@ abbrev pub type_of_side : SideEvent → Option ℕ
 type_of_side (side.Event e) = type_in_stream e
 type_of_side (side.Fault f) = None
 
--- The content type of an event of DTLS that is an unencrypted message. A handshake message is one if
--- it was parsed.
+-- The content type of an event of DTLS that is an unencrypted message. A handshake message is one
+-- if it was parsed.
 abbrev pub type_in_datagram : datagrams.Event → Bool → Option ℕ
 type_in_datagram (datagram.Handshake m) true = Some 22
 type_in_datagram (datagram.Handshake m) false = None

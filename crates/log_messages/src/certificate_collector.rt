@@ -1,7 +1,7 @@
 //! The unencrypted certificates of both sides, each kept until its line is written.
 ghost use Rattle.std.specs.Prelude.{◌≡◌, ◌++◌, [], map, OnOk};
 ghost use Rattle.std.specs.Option.{option_map};
-ghost use Rattle.tls_flow.specs.Bytes.{view_heard};
+ghost use Rattle.tls_flow.specs.Bytes.{view_handshake_message};
 ghost use Rattle.log_messages.specs.Certificates.{certificates_of, sent_in, view_sent};
 
 use std::alloc::{AllocError, Global};
@@ -49,7 +49,7 @@ impl CertificateCollector {
     ) -> Result<(), AllocError>
         ensures { OnOk result (map view_sent self.new.kept.items ≡ map view_sent self.old.kept.items
             ++ sent_in direction
-            (certificates_of (option_map (λ m. view_heard m.now) message.entry))) }
+            (certificates_of (option_map (λ m. view_handshake_message m.now) message.entry))) }
     {
         let Some(message) = message else {
             return Ok(());
@@ -78,6 +78,7 @@ impl CertificateCollector {
     pub fn take(&mut self) -> Vec<SentCertificate>
         ensures taken { result.items ≡ self.old.kept.items }
         ensures none { self.new.kept.items ≡ [] }
+        ensures same { self.new ≡ record self.old { kept = self.new.kept } }
     {
         mem::replace(&mut self.kept, Vec::new(self.alloc))
     }

@@ -1,7 +1,7 @@
 //! The certificate lists of both sides, kept until the connection's line is written.
 ghost use Rattle.std.specs.Prelude.{◌≡◌, [], OnErr, OnOk};
 ghost use Rattle.std.specs.Option.{option_map};
-ghost use Rattle.tls_flow.specs.Bytes.{view_heard};
+ghost use Rattle.tls_flow.specs.Bytes.{view_handshake_message};
 ghost use Rattle.log_messages.specs.Certificates.{KeepsLast, capacity_of, certificates_of, list_of, opposite};
 
 use std::alloc::{AllocError, Global};
@@ -40,7 +40,8 @@ impl CertificateLists {
         message: Option<&HandshakeMessage<'_>>,
     ) -> Result<(), AllocError>
         ensures kept { OnOk result (KeepsLast direction
-            (certificates_of (option_map (λ m. view_heard m.now) message.entry)) self.old
+            (certificates_of (option_map
+            (λ m. view_handshake_message m.now) message.entry)) self.old
             self.new) }
         ensures none { OnErr result (list_of direction self.new ≡ []) }
         ensures others { list_of (opposite direction) self.new

@@ -362,6 +362,9 @@ impl MessageCollector {
     pub fn take(&mut self) -> Vec<SentMessage>
         ensures taken { result.items ≡ messages_of self.old }
         ensures none { messages_of self.new ≡ [] }
+        ensures same { self.new ≡ record self.old {
+          kept = record self.old.kept { messages = self.new.kept.messages };
+        } }
     {
         mem::replace(&mut self.kept.messages, Vec::new(self.alloc))
     }

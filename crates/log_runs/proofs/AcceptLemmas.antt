@@ -18,7 +18,7 @@ use Rattle.connections.specs.declared.five_tuple.FiveTuple.{FiveTuple}
 use Rattle.connections.specs.declared.receiver.Judgement.{Judgement}
 use Rattle.connections.specs.declared.receiver.Judgement.TheVariants as judgement
 use Rattle.connections.specs.declared.segment.Segment.{Segment}
-use Rattle.log_connections.specs.Log.{AcceptsAt, AcceptsDelivered, AcceptsIf, AcceptsJudged, BeginsUnless, HearsAcknowledged, HearsKept, HearsOne, HearsPending, HearsSegment, IsDelivered, Logs, LogsDatagram, Settles, Takes, TakesBehind, TakesIf, enough, had, no_more, none, one_then, taken}
+use Rattle.log_connections.specs.Log.{AcceptsAt, AcceptsDelivered, AcceptsIf, AcceptsJudged, BeginsUnless, AnalyzesAcknowledged, AnalyzesKept, AnalyzesOne, AnalyzesPending, AnalyzesSegment, IsDelivered, Logs, LogsDatagram, Settles, Takes, TakesBehind, TakesIf, enough, had, no_more, none, one_then, taken}
 use Rattle.log_connections.specs.Sink.{EndsAs}
 use Rattle.log_connections.specs.declared.analysis.TlsAnalysis.{TlsAnalysis}
 use Rattle.log_connections.specs.declared.exchanges.Delivery.{Delivery}
@@ -113,12 +113,12 @@ module _ {K : Type 0} (e : FiveTuple) where
       )
 
   module _ (s : Segment) where
-    heard_count : (old new : Table (TlsAnalysis K)) (o : Option (Connection (TlsAnalysis K)))
-        → at (five_tuple_of s) old.live ≡ o → HearsSegment s old new
+    received_count : (old new : Table (TlsAnalysis K)) (o : Option (Connection (TlsAnalysis K)))
+        → at (five_tuple_of s) old.live ≡ o → AnalyzesSegment s old new
         → count_of e new.live
         ≡ count_of e old.live + times e (begun_if (not (is_some o)) (five_tuple_of s))
-    heard_count old new o found hears =
-        put_count (five_tuple_of s) old new.live hears.its o found hears.stands
+    received_count old new o found receives =
+        put_count (five_tuple_of s) old new.live receives.its o found receives.stands
 
     taken_if : (b : Bool) (old new : Table (TlsAnalysis K))
         (o over : Option (Connection (TlsAnalysis K))) → at (five_tuple_of s) old.live ≡ o
@@ -127,14 +127,14 @@ module _ {K : Type 0} (e : FiveTuple) where
     taken_if true old new None over found h =
         omega (
           arith,
-          heard_count old h.0 None found h.1,
+          received_count old h.0 None found h.1,
           closed_out (five_tuple_of s) s.time h.0 new (ended (five_tuple_of s) h.0) over refl
               h.2.ends h.2.left,
         )
     taken_if true old new (Some c) over found h =
         omega (
           arith,
-          heard_count old h.0 (Some c) found h.1,
+          received_count old h.0 (Some c) found h.1,
           closed_out (five_tuple_of s) s.time h.0 new (ended (five_tuple_of s) h.0) over refl
               h.2.ends h.2.left,
         )
@@ -175,33 +175,33 @@ module _ {K : Type 0} (e : FiveTuple) where
     )
 
     pending_open : (k : Kept) (old mid new : Table (TlsAnalysis K))
-        → StaysOpen old mid → HearsPending (five_tuple_of s) k mid new → StaysOpen old new
-    pending_open k old mid new h hears =
-        let later = comes_first_open (HearsKept k) mid new h.1.0 h.1.1
-        (subst (λ o. ComesFirst (five_tuple_of s) (HearsKept k) o mid new) h.1.1 hears) in
+        → StaysOpen old mid → AnalyzesPending (five_tuple_of s) k mid new → StaysOpen old new
+    pending_open k old mid new h receives =
+        let later = comes_first_open (AnalyzesKept k) mid new h.1.0 h.1.1
+        (subst (λ o. ComesFirst (five_tuple_of s) (AnalyzesKept k) o mid new) h.1.1 receives) in
         (later.0 ∙ h.0, later.1)
 
     one_open : (old new : Table (TlsAnalysis K)) (b : Bool) (c : Connection (TlsAnalysis K))
-        → at (five_tuple_of s) old.live ≡ Some c → HearsOne s old new b → StaysOpen old new
+        → at (five_tuple_of s) old.live ≡ Some c → AnalyzesOne s old new b → StaysOpen old new
     one_open old new b c found (none is same) = without_pending_open old new c found same
     one_open old new b c found (had is same) = without_pending_open old new c found same
-    one_open old new b c found (taken k is hears) =
+    one_open old new b c found (taken k is receives) =
         pending_open k old (without_pending_segment s old) new
-        (without_pending_open old (without_pending_segment s old) c found refl) hears
+        (without_pending_open old (without_pending_segment s old) c found refl) receives
 
     acknowledged_open : {n : ℕ} {old new : Table (TlsAnalysis K)}
-        (c : Connection (TlsAnalysis K)) → HearsAcknowledged s n old new
+        (c : Connection (TlsAnalysis K)) → AnalyzesAcknowledged s n old new
         → at (five_tuple_of s) old.live ≡ Some c → StaysOpen old new
     acknowledged_open c (enough t) found = (refl, (c, found))
-    acknowledged_open c (no_more n t u hears) found = one_open t u false c found hears
-    acknowledged_open c (one_then m n t mid u less hears rest) found =
-        let first = one_open t mid true c found hears in
+    acknowledged_open c (no_more n t u receives) found = one_open t u false c found receives
+    acknowledged_open c (one_then m n t mid u less receives rest) found =
+        let first = one_open t mid true c found receives in
         let later = acknowledged_open first.1.0 rest first.1.1 in
         (later.0 ∙ first.0, later.1)
 
-    behind_count : (tells : Bool) (old new : Table (TlsAnalysis K))
+    behind_count : (acknowledges : Bool) (old new : Table (TlsAnalysis K))
         (over : Option (Connection (TlsAnalysis K))) (c : Connection (TlsAnalysis K))
-        → at (five_tuple_of s) old.live ≡ Some c → TakesBehind tells s old new over
+        → at (five_tuple_of s) old.live ≡ Some c → TakesBehind acknowledges s old new over
         → Balances (five_tuple_of s) false old new over
     behind_count false old new over c found h =
         taken_if (belongs s old) old new (Some c) over found h
@@ -213,19 +213,19 @@ module _ {K : Type 0} (e : FiveTuple) where
           taken_if (belongs s h.0) h.0 new (Some open_still.1.0) over open_still.1.1 h.2,
         )
 
-    judged_count : (j : Judgement) (tells : Bool) (old new : Table (TlsAnalysis K))
+    judged_count : (j : Judgement) (acknowledges : Bool) (old new : Table (TlsAnalysis K))
         (over : Option (Connection (TlsAnalysis K))) (c : Connection (TlsAnalysis K))
-        → at (five_tuple_of s) old.live ≡ Some c → AcceptsJudged j tells s old new over
+        → at (five_tuple_of s) old.live ≡ Some c → AcceptsJudged j acknowledges s old new over
         → Balances (five_tuple_of s) false old new over
-    judged_count judgement.Taken tells old new over c found h =
-        behind_count tells old new over c found h
-    judged_count judgement.Again tells old new over c found h =
-        behind_count tells old new over c found h
-    judged_count (judgement.Waiting r) tells old new over c found h =
+    judged_count judgement.Taken acknowledges old new over c found h =
+        behind_count acknowledges old new over c found h
+    judged_count judgement.Again acknowledges old new over c found h =
+        behind_count acknowledges old new over c found h
+    judged_count (judgement.Waiting r) acknowledges old new over c found h =
         keeping (five_tuple_of s) old new over
         (same_table _ new h.0 ∙ changed_at (five_tuple_of s) _ (at (five_tuple_of s) old.live) old)
         h.1
-    judged_count (judgement.Dropped r) tells old new over c found h =
+    judged_count (judgement.Dropped r) acknowledges old new over c found h =
         keeping (five_tuple_of s) old new over
         (same_table _ new h.0 ∙ changed_at (five_tuple_of s) _ (at (five_tuple_of s) old.live) old)
         h.1
@@ -245,7 +245,7 @@ module _ {K : Type 0} (e : FiveTuple) where
 
     logs_count : (b : Bool) (mid new : Table (TlsAnalysis K)) (c : Connection (TlsAnalysis K))
         → at (five_tuple_of s) mid.live ≡ Some c → Logs b s mid new → Keeps mid new
-    logs_count true mid new c found h = omega (arith, heard_count mid new (Some c) found h)
+    logs_count true mid new c found h = omega (arith, received_count mid new (Some c) found h)
     logs_count false mid new c found h = same_table mid new h
 
     -- Another connection takes the place of the open one, which comes out.
@@ -266,13 +266,13 @@ module _ {K : Type 0} (e : FiveTuple) where
           count-put e (five_tuple_of s) old.live c h.its found,
         )
 
-    accepts_if : (shows begins : Bool) (j : Judgement) (tells : Bool)
+    accepts_if : (shows begins : Bool) (j : Judgement) (acknowledges : Bool)
         (old new : Table (TlsAnalysis K)) (over : Option (Connection (TlsAnalysis K)))
         (c : Connection (TlsAnalysis K)) → at (five_tuple_of s) old.live ≡ Some c
         → (begins ≡ true → another_of s c ≡ None → ⊥)
-        → AcceptsIf shows begins j tells s old new over
+        → AcceptsIf shows begins j acknowledges s old new over
         → Balances (five_tuple_of s) (not shows && begins) old new over
-    accepts_if true begins j tells old new over c found some h =
+    accepts_if true begins j acknowledges old new over c found some h =
         let restarted = anew_open old h.0 c found
         (subst (λ o. IsAnewAt s.time (five_tuple_of s) o old h.0) found h.1) in
         omega (
@@ -280,10 +280,10 @@ module _ {K : Type 0} (e : FiveTuple) where
           restarted.0,
           taken_if (belongs s h.0) h.0 new (Some restarted.1.0) over restarted.1.1 h.2,
         )
-    accepts_if false true j tells old new over c found some h =
+    accepts_if false true j acknowledges old new over c found some h =
         replaced_count old h.mid new h.was over c found (some refl) h.replaced h.logs h.ends
-    accepts_if false false j tells old new over c found some h =
-        judged_count j tells old new over c found h
+    accepts_if false false j acknowledges old new over c found some h =
+        judged_count j acknowledges old new over c found h
 
     accepts_at : (old new : Table (TlsAnalysis K)) (o over : Option (Connection (TlsAnalysis K)))
         → at (five_tuple_of s) old.live ≡ o
@@ -354,7 +354,7 @@ module _ {K : Type 0} (e : FiveTuple) where
         → AcceptsDelivered way d old new over
         → Balances (five_tuple_of_datagram d) (begins_exchange way (is_refused d.checksum)) old new
         over
-    delivered_count delivery.Heard old new over is h =
+    delivered_count delivery.Received old new over is h =
         let its = is_open (at (five_tuple_of_datagram d) old.live) false is.0 in
         omega (
           arith,

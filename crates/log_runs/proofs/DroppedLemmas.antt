@@ -123,31 +123,31 @@ module _ {T : Type 0} where
 
 module _ {K : Type 0} where
   -- A segment.
-  judged : (s : Segment) (j : Judgement) (tells : Bool) (old new : Table (TlsAnalysis K))
+  judged : (s : Segment) (j : Judgement) (acknowledges : Bool) (old new : Table (TlsAnalysis K))
       (over : Option (Connection (TlsAnalysis K))) → not (is_kept j) ≡ true
-      → AcceptsIf false false j tells s old new over → (over ≡ None) × AllAlone old new
-  judged s judgement.Taken tells old new over h is = cc
-  judged s judgement.Again tells old new over h is = cc
-  judged s (judgement.Waiting r) tells old new over h is = (
+      → AcceptsIf false false j acknowledges s old new over → (over ≡ None) × AllAlone old new
+  judged s judgement.Taken acknowledges old new over h is = cc
+  judged s judgement.Again acknowledges old new over h is = cc
+  judged s (judgement.Waiting r) acknowledges old new over h is = (
     is.1,
     all_changed (five_tuple_of s) (with_waiting r s)
         (λ c. alone_of c (with_waiting r s c) (waiting_alone r s c)) (at (five_tuple_of s) old.live)
         old new refl is.0,
   )
-  judged s (judgement.Dropped r) tells old new over h is = (
+  judged s (judgement.Dropped r) acknowledges old new over h is = (
     is.1,
     all_changed (five_tuple_of s) (dropping r s)
         (λ c. alone_of c (dropping r s c) (dropping_alone r s c)) (at (five_tuple_of s) old.live)
         old new refl is.0,
   )
 
-  by_verdict : (s : Segment) (shows begins : Bool) (j : Judgement) (tells : Bool)
+  by_verdict : (s : Segment) (shows begins : Bool) (j : Judgement) (acknowledges : Bool)
       (old new : Table (TlsAnalysis K)) (over : Option (Connection (TlsAnalysis K)))
       → (not shows && (not begins && not (is_kept j))) ≡ true
-      → AcceptsIf shows begins j tells s old new over → (over ≡ None) × AllAlone old new
-  by_verdict s true begins j tells old new over h is = cc
-  by_verdict s false true j tells old new over h is = cc
-  by_verdict s false false j tells old new over h is = judged s j tells old new over h is
+      → AcceptsIf shows begins j acknowledges s old new over → (over ≡ None) × AllAlone old new
+  by_verdict s true begins j acknowledges old new over h is = cc
+  by_verdict s false true j acknowledges old new over h is = cc
+  by_verdict s false false j acknowledges old new over h is = judged s j acknowledges old new over h is
 
   stray : (s : Segment) (b : Bool) (old new : Table (TlsAnalysis K))
       (over : Option (Connection (TlsAnalysis K))) → not b ≡ true → TakesIf b s old new over
@@ -181,7 +181,7 @@ module _ {K : Type 0} where
       (over : Option (Connection (TlsAnalysis K)))
       → is_undelivered way (is_refused d.checksum) ≡ true → AcceptsDelivered way d old new over
       → (over ≡ None) × AllAlone old new
-  datagram_left_out d delivery.Heard old new over h is = cc
+  datagram_left_out d delivery.Received old new over h is = cc
   datagram_left_out d delivery.Damaged old new over h is =
       (is.1, damaged d (at (five_tuple_of_datagram d) old.live) old new refl is.0)
   datagram_left_out d delivery.BeginsAnother old new over h is = cc

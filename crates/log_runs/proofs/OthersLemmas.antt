@@ -23,7 +23,7 @@ use Rattle.log_connections.specs.declared.analysis.TlsAnalysis.{TlsAnalysis}
 use Rattle.log_connections.specs.declared.exchanges.Delivery.{Delivery}
 use Rattle.log_connections.specs.declared.exchanges.Delivery.TheVariants as delivery
 use Rattle.log_runs.specs.Counting.{rest_of}
-use Rattle.log_connections.specs.Log.{Accepts, AcceptsAt, AcceptsDelivered, AcceptsIf, AcceptsJudged, BeginsUnless, HearsAcknowledged, HearsOne, HearsSegment, Logs, LogsDatagram, Settles, Takes, TakesBehind, TakesIf, enough, had, no_more, none, one_then, taken}
+use Rattle.log_connections.specs.Log.{Accepts, AcceptsAt, AcceptsDelivered, AcceptsIf, AcceptsJudged, BeginsUnless, AnalyzesAcknowledged, AnalyzesOne, AnalyzesSegment, Logs, LogsDatagram, Settles, Takes, TakesBehind, TakesIf, enough, had, no_more, none, one_then, taken}
 
 module _ {X : Type 0} (f : FiveTuple) where
   rest-first : (xs : List (FiveTuple × X)) (w : X) → rest_of f ((f, w) ∷ xs) ≡ rest_of f xs
@@ -105,13 +105,13 @@ module _ {K : Type 0} (f : FiveTuple) where
   settled M false old new same = same_table old new same
 
 module _ {K : Type 0} (s : Segment) where
-  heard : (old new : Table (TlsAnalysis K)) → HearsSegment s old new
+  analysis : (old new : Table (TlsAnalysis K)) → AnalyzesSegment s old new
       → Stay (five_tuple_of s) old new
-  heard old new h = rest-put (five_tuple_of s) old.live new.live h.its h.stands
+  analysis old new h = rest-put (five_tuple_of s) old.live new.live h.its h.stands
 
   logged : (b : Bool) (old new : Table (TlsAnalysis K)) → Logs b s old new
       → Stay (five_tuple_of s) old new
-  logged true old new h = heard old new h
+  logged true old new h = analysis old new h
   logged false old new same = same_table (five_tuple_of s) old new same
 
   taken_if : (b : Bool) (old new : Table (TlsAnalysis K))
@@ -119,39 +119,39 @@ module _ {K : Type 0} (s : Segment) where
       → Stay (five_tuple_of s) old new
   taken_if true old new over h =
       closed (five_tuple_of s) s.time (ended (five_tuple_of s) h.0) h.0 new h.2.left
-      ∙ heard old h.0 h.1
+      ∙ analysis old h.0 h.1
   taken_if false old new over h = same_table (five_tuple_of s) old new h.0
 
-  one_pending : {old new : Table (TlsAnalysis K)} {b : Bool} → HearsOne s old new b
+  one_pending : {old new : Table (TlsAnalysis K)} {b : Bool} → AnalyzesOne s old new b
       → Stay (five_tuple_of s) old new
   one_pending {old} {new} (none is same) =
       changed_at (five_tuple_of s) _ (at (five_tuple_of s) old.live) old new same
   one_pending {old} {new} (had is same) =
       changed_at (five_tuple_of s) _ (at (five_tuple_of s) old.live) old new same
-  one_pending {old} {new} (taken k is hears) =
-      comes_first (five_tuple_of s) _ _ _ new hears
+  one_pending {old} {new} (taken k is receives) =
+      comes_first (five_tuple_of s) _ _ _ new receives
       ∙ changed_at (five_tuple_of s) _ (at (five_tuple_of s) old.live) old _ refl
 
-  acknowledged : {n : ℕ} {old new : Table (TlsAnalysis K)} → HearsAcknowledged s n old new
+  acknowledged : {n : ℕ} {old new : Table (TlsAnalysis K)} → AnalyzesAcknowledged s n old new
       → Stay (five_tuple_of s) old new
   acknowledged (enough t) = refl
-  acknowledged (no_more n t u hears) = one_pending hears
-  acknowledged (one_then m n t mid u less hears rest) = acknowledged rest ∙ one_pending hears
+  acknowledged (no_more n t u receives) = one_pending receives
+  acknowledged (one_then m n t mid u less receives rest) = acknowledged rest ∙ one_pending receives
 
-  behind : (tells : Bool) (old new : Table (TlsAnalysis K))
-      (over : Option (Connection (TlsAnalysis K))) → TakesBehind tells s old new over
+  behind : (acknowledges : Bool) (old new : Table (TlsAnalysis K))
+      (over : Option (Connection (TlsAnalysis K))) → TakesBehind acknowledges s old new over
       → Stay (five_tuple_of s) old new
   behind false old new over h = taken_if (belongs s old) old new over h
   behind true old new over h = taken_if (belongs s h.0) h.0 new over h.2 ∙ acknowledged h.1
 
-  judged : (j : Judgement) (tells : Bool) (old new : Table (TlsAnalysis K))
-      (over : Option (Connection (TlsAnalysis K))) → AcceptsJudged j tells s old new over
+  judged : (j : Judgement) (acknowledges : Bool) (old new : Table (TlsAnalysis K))
+      (over : Option (Connection (TlsAnalysis K))) → AcceptsJudged j acknowledges s old new over
       → Stay (five_tuple_of s) old new
-  judged judgement.Taken tells old new over h = behind tells old new over h
-  judged judgement.Again tells old new over h = behind tells old new over h
-  judged (judgement.Waiting r) tells old new over h =
+  judged judgement.Taken acknowledges old new over h = behind acknowledges old new over h
+  judged judgement.Again acknowledges old new over h = behind acknowledges old new over h
+  judged (judgement.Waiting r) acknowledges old new over h =
       changed_at (five_tuple_of s) _ (at (five_tuple_of s) old.live) old new h.0
-  judged (judgement.Dropped r) tells old new over h =
+  judged (judgement.Dropped r) acknowledges old new over h =
       changed_at (five_tuple_of s) _ (at (five_tuple_of s) old.live) old new h.0
 
   replaced : (old new : Table (TlsAnalysis K)) (was : Option (Connection (TlsAnalysis K)))
@@ -160,15 +160,15 @@ module _ {K : Type 0} (s : Segment) where
   replaced old new (Some c) h =
       rest-put (five_tuple_of s) old.live new.live h.its (ap (λ t. t.live) h.stands)
 
-  by_verdict : (shows begins : Bool) (j : Judgement) (tells : Bool)
+  by_verdict : (shows begins : Bool) (j : Judgement) (acknowledges : Bool)
       (old new : Table (TlsAnalysis K)) (over : Option (Connection (TlsAnalysis K)))
-      → AcceptsIf shows begins j tells s old new over → Stay (five_tuple_of s) old new
-  by_verdict true begins j tells old new over h =
+      → AcceptsIf shows begins j acknowledges s old new over → Stay (five_tuple_of s) old new
+  by_verdict true begins j acknowledges old new over h =
       taken_if (belongs s h.0) h.0 new over h.2
       ∙ anew (five_tuple_of s) s.time (at (five_tuple_of s) old.live) old h.0 h.1
-  by_verdict false true j tells old new over h =
+  by_verdict false true j acknowledges old new over h =
       logged (belongs s h.mid) h.mid new h.logs ∙ replaced old h.mid h.was h.replaced
-  by_verdict false false j tells old new over h = judged j tells old new over h
+  by_verdict false false j acknowledges old new over h = judged j acknowledges old new over h
 
   segment_at : (old new : Table (TlsAnalysis K)) (o over : Option (Connection (TlsAnalysis K)))
       → AcceptsAt (option_map (verdict_of s) o) s old new over → Stay (five_tuple_of s) old new
@@ -202,7 +202,7 @@ module _ {K : Type 0} (d : Datagram) where
   delivered : (way : Delivery) (old new : Table (TlsAnalysis K))
       (over : Option (Connection (TlsAnalysis K))) → AcceptsDelivered way d old new over
       → Stay (five_tuple_of_datagram d) old new
-  delivered delivery.Heard old new over h = datagram old new h.0
+  delivered delivery.Received old new over h = datagram old new h.0
   delivered delivery.Damaged old new over h =
       damaged (at (five_tuple_of_datagram d) old.live) old new h.0
   delivered delivery.BeginsAnother old new over h =

@@ -181,7 +181,7 @@ module _ (bytes : Bytes) where
   next_at got u Over h none = absurd h
   next_at got u (Open k) h none =
       rw none
-      (sym (drop_front (take k.taken bytes) (run k.cells) k.taken u.heard
+      (sym (drop_front (take k.taken bytes) (run k.cells) k.taken u.received
       (length-take-le k.taken bytes h.within)))
 
   pub next_unread : (limit first : ℕ) (t u : Stream) (got : List (ℕ × Bytes))

@@ -12,8 +12,8 @@ use Rattle.log_connections.specs.declared.exchanges.Delivery.{Delivery}
 use Rattle.log_connections.specs.declared.exchanges.Delivery.TheVariants as delivery
 use Rattle.log_connections.specs.Log.{Takes, verdict_in}
 
--- A segment that the receiver drops, or of which it isn't known yet whether it takes it; or one that
--- belongs to no connection.
+-- A segment that the receiver drops, or of which it isn't known yet whether it takes it; or one
+-- that belongs to no connection.
 abbrev pub is_left_out : Option Verdict → Bool → Bool
 is_left_out None belongs = not belongs
 is_left_out (Some v) belongs =
@@ -21,7 +21,7 @@ is_left_out (Some v) belongs =
 
 -- A datagram with a wrong checksum.
 abbrev pub is_undelivered : Delivery → Bool → Bool
-is_undelivered delivery.Heard refused = false
+is_undelivered delivery.Received refused = false
 is_undelivered delivery.Damaged refused = true
 is_undelivered delivery.BeginsAnother refused = false
 is_undelivered delivery.NoneOpen refused = refused

@@ -38,7 +38,7 @@ begins_by (Some v) belongs = not v.shows_damage && v.begins_another
 -- A datagram without an open exchange begins one unless its checksum is wrong. With one it begins
 -- another in its place if it begins another DTLS association.
 abbrev pub begins_exchange : Delivery → Bool → Bool
-begins_exchange delivery.Heard refused = false
+begins_exchange delivery.Received refused = false
 begins_exchange delivery.Damaged refused = false
 begins_exchange delivery.BeginsAnother refused = true
 begins_exchange delivery.NoneOpen refused = not refused
@@ -71,8 +71,8 @@ module _ {K : Type 0} where
 module _ {K : Type 0} {M : K → ℕ} where
   module _ {a : Arrival} {old new : Table (TlsAnalysis K)}
       {before after : Option (List (Connection (TlsAnalysis K)))} where
-    -- The connection that an arrival begins; the one that memory is refused for; and those that come
-    -- out by it.
+    -- The connection that an arrival begins; the one that memory is refused for; and those that
+    -- come out by it.
     abbrev pub begun_in : Arrives M a old new before after → List FiveTuple
     begun_in (ends over accepts received) =
         begun_by a old accepts.mid (Some over) accepts.takes
@@ -212,8 +212,8 @@ module _ {K : Type 0} where
   ComesOut e c [] = ⊥
   ComesOut e c (x ∷ outs) = ((x.0 ≡ e) × IsEnded c x.1) ⊎ ComesOut e c outs
 
-  -- The connection of this five-tuple, if there was one, is open as it was, or came out. Without one
-  -- there is none.
+  -- The connection of this five-tuple, if there was one, is open as it was, or came out. Without
+  -- one there is none.
   abbrev pub StaysOrComesOut : FiveTuple → Option (Connection (TlsAnalysis K))
       → Option (Connection (TlsAnalysis K)) → List (FiveTuple × Connection (TlsAnalysis K))
       → Type 0

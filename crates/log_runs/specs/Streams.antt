@@ -49,5 +49,5 @@ in_order bytes Over = []
 
 abbrev pub read_of : Stream → Reading → ℕ
 read_of t Unbegun = 0
-read_of t (Open h) = h.taken + t.heard
+read_of t (Open h) = h.taken + t.received
 read_of t Over = 0

@@ -31,7 +31,8 @@ ghost use Rattle.log_runs.specs.Streams.{Gets, in_order, read_of};
 /// states what happens to the connection of an arrival for which memory is refused.
 pub fn each_connection_comes_out_once<K>()
     ensures { (M : K → ℕ) (limit : ℕ) (packets : List Packet) (reader : ArrivalReader)
-        (old new : Table (TlsAnalysis K)) (before after : Option (List (Connection (TlsAnalysis K))))
+        (old new : Table (TlsAnalysis K))
+        (before after : Option (List (Connection (TlsAnalysis K))))
         (run : IsRun M limit packets reader old new before after) (e : FiveTuple)
         → refused_over run.handles ≡ []
         → count_of e (log_of run) ≡ count_of e old.live + times e (begun_over run.handles) }
@@ -40,14 +41,15 @@ pub fn each_connection_comes_out_once<K>()
 /// The sink receives the connections that come out of a run, in this order, and no other.
 pub fn the_sink_receives_what_comes_out<K>()
     ensures { (M : K → ℕ) (limit : ℕ) (packets : List Packet) (reader : ArrivalReader)
-        (old new : Table (TlsAnalysis K)) (before after : Option (List (Connection (TlsAnalysis K))))
+        (old new : Table (TlsAnalysis K))
+        (before after : Option (List (Connection (TlsAnalysis K))))
         (run : IsRun M limit packets reader old new before after)
         → Adds before after (values_of (log_of run)) }
 {}
 
-/// An arrival that its receiver drops, or of which it isn't known yet whether its receiver takes it,
-/// ends no connection. It changes no connection's streams and no analysis: only pending segments,
-/// counts of dropped packets and accounted memory.
+/// An arrival that its receiver drops, or of which it isn't known yet whether its receiver takes
+/// it, ends no connection. It changes no connection's streams and no analysis: only pending
+/// segments, counts of dropped packets and accounted memory.
 pub fn dropped_arrivals_change_no_streams<K>()
     ensures { (M : K → ℕ) (a : Arrival) (old new : Table (TlsAnalysis K))
         (over : Option (Connection (TlsAnalysis K))) (accepts : Accepts M a old new over)
@@ -93,14 +95,15 @@ pub fn each_connection_falls_to_one_part()
 /// refused for the others. What it is follows from its own packets alone.
 pub fn packets_of_others_leave_a_connection_as_it_is<K>()
     ensures { (M : K → ℕ) (limit : ℕ) (packets : List Packet) (reader read : ArrivalReader)
-        (old new : Table (TlsAnalysis K)) (before after : Option (List (Connection (TlsAnalysis K))))
+        (old new : Table (TlsAnalysis K))
+        (before after : Option (List (Connection (TlsAnalysis K))))
         (handles : HandlesEach M limit reader old before packets read new after) (e : FiveTuple)
         → are_of_others e handles ≡ true
         → StaysOrComesOut e (at e old.live) (at e new.live) (outs_over handles) }
 {}
 
-/// Only idle connections time out: one with a packet in the last 300 seconds stays, unless there are
-/// too many.
+/// Only idle connections time out: one with a packet in the last 300 seconds stays, unless there
+/// are too many.
 pub fn only_idle_connections_time_out<K>()
     ensures { (M : K → ℕ) (a : Arrival) (limit : ℕ) (old new : Table (TlsAnalysis K))
         (before after : Option (List (Connection (TlsAnalysis K))))

@@ -22,12 +22,12 @@ pub struct OwnedPacket {
 
 /// A visitor that collects all packets.
 #[derive(Drop)]
-struct Keeper {
+struct OwningVisitor {
     alloc: Global,
     packets: Vec<OwnedPacket>,
 }
 
-impl PacketVisitor for Keeper {
+impl PacketVisitor for OwningVisitor {
     type Error = AllocError;
 
     ghost taken = { λ k. Some (kept k.packets) };
@@ -61,11 +61,11 @@ pub fn read_packets(
     ensures whole { OnOk result ((packets_of capture.now).1 ≡ Whole) }
     ensures cause { IfErr result (λ e. IsEndOf (packets_of capture.now) e) }
 {
-    let mut keeper = Keeper {
+    let mut visitor = OwningVisitor {
         alloc,
         packets: Vec::new(alloc),
     };
     let mut reader = capture;
-    visit_packets(alloc, &mut reader, &mut keeper)?;
-    Ok(keeper.packets)
+    visit_packets(alloc, &mut reader, &mut visitor)?;
+    Ok(visitor.packets)
 }

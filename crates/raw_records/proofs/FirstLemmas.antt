@@ -6,7 +6,7 @@ use Rattle.layouts.specs.Bytes.{Bytes}
 use Rattle.layouts.specs.Layout.{Layout, list1}
 use Rattle.layouts.specs.Meaning.{Refusal, Answer, Broken, Lacks}
 use Rattle.layouts.specs.Reading.{reading, completed, ◌and_then◌}
-use Rattle.layouts.specs.Items.{items_in, left_in, value_of, Tells}
+use Rattle.layouts.specs.Items.{items_in, left_in, value_of, Returns}
 use Rattle.layouts.specs.declared.result.Error.{Error}
 use Rattle.layouts.specs.declared.result.Err.{Err as Failed}
 use Rattle.layouts.proofs.LeavesLemmas.{LeavesFewer}
@@ -32,11 +32,11 @@ abbrev pub with_value : {A : Type 0} → Result Unit Refusal → A → Result A 
 with_value (Ok u) x = Ok x
 with_value (Err e) x = Err e
 
-pub told_value : {A : Type 0} (a : Result Unit Refusal) (x : A)
+pub returned_value : {A : Type 0} (a : Result Unit Refusal) (x : A)
     (r : Result Unit (Failed (Error (Bor (List ℕ)))))
-    → Tells (λ u. tt) a r → Tells (λ u. x) (with_value a x) r
-told_value a x (Ok u) t = record { answers = tt; is = ap (λ y. with_value y x) t.is }
-told_value a x (Err e) t = record { answers = t.answers; is = ap (λ y. with_value y x) t.is }
+    → Returns (λ u. tt) a r → Returns (λ u. x) (with_value a x) r
+returned_value a x (Ok u) t = record { answers = tt; is = ap (λ y. with_value y x) t.is }
+returned_value a x (Err e) t = record { answers = t.answers; is = ap (λ y. with_value y x) t.is }
 
 -- one or more items, checked by the first
 list_value : {A : Type 0} (l : Layout A) (b : Bytes) → LeavesFewer (length b) (reading l b)
@@ -51,12 +51,12 @@ list_value {A} l b fewer = go (reading l b) refl fewer
     go (Err (Broken k)) e short = refl
     go (Err (Lacks n)) e short = refl
 
-pub list_told : {A : Type 0} (l : Layout A) (b : Bytes) (xs : List A)
+pub list_returned : {A : Type 0} (l : Layout A) (b : Bytes) (xs : List A)
     → LeavesFewer (length b) (reading l b)
     → items_in l b ≡ xs
-    → (r : Result Unit (Failed (Error (Bor (List ℕ))))) → Tells (λ u. tt) (first_judged l b) r
-    → Tells (λ u. xs) (value_of (reading (list1 l) b)) r
-list_told l b xs fewer same r t =
-    subst (λ y. Tells (λ u. xs) y r)
+    → (r : Result Unit (Failed (Error (Bor (List ℕ))))) → Returns (λ u. tt) (first_judged l b) r
+    → Returns (λ u. xs) (value_of (reading (list1 l) b)) r
+list_returned l b xs fewer same r t =
+    subst (λ y. Returns (λ u. xs) y r)
     (sym (list_value l b fewer ∙ ap (λ ys. with_value (first_judged l b) ys) same))
-    (told_value (first_judged l b) xs r t)
+    (returned_value (first_judged l b) xs r t)

@@ -1,7 +1,7 @@
 //! The first item of a fragment, which is complete.
 ghost use Rattle.std.specs.Prelude.{◌≡◌};
 ghost use Rattle.layouts.specs.Answers.{IsRefusal, refusal_of};
-ghost use Rattle.layouts.specs.Items.{Tells};
+ghost use Rattle.layouts.specs.Items.{Returns};
 ghost use Rattle.raw_records.specs.First.{as_complete, first_judged as first_judged_of};
 
 use layouts::{Err, Error, ErrorKind, InPlace};
@@ -27,7 +27,7 @@ pub fn completed<'a>(i: &'a [u8], e: Err<Error<&'a [u8]>>) -> Err<Error<&'a [u8]
 #[tactic(auto, using(crate::proofs::FirstLemmas::first_is_read, crate::proofs::FirstLemmas::first_is_refused))]
 #[inline(always)]
 pub fn first_judged<'a, T: InPlace<'a>>(i: &'a [u8]) -> Result<(), Err<Error<&'a [u8]>>>
-    ensures { Tells (λ u. tt) (first_judged_of T.layout i.now) result }
+    ensures { Returns (λ u. tt) (first_judged_of T.layout i.now) result }
 {
     match T::read(i) {
         Ok(_) => Ok(()),

@@ -342,20 +342,20 @@ pub unlike_one : (ms : List Bool) (bs ys : Bytes) (i count count' all : ℕ) (t 
     → count' + differing (0 + (i + 1)) (drop (i + 1) ys) (marked ms bs) ≡ all
 unlike_one ms bs ys i count count' all t u l k h mark unlike more so =
     let next = differing_one (marked ms bs) ys 0 i h in
-    let here = told t mark in
+    let here = emitted t mark in
     omega (arith, next, here, more, so)
   where
     zero_at : 0 + i ≡ i
     zero_at = omega arith
 
-    told : (s : Bool) → get_or ms i false ≡ s
+    emitted : (s : Bool) → get_or ms i false ≡ s
         → ◌≡◌ {A = ℕ} (if differs (cell (marked ms bs) (0 + i)) (get_or ys i 0) then 1 else 0)
         (cond s (cond u 1 0) 0)
-    told true e =
+    emitted true e =
         ap (λ j. if differs (cell (marked ms bs) j) (get_or ys i 0) then 1 else 0) zero_at
         ∙ ap (λ o. if differs o (get_or ys i 0) then 1 else 0) (cell_marked ms bs i e l)
         ∙ ap (λ (v : Bool). cond v 1 0) unlike
-    told false e =
+    emitted false e =
         ap (λ j. if differs (cell (marked ms bs) j) (get_or ys i 0) then 1 else 0) zero_at
         ∙ ap (λ o. if differs o (get_or ys i 0) then 1 else 0) (cell_unmarked ms bs i e)
 

@@ -10,9 +10,9 @@ abbrev pub stepped : Step → Held → Held
 stepped (Segment seq b) h = with_segment seq b.now h
 stepped (Take most) h = without_front (min (length (run h.cells)) most) h
 
-abbrev pub told : Step → Held → Bytes
-told (Segment seq b) h = []
-told (Take most) h = take (min (length (run h.cells)) most) (run h.cells)
+abbrev pub emitted : Step → Held → Bytes
+emitted (Segment seq b) h = []
+emitted (Take most) h = take (min (length (run h.cells)) most) (run h.cells)
 
 -- What is buffered after steps, and what they deliver.
 abbrev pub after : List Step → Held → Held
@@ -21,7 +21,7 @@ after (s ∷ ss) h = after ss (stepped s h)
 
 abbrev pub handed : List Step → Held → Bytes
 handed [] h = []
-handed (s ∷ ss) h = told s h ++ handed ss (stepped s h)
+handed (s ∷ ss) h = emitted s h ++ handed ss (stepped s h)
 
 -- The position is less than 2^31 from the first unknown one.
 abbrev pub IsNear : Bytes → List (ℕ × Bytes) → ℕ → Type 0

@@ -1,6 +1,6 @@
 //! Calls on a stream, in any order.
 ghost use Rattle.std.specs.Prelude.{◌≡◌, ◌++◌, [], IfOk, OnOk};
-ghost use Rattle.segments.specs.Steps.{IsReplayed, handed, stepped, told};
+ghost use Rattle.segments.specs.Steps.{IsReplayed, handed, stepped, emitted};
 
 use crate::reassembler::{SegmentError, TcpReassembler};
 use std::alloc::Global;
@@ -21,7 +21,7 @@ fn take_step(
     out: &mut Vec<u8>,
 ) -> Result<(), SegmentError>
     ensures stream { OnOk result (stream.new ≡ stepped step.now stream.old) }
-    ensures out { OnOk result (out.new.items ≡ out.old.items ++ told step.now stream.old) }
+    ensures out { OnOk result (out.new.items ≡ out.old.items ++ emitted step.now stream.old) }
 {
     match step {
         Step::Segment(seq, bytes) => stream.segment(*seq, bytes),
@@ -49,7 +49,7 @@ pub fn replay(
     steps: &[Step],
 ) -> Result<(Vec<u8>, Vec<u8>), SegmentError>
     ensures front { IfOk result (λ r. IsReplayed first_place steps.now r.0.items r.1.items) }
-    ensures told { IfOk result
+    ensures emitted { IfOk result
         (λ r. r.0.items ≡ handed steps.now
         record { first = first_place; limit = limit; taken = 0; cells = [] }) }
 {

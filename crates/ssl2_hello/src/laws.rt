@@ -25,7 +25,7 @@ pub fn what_begins_is_not_refused()
 
 /// Fewer than 11 bytes never begin a hello; beyond that, the first 11 decide.
 #[tactic(auto, using(crate::proofs::HelloLemmas::begins_long, crate::proofs::HelloLemmas::begins_still))]
-pub fn first_11_bytes_tell()
+pub fn first_11_bytes_decide()
     ensures long { (b : Bytes) → IsTrue (begins_ssl2_hello_in b) → 11 ≤ length b }
     ensures still { (b s : Bytes) → 11 ≤ length b
         → begins_ssl2_hello_in (b ++ s) ≡ begins_ssl2_hello_in b }

@@ -29,7 +29,7 @@ use Rattle.std.proofs.Common.{
   length-append,
 }
 use Rattle.layouts.specs.Bytes.{Bytes}
-use Rattle.tls_stream.specs.Item.{Event as Said}
+use Rattle.tls_stream.specs.Item.{Event as StreamEvent}
 use Rattle.tls_stream.specs.Events.{events, fed, with_more}
 use Rattle.tls_stream.specs.Stream as stream
 use Rattle.tls_stream.specs.declared.fault.Fault.{Fault}
@@ -37,13 +37,13 @@ use Rattle.tls_stream.proofs.DirectionLemmas.{fed_twice}
 use Rattle.tls_flow.specs.declared.event.FlowEvent.{FlowEvent}
 use Rattle.tls_flow.specs.declared.symbol.Direction.{Direction as Side}
 use Rattle.tls_flow.specs.declared.symbol.Direction.TheVariants.{ToServer, FromServer}
-use Rattle.tls_stream.specs.Readers.{IsBehind, IsPast, IsFedBy, IsToldIf, ear, other, tells}
-use Rattle.tls_stream.specs.Ears.{IsFirst, SaysAs, says, says_by, told}
+use Rattle.tls_stream.specs.Readers.{IsBehind, IsPast, IsFedBy, IsSwitchedIf, reader_of, other, switches}
+use Rattle.tls_stream.specs.SideReaders.{IsFirst, ReadsAs, further_events, further_events_by, switched}
 use Rattle.tls_stream.specs.FlowEvents.{chooses_tls13, event_of}
 use Rattle.tls_stream.specs.declared.conversation_reader.ConversationReader.{ConversationReader}
 use Rattle.tls_stream.specs.declared.side_reader.SideReader.{SideReader}
 use Rattle.tls_stream.specs.declared.side_reader.Standing.{Standing}
-use Rattle.tls_stream.specs.declared.side_reader.Standing.TheVariants.{Speaks, AtFault, Over}
+use Rattle.tls_stream.specs.declared.side_reader.Standing.TheVariants.{Active, AtFault, Over}
 use Rattle.tls_observer.specs.History.{history, letter_of, with_letter}
 use Rattle.tls_observer.specs.Noting.{has_sealed, is_sealed}
 
@@ -51,16 +51,16 @@ use Rattle.tls_observer.specs.Noting.{has_sealed, is_sealed}
 abbrev pub with_piece : SideReader → Bytes → SideReader
 with_piece e q = record e { direction = fed e.direction q }
 
-says_further : (e : SideReader) (q t : Bytes) → says (with_piece e q) t ≡ says e (q ++ t)
-says_further e q t = go e.standing
+further_events_of_more : (e : SideReader) (q t : Bytes) → further_events (with_piece e q) t ≡ further_events e (q ++ t)
+further_events_of_more e q t = go e.standing
   where
-    go : (s : Standing) → says_by s (fed e.direction q) t ≡ says_by s e.direction (q ++ t)
-    go Speaks = ap events (fed_twice e.direction q t)
+    go : (s : Standing) → further_events_by s (fed e.direction q) t ≡ further_events_by s e.direction (q ++ t)
+    go Active = ap events (fed_twice e.direction q t)
     go (AtFault f) = refl
     go Over = refl
 
-told_further : (e : SideReader) (q : Bytes) → told (with_piece e q) ≡ with_piece (told e) q
-told_further e q =
+switched_further : (e : SideReader) (q : Bytes) → switched (with_piece e q) ≡ with_piece (switched e) q
+switched_further e q =
     ap (λ x. record e { direction = record e.direction { stream = x } }) (go e.direction.fault)
   where
     go : (f : Option Fault)
@@ -70,31 +70,31 @@ told_further e q =
     go (Some f) = refl
     go None = refl
 
-told_if_further : (b : Bool) (e f : SideReader) (q : Bytes) → IsToldIf b e f
-    → IsToldIf b (with_piece e q) (with_piece f q)
-told_if_further true e f q same = λ t.
-    ap (λ x. says x t) (told_further e q) ∙ says_further (told e) q t ∙ same (q ++ t)
-    ∙ sym (says_further f q t)
-told_if_further false e f q same = λ t. says_further e q t ∙ same (q ++ t)
-    ∙ sym (says_further f q t)
+switched_if_further : (b : Bool) (e f : SideReader) (q : Bytes) → IsSwitchedIf b e f
+    → IsSwitchedIf b (with_piece e q) (with_piece f q)
+switched_if_further true e f q same = λ t.
+    ap (λ x. further_events x t) (switched_further e q) ∙ further_events_of_more (switched e) q t ∙ same (q ++ t)
+    ∙ sym (further_events_of_more f q t)
+switched_if_further false e f q same = λ t. further_events_of_more e q t ∙ same (q ++ t)
+    ∙ sym (further_events_of_more f q t)
 
-first_further : (e f : SideReader) (v : Said) (q : Bytes) → IsFirst e v f
+first_further : (e f : SideReader) (v : StreamEvent) (q : Bytes) → IsFirst e v f
     → IsFirst (with_piece e q) v (with_piece f q)
-first_further e f v q first t = says_further e q t ∙ first (q ++ t)
-    ∙ ap (λ vs. v ∷ vs) (sym (says_further f q t))
+first_further e f v q first t = further_events_of_more e q t ∙ first (q ++ t)
+    ∙ ap (λ vs. v ∷ vs) (sym (further_events_of_more f q t))
 
 -- The reader with another piece of this side.
 abbrev pub further : ConversationReader → Side → Bytes → ConversationReader
 further c ToServer q = record c { client = with_piece c.client q }
 further c FromServer q = record c { server = with_piece c.server q }
 
-behind_further : (c d : ConversationReader) (s : Side) (v : Said) (q : Bytes) → IsBehind c s v d
+behind_further : (c d : ConversationReader) (s : Side) (v : StreamEvent) (q : Bytes) → IsBehind c s v d
     → IsBehind (further c s q) s v (further d s q)
 behind_further c d ToServer v q behind = record {
   side = (
     with_piece behind.side.0 q,
     first_further c.client behind.side.0 v q behind.side.1,
-    told_if_further (tells c (event_of ToServer v)) behind.side.0 d.client q behind.side.2,
+    switched_if_further (switches c (event_of ToServer v)) behind.side.0 d.client q behind.side.2,
   );
   other = behind.other;
   is_tls13 = behind.is_tls13;
@@ -103,68 +103,68 @@ behind_further c d FromServer v q behind = record {
   side = (
     with_piece behind.side.0 q,
     first_further c.server behind.side.0 v q behind.side.1,
-    told_if_further (tells c (event_of FromServer v)) behind.side.0 d.server q behind.side.2,
+    switched_if_further (switches c (event_of FromServer v)) behind.side.0 d.server q behind.side.2,
   );
   other = behind.other;
   is_tls13 = behind.is_tls13;
 }
 
-pub past_further : (c d : ConversationReader) (s : Side) (vs : List Said) (q : Bytes) → IsPast c s vs d
+pub past_further : (c d : ConversationReader) (s : Side) (vs : List StreamEvent) (q : Bytes) → IsPast c s vs d
     → IsPast (further c s q) s vs (further d s q)
 past_further c d s [] q past = ap (λ x. further x s q) past
 past_further c d s (v ∷ vs) q past =
     (further past.0 s q, past_further c past.0 s vs q past.1, behind_further past.0 d s v q past.2)
 
-past_on : (c m d : ConversationReader) (s : Side) (vs ws : List Said) → IsPast c s vs m → IsPast m s ws d
+past_on : (c m d : ConversationReader) (s : Side) (vs ws : List StreamEvent) → IsPast c s vs m → IsPast m s ws d
     → IsPast c s (ws ++ vs) d
 past_on c m d s vs [] first last = subst (λ x. IsPast c s vs x) (sym last) first
 past_on c m d s vs (w ∷ ws) first last = (last.0, past_on c m last.0 s vs ws first last.1, last.2)
 
 -- Both say the same whatever follows of this side, and are equal otherwise.
 record IsAlike (s : Side) (c d : ConversationReader) : Type 0 where
-  side : SaysAs (ear c s) (ear d s)
-  other : ear c (other s) ≡ ear d (other s)
+  side : ReadsAs (reader_of c s) (reader_of d s)
+  other : reader_of c (other s) ≡ reader_of d (other s)
   is_tls13 : c.is_tls13 ≡ d.is_tls13
 
-told_alike : (b : Bool) (e f g : SideReader) → IsToldIf b e f → SaysAs f g → IsToldIf b e g
-told_alike true e f g same alike = λ t. same t ∙ alike t
-told_alike false e f g same alike = λ t. same t ∙ alike t
+switched_alike : (b : Bool) (e f g : SideReader) → IsSwitchedIf b e f → ReadsAs f g → IsSwitchedIf b e g
+switched_alike true e f g same alike = λ t. same t ∙ alike t
+switched_alike false e f g same alike = λ t. same t ∙ alike t
 
-tells_alike : (c d : ConversationReader) (e : FlowEvent) → c.is_tls13 ≡ d.is_tls13 → tells d e ≡ tells c e
-tells_alike c d e same =
+switches_alike : (c d : ConversationReader) (e : FlowEvent) → c.is_tls13 ≡ d.is_tls13 → switches d e ≡ switches c e
+switches_alike c d e same =
     ap (λ b. not b && chooses_tls13 e.symbol.kind e.symbol.direction) (sym same)
 
-behind_last : (c m d : ConversationReader) (s : Side) (v : Said) → IsBehind c s v m → IsAlike s m d
+behind_last : (c m d : ConversationReader) (s : Side) (v : StreamEvent) → IsBehind c s v m → IsAlike s m d
     → IsBehind c s v d
 behind_last c m d s v behind alike = record {
   side = (
     behind.side.0,
     behind.side.1,
-    told_alike (tells c (event_of s v)) behind.side.0 (ear m s) (ear d s) behind.side.2 alike.side,
+    switched_alike (switches c (event_of s v)) behind.side.0 (reader_of m s) (reader_of d s) behind.side.2 alike.side,
   );
-  other = subst (λ x. IsToldIf (tells c (event_of s v)) (ear c (other s)) x) alike.other
+  other = subst (λ x. IsSwitchedIf (switches c (event_of s v)) (reader_of c (other s)) x) alike.other
       behind.other;
   is_tls13 = sym alike.is_tls13 ∙ behind.is_tls13;
 }
 
-behind_first : (c m d : ConversationReader) (s : Side) (v : Said) → IsAlike s c m → IsBehind m s v d
+behind_first : (c m d : ConversationReader) (s : Side) (v : StreamEvent) → IsAlike s c m → IsBehind m s v d
     → IsBehind c s v d
 behind_first c m d s v alike behind =
-    let same : tells m (event_of s v) ≡ tells c (event_of s v) =
-    tells_alike c m (event_of s v) alike.is_tls13 in
+    let same : switches m (event_of s v) ≡ switches c (event_of s v) =
+    switches_alike c m (event_of s v) alike.is_tls13 in
     record {
       side = (
         behind.side.0,
         λ t. alike.side t ∙ behind.side.1 t,
-        subst (λ b. IsToldIf b behind.side.0 (ear d s)) same behind.side.2,
+        subst (λ b. IsSwitchedIf b behind.side.0 (reader_of d s)) same behind.side.2,
       );
-      other = subst (λ x. IsToldIf (tells c (event_of s v)) x (ear d (other s))) (sym alike.other)
-          (subst (λ b. IsToldIf b (ear m (other s)) (ear d (other s))) same behind.other);
-      is_tls13 = behind.is_tls13 ∙ ap (λ b. b || tells m (event_of s v)) (sym alike.is_tls13)
+      other = subst (λ x. IsSwitchedIf (switches c (event_of s v)) x (reader_of d (other s))) (sym alike.other)
+          (subst (λ b. IsSwitchedIf b (reader_of m (other s)) (reader_of d (other s))) same behind.other);
+      is_tls13 = behind.is_tls13 ∙ ap (λ b. b || switches m (event_of s v)) (sym alike.is_tls13)
           ∙ ap (λ b. c.is_tls13 || b) same;
     }
 
-past_first : (c m d : ConversationReader) (s : Side) (v : Said) (vs : List Said) → IsAlike s c m
+past_first : (c m d : ConversationReader) (s : Side) (v : StreamEvent) (vs : List StreamEvent) → IsAlike s c m
     → IsPast m s (v ∷ vs) d
     → IsPast c s (v ∷ vs) d
 past_first c m d s v [] alike past =
@@ -172,16 +172,16 @@ past_first c m d s v [] alike past =
 past_first c m d s v (w ∷ ws) alike past =
     (past.0, past_first c m past.0 s w ws alike past.1, past.2)
 
--- A reader that was fed a piece says what it says with that piece.
+-- A reader that was fed a piece has the events that it has with that piece.
 fed_alike : (c d : ConversationReader) (s : Side) (q : Bytes) → IsFedBy c s q d
     → IsAlike s (further c s q) d
 fed_alike c d ToServer q fed = record {
-  side = λ t. says_further c.client q t ∙ fed.side t;
+  side = λ t. further_events_of_more c.client q t ∙ fed.side t;
   other = sym fed.other;
   is_tls13 = sym fed.is_tls13;
 }
 fed_alike c d FromServer q fed = record {
-  side = λ t. says_further c.server q t ∙ fed.side t;
+  side = λ t. further_events_of_more c.server q t ∙ fed.side t;
   other = sym fed.other;
   is_tls13 = sym fed.is_tls13;
 }
@@ -189,14 +189,14 @@ fed_alike c d FromServer q fed = record {
 pub fed_further : (c d : ConversationReader) (s : Side) (p q : Bytes) → IsFedBy c s p d
     → IsFedBy c s (p ++ q) (further d s q)
 fed_further c d ToServer p q fed = record {
-  side = λ t. ap (says c.client) (append_assoc p q t) ∙ fed.side (q ++ t)
-      ∙ sym (says_further d.client q t);
+  side = λ t. ap (further_events c.client) (append_assoc p q t) ∙ fed.side (q ++ t)
+      ∙ sym (further_events_of_more d.client q t);
   other = fed.other;
   is_tls13 = fed.is_tls13;
 }
 fed_further c d FromServer p q fed = record {
-  side = λ t. ap (says c.server) (append_assoc p q t) ∙ fed.side (q ++ t)
-      ∙ sym (says_further d.server q t);
+  side = λ t. ap (further_events c.server) (append_assoc p q t) ∙ fed.side (q ++ t)
+      ∙ sym (further_events_of_more d.server q t);
   other = fed.other;
   is_tls13 = fed.is_tls13;
 }
@@ -204,19 +204,19 @@ fed_further c d FromServer p q fed = record {
 fed_on : (c m d : ConversationReader) (s : Side) (p q : Bytes) → IsFedBy c s p m → IsFedBy m s q d
     → IsFedBy c s (p ++ q) d
 fed_on c m d s p q first last = record {
-  side = λ t. ap (says (ear c s)) (append_assoc p q t) ∙ first.side (q ++ t) ∙ last.side t;
+  side = λ t. ap (further_events (reader_of c s)) (append_assoc p q t) ∙ first.side (q ++ t) ∙ last.side t;
   other = last.other ∙ first.other;
   is_tls13 = last.is_tls13 ∙ first.is_tls13;
 }
 
 -- What two pieces say is what both say joined.
-pub record IsJoined (c : ConversationReader) (s : Side) (p : Bytes) (vs : List Said)
+pub record IsJoined (c : ConversationReader) (s : Side) (p : Bytes) (vs : List StreamEvent)
     (d : ConversationReader) : Type 0 where
   pub begun : ConversationReader
   pub fed : IsFedBy c s p begun
   pub past : IsPast begun s vs d
 
-pub joined : (c a m b d : ConversationReader) (s : Side) (p q : Bytes) (vs ws : List Said)
+pub joined : (c a m b d : ConversationReader) (s : Side) (p q : Bytes) (vs ws : List StreamEvent)
     → IsFedBy c s p a
     → IsPast a s vs m → IsFedBy m s q b
     → IsPast b s ws d → IsJoined c s (p ++ q) (ws ++ vs) d
@@ -243,7 +243,7 @@ joined c a m b d s p q (v ∷ vs) [] fed past fed_again past_again = record {
   );
 }
 
-pub history_on : (s : Side) (h : List ℕ) (vs ws : List Said)
+pub history_on : (s : Side) (h : List ℕ) (vs ws : List StreamEvent)
     → history s (history s h vs) ws ≡ history s h (ws ++ vs)
 history_on s h vs [] = refl
 history_on s h vs (w ∷ ws) = ap (λ g. with_letter s g (letter_of w)) (history_on s h vs ws)
@@ -256,11 +256,11 @@ or_on : (a b c : Bool) → ((a || b) || c) ≡ (a || (b || c))
 or_on true b c = refl
 or_on false b c = refl
 
-pub sealed_on : (vs ws : List Said) → has_sealed (ws ++ vs) ≡ (has_sealed vs || has_sealed ws)
+pub sealed_on : (vs ws : List StreamEvent) → has_sealed (ws ++ vs) ≡ (has_sealed vs || has_sealed ws)
 sealed_on vs [] = or_false (has_sealed vs)
 sealed_on vs (w ∷ ws) = ap (λ b. b || is_sealed w) (sealed_on vs ws)
     ∙ or_on (has_sealed vs) (has_sealed ws) (is_sealed w)
 
-pub longer : (vs ws : List Said) (n : ℕ) → n ≤ length ws → n ≤ length (ws ++ vs)
+pub longer : (vs ws : List StreamEvent) (n : ℕ) → n ≤ length ws → n ≤ length (ws ++ vs)
 longer vs ws n few = let e : length (ws ++ vs) ≡ length ws + length vs = length-append ws vs in
     omega (arith, few, e)

@@ -38,25 +38,25 @@ use Rattle.tls_flow.specs.declared.symbol.Direction.TheVariants.{ToServer, FromS
 use Rattle.tls_detection.specs.Front.{begins_tls}
 use Rattle.tls_analyzer.specs.Analyzers.{
   IsFirstBy,
-  IsFirstHeard,
-  IsHeardBy,
-  IsHeardOn,
+  IsFirstRead,
+  IsReadBy,
+  IsReadOn,
   IsNext,
   IsNextBy,
   Waits,
   front,
-  hearing,
+  side_state,
   is_over,
   over_by,
-  told_tls,
+  known_as_tls,
   waiting,
-  with_hearing,
+  with_side_state,
   with_waiting,
 }
 use Rattle.tls_analyzer.specs.declared.analyzer.SideState.{SideState}
 use Rattle.tls_analyzer.specs.declared.analyzer.SideState.TheVariants.{Unknown, Clear, Encrypted, Other}
 use Rattle.tls_analyzer.specs.declared.analyzer.Analyzer.{Analyzer}
-use Rattle.tls_analyzer.proofs.AnalyzerLemmas.{IsKnown, both_known, heard_next, hearing_with, known_next, next_on}
+use Rattle.tls_analyzer.proofs.AnalyzerLemmas.{IsKnown, both_known, received_next, side_state_with, known_next, next_on}
 
 -- The stored first bytes of a side, in a new vector.
 pub client_waits : (t : Analyzer) (s : Side) (v : Vec ℕ) (w : Bytes) → s ≡ ToServer → v.items ≡ w
@@ -94,9 +94,9 @@ front_is w f g b x n whole waits comes count =
 pub first_tls : {E : Type 0} (r : Result Unit E) (t m o u : Analyzer) (s : Side) (b : Bytes)
     → nat_lt (length b) (5 - length (waiting t s).items) ≡ false
     → begins_tls (front (waiting t s).items b) ≡ true → Waits t s [] m
-    → IsNext (told_tls m s) s (front (waiting t s).items b) o
+    → IsNext (known_as_tls m s) s (front (waiting t s).items b) o
     → OnOk r (IsNext o s (drop (5 - length (waiting t s).items) b) u)
-    → OnOk r (IsFirstHeard t s (waiting t s).items b u)
+    → OnOk r (IsFirstRead t s (waiting t s).items b u)
 first_tls (Ok x) t m o u s b long tls waits first last =
     let w : Bytes = (waiting t s).items in
     let n : ℕ = 5 - length w in
@@ -105,9 +105,9 @@ first_tls (Ok x) t m o u s b long tls waits first last =
     (sym tls) (
       m,
       waits,
-      subst (λ y. IsNext (told_tls m s) s y u) (append_assoc w (take n b) (drop n b)
+      subst (λ y. IsNext (known_as_tls m s) s y u) (append_assoc w (take n b) (drop n b)
           ∙ ap (λ y. w ++ y) (take-append-drop n b))
-          (next_on (told_tls m s) o u s (front w b) (drop n b) first last),
+          (next_on (known_as_tls m s) o u s (front w b) (drop n b) first last),
     ))
 first_tls (Err e) t m o u s b long tls waits first last = tt
 
@@ -115,11 +115,11 @@ pub first_other : (t m n : Analyzer) (s : Side) (b : Bytes)
     → nat_lt (length b) (5 - length (waiting t s).items) ≡ false
     → begins_tls (front (waiting t s).items b) ≡ false → Waits t s [] m
     → IsNext m s (front (waiting t s).items b) n
-    → IsFirstHeard t s (waiting t s).items b (with_hearing n s Other)
+    → IsFirstRead t s (waiting t s).items b (with_side_state n s Other)
 first_other t m n s b long other waits first =
     let w : Bytes = (waiting t s).items in
-    subst (λ c. IsFirstBy c (begins_tls (front w b)) t s w b (with_hearing n s Other)) (sym long)
-    (subst (λ c. IsFirstBy false c t s w b (with_hearing n s Other)) (sym other)
+    subst (λ c. IsFirstBy c (begins_tls (front w b)) t s w b (with_side_state n s Other)) (sym long)
+    (subst (λ c. IsFirstBy false c t s w b (with_side_state n s Other)) (sym other)
     (m, n, waits, first, refl))
 
 -- None is stored, and enough come at once.
@@ -133,17 +133,17 @@ waits_for_none t s none = (waiting t s, none, with_own t s)
 at_once : (tls : Bool) (t u : Analyzer) (s : Side) (b x : Bytes)
     → length (waiting t s).items ≡ 0 → 5 ≤ length b → x ≡ take 5 b → begins_tls x ≡ tls
     → IsFirstBy false tls t s [] b u
-    → IsFirstHeard t s (waiting t s).items b u
-at_once tls t u s b x none enough is begins heard =
-    subst (λ w. IsFirstHeard t s w b u) (sym (nil_from_length (waiting t s).items none))
+    → IsFirstRead t s (waiting t s).items b u
+at_once tls t u s b x none enough is begins received =
+    subst (λ w. IsFirstRead t s w b u) (sym (nil_from_length (waiting t s).items none))
     (subst (λ c. IsFirstBy c (begins_tls (take 5 b)) t s [] b u) (sym (le-ltb (length b) 5 enough))
     (subst (λ c. IsFirstBy false c t s [] b u)
-    (sym (subst (λ y. begins_tls y ≡ tls) is begins)) heard))
+    (sym (subst (λ y. begins_tls y ≡ tls) is begins)) received))
 
 pub tls_at_once : {E : Type 0} (r : Result Unit E) (t u : Analyzer) (s : Side) (b x : Bytes)
     → length (waiting t s).items ≡ 0 → 5 ≤ length b → x ≡ take 5 b → begins_tls x ≡ true
-    → OnOk r (IsNext (told_tls t s) s b u)
-    → OnOk r (IsFirstHeard t s (waiting t s).items b u)
+    → OnOk r (IsNext (known_as_tls t s) s b u)
+    → OnOk r (IsFirstRead t s (waiting t s).items b u)
 tls_at_once (Ok o) t u s b x none enough is tls next =
     at_once true t u s b x none enough is tls
     (t, waits_for_none t s (nil_from_length (waiting t s).items none), next)
@@ -152,9 +152,9 @@ tls_at_once (Err e) t u s b x none enough is tls next = tt
 pub other_at_once : (t n : Analyzer) (s : Side) (b x : Bytes)
     → length (waiting t s).items ≡ 0 → 5 ≤ length b → x ≡ take 5 b → begins_tls x ≡ false
     → IsNext t s x n
-    → IsFirstHeard t s (waiting t s).items b (with_hearing n s Other)
+    → IsFirstRead t s (waiting t s).items b (with_side_state n s Other)
 other_at_once t n s b x none enough is other next =
-    at_once false t (with_hearing n s Other) s b x none enough is other (
+    at_once false t (with_side_state n s Other) s b x none enough is other (
       t,
       n,
       waits_for_none t s (nil_from_length (waiting t s).items none),
@@ -202,9 +202,9 @@ long_stays : (w p q : Bytes) → 5 - length w ≤ length p
 long_stays w p q long = let more : length (p ++ q) ≡ length p + length q = length-append p q in
     le-ltb (length (p ++ q)) (5 - length w) (omega (arith, long, more))
 
-hearing_waits : (t m : Analyzer) (s : Side) (w : Bytes) → Waits t s w m → hearing m s ≡ hearing t s
-hearing_waits t m ToServer w waits = ap (λ x. hearing x ToServer) waits.2
-hearing_waits t m FromServer w waits = ap (λ x. hearing x FromServer) waits.2
+side_state_waits : (t m : Analyzer) (s : Side) (w : Bytes) → Waits t s w m → side_state m s ≡ side_state t s
+side_state_waits t m ToServer w waits = ap (λ x. side_state x ToServer) waits.2
+side_state_waits t m FromServer w waits = ap (λ x. side_state x FromServer) waits.2
 
 waiting_with : (t : Analyzer) (s : Side) (v : Vec ℕ) → waiting (with_waiting t s v) s ≡ v
 waiting_with t ToServer v = refl
@@ -233,37 +233,37 @@ first_again : (short tls : Bool) (t m u : Analyzer) (s : Side) (w p q : Bytes)
     → Waits t s (w ++ p) m
     → front (w ++ p) q ≡ front w (p ++ q)
     → IsFirstBy short tls m s (w ++ p) q u → IsFirstBy short tls t s w (p ++ q) u
-first_again true tls t m u s w p q waits same heard =
+first_again true tls t m u s w p q waits same received =
     subst (λ b. Waits t s b u) (append_assoc w p q)
-    (waits_again t m u s (w ++ p) ((w ++ p) ++ q) waits heard)
-first_again false true t m u s w p q waits same heard = (
-  heard.0,
-  waits_again t m heard.0 s (w ++ p) [] waits heard.1,
-  subst (λ b. IsNext (told_tls heard.0 s) s b u) (append_assoc w p q) heard.2,
+    (waits_again t m u s (w ++ p) ((w ++ p) ++ q) waits received)
+first_again false true t m u s w p q waits same received = (
+  received.0,
+  waits_again t m received.0 s (w ++ p) [] waits received.1,
+  subst (λ b. IsNext (known_as_tls received.0 s) s b u) (append_assoc w p q) received.2,
 )
-first_again false false t m u s w p q waits same heard = (
-  heard.0,
-  heard.1,
-  waits_again t m heard.0 s (w ++ p) [] waits heard.2,
-  subst (λ b. IsNext heard.0 s b heard.1) same heard.3,
-  heard.4,
+first_again false false t m u s w p q waits same received = (
+  received.0,
+  received.1,
+  waits_again t m received.0 s (w ++ p) [] waits received.2,
+  subst (λ b. IsNext received.0 s b received.1) same received.3,
+  received.4,
 )
 
-over_other : (t : Analyzer) (s : Side) → hearing t s ≡ Other → is_over t s ≡ true
+over_other : (t : Analyzer) (s : Side) → side_state t s ≡ Other → is_over t s ≡ true
 over_other t s other = ap (λ h. over_by h (outcome_at t.conversation_state.flow.state)) other
 
 -- A side of which nothing is known gets a piece, and then another.
-both_short : (t m u : Analyzer) (s : Side) (p q : Bytes) → hearing t s ≡ Unknown
+both_short : (t m u : Analyzer) (s : Side) (p q : Bytes) → side_state t s ≡ Unknown
     → length p < 5 - length (waiting t s).items
-    → Waits t s ((waiting t s).items ++ p) m → IsHeardOn m s q u
-    → IsFirstHeard t s (waiting t s).items (p ++ q) u
+    → Waits t s ((waiting t s).items ++ p) m → IsReadOn m s q u
+    → IsFirstRead t s (waiting t s).items (p ++ q) u
 both_short t m u s p q unknown short waits last =
     let w : Bytes = (waiting t s).items in
-    let heard : IsFirstHeard m s (waiting m s).items q u =
-    subst (λ h. IsHeardBy h m s q u) (hearing_waits t m s (w ++ p) waits ∙ unknown) last in
-    let here : IsFirstHeard m s (w ++ p) q u =
-    subst (λ b. IsFirstHeard m s b q u) (waiting_is t m s (w ++ p) waits)
-    heard in
+    let received : IsFirstRead m s (waiting m s).items q u =
+    subst (λ h. IsReadBy h m s q u) (side_state_waits t m s (w ++ p) waits ∙ unknown) last in
+    let here : IsFirstRead m s (w ++ p) q u =
+    subst (λ b. IsFirstRead m s b q u) (waiting_is t m s (w ++ p) waits)
+    received in
     first_again (nat_lt (length (p ++ q)) (5 - length w)) (begins_tls (front w (p ++ q))) t m u s
     w p q waits
     (front_moves w p q short)
@@ -274,28 +274,28 @@ both_short t m u s p q unknown short waits last =
     short) here))
 
 both_long : (tls : Bool) (t m u : Analyzer) (s : Side) (w p q : Bytes) → 5 - length w ≤ length p
-    → IsFirstBy false tls t s w p m → IsHeardOn m s q u
+    → IsFirstBy false tls t s w p m → IsReadOn m s q u
     → IsFirstBy false tls t s w (p ++ q) u
 both_long true t m u s w p q long first last =
-    let known : IsKnown (hearing (told_tls first.0 s) s) =
-    subst IsKnown (sym (hearing_with (record first.0 {
+    let known : IsKnown (side_state (known_as_tls first.0 s) s) =
+    subst IsKnown (sym (side_state_with (record first.0 {
       is_tls =
           true;
     }) s Clear))
     (λ e. absurd cc) in (
       first.0,
       first.1,
-      subst (λ b. IsNext (told_tls first.0 s) s b u) (append_assoc w p q)
-          (next_on (told_tls first.0 s) m u s (w ++ p) q
+      subst (λ b. IsNext (known_as_tls first.0 s) s b u) (append_assoc w p q)
+          (next_on (known_as_tls first.0 s) m u s (w ++ p) q
           first.2
-          (heard_next m u s q (hearing m s)
-          (known_next (told_tls first.0 s) m s (w ++ p) known first.2) last)),
+          (received_next m u s q (side_state m s)
+          (known_next (known_as_tls first.0 s) m s (w ++ p) known first.2) last)),
     )
 both_long false t m u s w p q long first last =
-    let other : hearing m s ≡ Other = ap (λ x. hearing x s) first.4
-    ∙ hearing_with first.1 s Other in
+    let other : side_state m s ≡ Other = ap (λ x. side_state x s) first.4
+    ∙ side_state_with first.1 s Other in
     let next : IsNext m s q u =
-    heard_next m u s q (hearing m s) (subst IsKnown (sym other) (λ e. absurd cc)) last in
+    received_next m u s q (side_state m s) (subst IsKnown (sym other) (λ e. absurd cc)) last in
     let same : u ≡ m = subst (λ b. IsNextBy b m s q u) (over_other m s other) next in (
       first.0,
       first.1,
@@ -304,9 +304,9 @@ both_long false t m u s w p q long first last =
       same ∙ first.4,
     )
 
-both_first : (t m u : Analyzer) (s : Side) (p q : Bytes) → hearing t s ≡ Unknown
-    → IsFirstHeard t s (waiting t s).items p m → IsHeardOn m s q u
-    → IsFirstHeard t s (waiting t s).items (p ++ q) u
+both_first : (t m u : Analyzer) (s : Side) (p q : Bytes) → side_state t s ≡ Unknown
+    → IsFirstRead t s (waiting t s).items p m → IsReadOn m s q u
+    → IsFirstRead t s (waiting t s).items (p ++ q) u
 both_first t m u s p q unknown first last = go (nat_lt (length p) (5 - length w)) refl first
   where
     w : Bytes
@@ -314,7 +314,7 @@ both_first t m u s p q unknown first last = go (nat_lt (length p) (5 - length w)
 
     go : (b : Bool) → nat_lt (length p) (5 - length w) ≡ b
         → IsFirstBy b (begins_tls (front w p)) t s w p m
-        → IsFirstHeard t s w (p ++ q) u
+        → IsFirstRead t s w (p ++ q) u
     go true is by = both_short t m u s p q unknown (ltb-true (length p) (5 - length w) is) by last
     go false is by = let long : 5 - length w ≤ length p = ltb-false (length p) (5 - length w) is in
         subst (λ b. IsFirstBy b (begins_tls (front w (p ++ q))) t s w (p ++ q) u)
@@ -323,13 +323,13 @@ both_first t m u s p q unknown first last = go (nat_lt (length p) (5 - length w)
         (both_long (begins_tls (front w p)) t m u s w p q long by last))
 
 -- Two pieces of a side are read like one.
-pub both_heard : (t m u : Analyzer) (s : Side) (p q : Bytes) → IsHeardOn t s p m → IsHeardOn m s q u
-    → IsHeardOn t s (p ++ q) u
-both_heard t m u s p q first last = go (hearing t s) refl
+pub both_received : (t m u : Analyzer) (s : Side) (p q : Bytes) → IsReadOn t s p m → IsReadOn m s q u
+    → IsReadOn t s (p ++ q) u
+both_received t m u s p q first last = go (side_state t s) refl
   where
-    go : (h : SideState) → hearing t s ≡ h → IsHeardOn t s (p ++ q) u
-    go Unknown is = subst (λ h. IsHeardBy h t s (p ++ q) u) (sym is)
-        (both_first t m u s p q is (subst (λ h. IsHeardBy h t s p m) is first) last)
+    go : (h : SideState) → side_state t s ≡ h → IsReadOn t s (p ++ q) u
+    go Unknown is = subst (λ h. IsReadBy h t s (p ++ q) u) (sym is)
+        (both_first t m u s p q is (subst (λ h. IsReadBy h t s p m) is first) last)
     go Clear is = both_known t m u s p q (subst IsKnown (sym is) (λ e. absurd cc)) first last
     go Encrypted is = both_known t m u s p q (subst IsKnown (sym is) (λ e. absurd cc)) first last
     go Other is = both_known t m u s p q (subst IsKnown (sym is) (λ e. absurd cc)) first last

@@ -1,10 +1,10 @@
 -- What is known after events.
 use Rattle.std.proofs.Common.{◌≡◌, List, [], ◌∷◌, ◌++◌, refl, ◌∙◌, ap}
-use Rattle.tls_stream.specs.Item.{Event as Said}
+use Rattle.tls_stream.specs.Item.{Event as StreamEvent}
 use Rattle.tls_flow.specs.declared.flow.Flow.{Flow}
 use Rattle.tls_flow.specs.declared.symbol.Direction.{Direction as Side}
 use Rattle.tls_summary.specs.HandshakeSummary.{HandshakeSummary, view_summary}
-use Rattle.tls_analyzer.specs.Hearing.{IsNoted, known_of}
+use Rattle.tls_analyzer.specs.Following.{IsNoted, known_of}
 use Rattle.tls_observer.specs.Noting.{Known, followed, known, known_by}
 use Rattle.tls_analyzer.specs.declared.conversation_state.ConversationState.{ConversationState}
 
@@ -17,7 +17,7 @@ known_same h i flow same = ap (λ w. both w (view_summary i.handshake)) flow
     ∙ ap (λ f. both h.flow (view_summary f)) same
 
 -- One more event.
-pub known_next : (s : Side) (h i : ConversationState) (k : Known) (v : Said) → IsNoted h s v i
+pub known_next : (s : Side) (h i : ConversationState) (k : Known) (v : StreamEvent) → IsNoted h s v i
     → known_of h ≡ k
     → known_of i ≡ known_by s k v
 known_next s h i k v noted_it is =
@@ -25,7 +25,7 @@ known_next s h i k v noted_it is =
     ∙ ap (λ f. both (followed s h.flow (view_summary h.handshake) v) f) noted_it.handshake
     ∙ ap (λ x. known_by s x v) is
 
-pub known_on : (s : Side) (k : Known) (vs ws : List Said)
+pub known_on : (s : Side) (k : Known) (vs ws : List StreamEvent)
     → known s (known s k vs) ws ≡ known s k (ws ++ vs)
 known_on s k vs [] = refl
 known_on s k vs (w ∷ ws) = ap (λ x. known_by s x w) (known_on s k vs ws)

@@ -1,6 +1,6 @@
 mod KnownLemmas
 mod CutLemmas
-mod HearerLemmas
+mod EventLemmas
 mod AnalyzerLemmas
 mod FollowLemmas
 mod FirstLemmas

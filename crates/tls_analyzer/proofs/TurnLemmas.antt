@@ -27,52 +27,52 @@ use Rattle.layouts.specs.Bytes.{Bytes}
 use Rattle.tls_flow.specs.declared.symbol.Direction.{Direction as Side}
 use Rattle.tls_flow.specs.declared.symbol.Direction.TheVariants.{ToServer, FromServer}
 use Rattle.tls_stream.specs.Conversations.{views}
-use Rattle.tls_analyzer.specs.Hearing.{onto, turns}
-use Rattle.tls_analyzer.specs.Analyzers.{AreHeardOn, IsHeardOn}
+use Rattle.tls_analyzer.specs.Following.{onto, turns}
+use Rattle.tls_analyzer.specs.Analyzers.{AreReadOn, IsReadOn}
 use Rattle.tls_analyzer.specs.declared.analyzer.Analyzer.{Analyzer}
-use Rattle.tls_analyzer.proofs.FirstLemmas.{both_heard}
+use Rattle.tls_analyzer.proofs.FirstLemmas.{both_received}
 
 -- A piece before turns.
-onto_heard : (t m u : Analyzer) (p : Side × Bytes) (ts : List (Side × Bytes))
-    → IsHeardOn t p.0 p.1 m → AreHeardOn m ts u
-    → AreHeardOn t (onto p ts) u
-onto_heard t m u p [] first rest = (m, first, rest)
-onto_heard t m u (ToServer, p) ((ToServer, q) ∷ ts) first rest = (
+onto_received : (t m u : Analyzer) (p : Side × Bytes) (ts : List (Side × Bytes))
+    → IsReadOn t p.0 p.1 m → AreReadOn m ts u
+    → AreReadOn t (onto p ts) u
+onto_received t m u p [] first rest = (m, first, rest)
+onto_received t m u (ToServer, p) ((ToServer, q) ∷ ts) first rest = (
   rest.0,
-  both_heard t m rest.0 ToServer p q first
+  both_received t m rest.0 ToServer p q first
       rest.1,
   rest.2,
 )
-onto_heard t m u (FromServer, p) ((FromServer, q) ∷ ts) first rest = (
+onto_received t m u (FromServer, p) ((FromServer, q) ∷ ts) first rest = (
   rest.0,
-  both_heard t m rest.0 FromServer p q first
+  both_received t m rest.0 FromServer p q first
       rest.1,
   rest.2,
 )
-onto_heard t m u (ToServer, p) ((FromServer, q) ∷ ts) first rest = (m, first, rest)
-onto_heard t m u (FromServer, p) ((ToServer, q) ∷ ts) first rest = (m, first, rest)
+onto_received t m u (ToServer, p) ((FromServer, q) ∷ ts) first rest = (m, first, rest)
+onto_received t m u (FromServer, p) ((ToServer, q) ∷ ts) first rest = (m, first, rest)
 
-turns_heard : (t u : Analyzer) (ps : List (Side × Bytes)) → AreHeardOn t ps u
-    → AreHeardOn t (turns ps) u
-turns_heard t u [] heard = heard
-turns_heard t u (p ∷ ps) heard =
-    onto_heard t heard.0 u p (turns ps) heard.1 (turns_heard heard.0 u ps heard.2)
+turns_received : (t u : Analyzer) (ps : List (Side × Bytes)) → AreReadOn t ps u
+    → AreReadOn t (turns ps) u
+turns_received t u [] received = received
+turns_received t u (p ∷ ps) received =
+    onto_received t received.0 u p (turns ps) received.1 (turns_received received.0 u ps received.2)
 
 -- One more piece.
-one_more : (t m u : Analyzer) (ps : List (Side × Bytes)) (s : Side) (p : Bytes) → AreHeardOn t ps m
-    → IsHeardOn m s p u
-    → AreHeardOn t (ps ++ (s, p) ∷ []) u
-one_more t m u [] s p heard last = (u, subst (λ x. IsHeardOn x s p u) heard last, refl)
-one_more t m u (q ∷ ps) s p heard last =
-    (heard.0, heard.1, one_more heard.0 m u ps s p heard.2 last)
+one_more : (t m u : Analyzer) (ps : List (Side × Bytes)) (s : Side) (p : Bytes) → AreReadOn t ps m
+    → IsReadOn m s p u
+    → AreReadOn t (ps ++ (s, p) ∷ []) u
+one_more t m u [] s p received last = (u, subst (λ x. IsReadOn x s p u) received last, refl)
+one_more t m u (q ∷ ps) s p received last =
+    (received.0, received.1, one_more received.0 m u ps s p received.2 last)
 
-pub piece_heard : (t m u : Analyzer) (pieces : List (Side × Bor (List ℕ))) (n : ℕ)
+pub piece_received : (t m u : Analyzer) (pieces : List (Side × Bor (List ℕ))) (n : ℕ)
     (q : Side × Bor (List ℕ))
     → n < length pieces
-    → AreHeardOn t (views (take n pieces)) m
-    → IsHeardOn m (get_or pieces n q).0 (get_or pieces n q).1.now u
-    → AreHeardOn t (views (take (n + 1) pieces)) u
-piece_heard t m u pieces n q within heard last =
+    → AreReadOn t (views (take n pieces)) m
+    → IsReadOn m (get_or pieces n q).0 (get_or pieces n q).1.now u
+    → AreReadOn t (views (take (n + 1) pieces)) u
+piece_received t m u pieces n q within received last =
     let one : n + 1 ≡ suc n = omega arith in
     let next : views (take (n + 1) pieces) ≡ views (take n pieces)
     ++ ((get_or pieces n q).0, (get_or pieces n q).1.now)
@@ -80,13 +80,13 @@ piece_heard t m u pieces n q within heard last =
     = ap (λ k. views (take k pieces)) one ∙ ap views (take-suc pieces n q within)
     ∙ map-append (λ (p : Side × Bor (List ℕ)). (p.0, p.1.now)) (take n pieces)
     (get_or pieces n q ∷ []) in
-    subst (λ ps. AreHeardOn t ps u) (sym next)
+    subst (λ ps. AreReadOn t ps u) (sym next)
     (one_more t m u (views (take n pieces)) (get_or pieces n q).0 (get_or pieces n q).1.now
-    heard last)
+    received last)
 
-pub all_heard : (t u : Analyzer) (pieces : List (Side × Bor (List ℕ))) (n : ℕ) → length pieces ≤ n
-    → AreHeardOn t (views (take n pieces)) u
-    → AreHeardOn t (turns (views pieces)) u
-all_heard t u pieces n all heard =
-    turns_heard t u (views pieces)
-    (subst (λ ps. AreHeardOn t (views ps) u) (take_all n pieces all) heard)
+pub all_received : (t u : Analyzer) (pieces : List (Side × Bor (List ℕ))) (n : ℕ) → length pieces ≤ n
+    → AreReadOn t (views (take n pieces)) u
+    → AreReadOn t (turns (views pieces)) u
+all_received t u pieces n all received =
+    turns_received t u (views pieces)
+    (subst (λ ps. AreReadOn t (views ps) u) (take_all n pieces all) received)

@@ -1,4 +1,4 @@
-pub mod Hearing
+pub mod Following
 pub mod Analyzers
 pub mod Records
 pub mod Capacity

@@ -2,13 +2,13 @@
 ghost use Rattle.std.specs.Prelude.{◌≡◌, ◌≤◌, ◌++◌, [], IfOk, OnOk, length};
 ghost use Rattle.ssl2_hello.specs.ClientHello.{view_client_hello as view_ssl2_hello};
 ghost use Rattle.tls_stream.specs.Conversations.{views};
-ghost use Rattle.tls_stream.specs.Readers.{ear};
-ghost use Rattle.tls_stream.specs.Ears.{IsReady, front_of};
+ghost use Rattle.tls_stream.specs.Readers.{reader_of};
+ghost use Rattle.tls_stream.specs.SideReaders.{IsReady, front_of};
 ghost use Rattle.tls_summary.specs.HandshakeSummary.{view_summary};
 ghost use Rattle.tls_flow.specs.Table.{outcome_at};
 ghost use Rattle.tls_observer.specs.Ends.{is_established as established_by, is_resumed as resumed_by};
 ghost use Rattle.tls_analyzer.specs.Capacity.{capacity_of};
-ghost use Rattle.tls_analyzer.specs.Analyzers.{IsFirstHeard, IsHeardAsNone, IsHeardInSsl2, IsHeardOn, IsNew, IsNext, IsTaken, IsAnalyzerOf, Waits, hearing as hearing_of, is_over as is_over_in, is_tls_on as is_tls_on_side, is_unknown as is_unknown_in, waiting as waiting_of, with_hearing};
+ghost use Rattle.tls_analyzer.specs.Analyzers.{IsFirstRead, IsReadAsNone, IsReadInSsl2, IsReadOn, IsNew, IsNext, IsTaken, IsAnalyzerOf, Waits, side_state as side_state_of, is_over as is_over_in, is_tls_on as is_tls_on_side, is_unknown as is_unknown_in, waiting as waiting_of, with_side_state};
 
 use crate::conversation_state::ConversationState;
 use ssl2_hello::Ssl2ClientHello;
@@ -124,8 +124,8 @@ impl Analyzer {
         ends::is_resumed(self.outcome(), &self.conversation_state.handshake)
     }
 
-    fn hearing(&self, side: Direction) -> SideState
-        ensures { result ≡ hearing_of self.now side }
+    fn side_state(&self, side: Direction) -> SideState
+        ensures { result ≡ side_state_of self.now side }
     {
         match side {
             Direction::ToServer => self.client,
@@ -137,22 +137,25 @@ impl Analyzer {
     pub fn is_unknown(&self, side: Direction) -> bool
         ensures { result ≡ is_unknown_in self.now side }
     {
-        matches!(self.hearing(side), SideState::Unknown)
+        matches!(self.side_state(side), SideState::Unknown)
     }
 
     /// Whether a side's first bytes are TLS.
     pub fn is_tls_on(&self, side: Direction) -> bool
         ensures { result ≡ is_tls_on_side self.now side }
     {
-        matches!(self.hearing(side), SideState::Clear | SideState::Encrypted)
+        matches!(
+            self.side_state(side),
+            SideState::Clear | SideState::Encrypted
+        )
     }
 
-    fn set_side_state(&mut self, side: Direction, hearing: SideState)
-        ensures { self.new ≡ with_hearing self.old side hearing }
+    fn set_side_state(&mut self, side: Direction, side_state: SideState)
+        ensures { self.new ≡ with_side_state self.old side side_state }
     {
         match side {
-            Direction::ToServer => self.client = hearing,
-            Direction::FromServer => self.server = hearing,
+            Direction::ToServer => self.client = side_state,
+            Direction::FromServer => self.server = side_state,
         }
     }
 
@@ -161,7 +164,7 @@ impl Analyzer {
     pub fn is_over(&self, side: Direction) -> bool
         ensures { result ≡ is_over_in self.now side }
     {
-        match self.hearing(side) {
+        match self.side_state(side) {
             SideState::Unknown | SideState::Clear => false,
             SideState::Encrypted => !matches!(self.outcome(), Outcome::Waiting),
             SideState::Other => true,
@@ -209,11 +212,11 @@ impl Analyzer {
         observer: &mut W,
     ) -> Result<bool, AllocError>
         ensures taken { IfOk result
-            (λ taken. IsTaken (front_of (ear self.old.conversation_state.reader side))
+            (λ taken. IsTaken (front_of (reader_of self.old.conversation_state.reader side))
             self.old side taken
             self.new) }
-        ensures ready { OnOk result (IsReady (ear self.old.conversation_state.reader side)
-            → IsReady (ear self.new.conversation_state.reader side)) }
+        ensures ready { OnOk result (IsReady (reader_of self.old.conversation_state.reader side)
+            → IsReady (reader_of self.new.conversation_state.reader side)) }
     {
         match self.conversation_state.take_next(alloc, side, observer)? {
             Some(true) => {
@@ -258,7 +261,7 @@ impl Analyzer {
         requires none { length (waiting_of self.old side).items ≡ 0 }
         requires enough { 5 ≤ length bytes.now }
         ensures { OnOk result
-            (IsFirstHeard self.old side (waiting_of self.old side).items bytes.now self.new) }
+            (IsFirstRead self.old side (waiting_of self.old side).items bytes.now self.new) }
     {
         let (front, _) = bytes.split_at(HEADER_LEN);
         if begins_tls(front) {
@@ -280,7 +283,7 @@ impl Analyzer {
         observer: &mut W,
     ) -> Result<(), AllocError>
         ensures { OnOk result
-            (IsFirstHeard self.old side (waiting_of self.old side).items bytes.now self.new) }
+            (IsFirstRead self.old side (waiting_of self.old side).items bytes.now self.new) }
     {
         let missing = HEADER_LEN.saturating_sub(self.waiting(side).len());
         if bytes.len() < missing {
@@ -313,7 +316,7 @@ impl Analyzer {
         side: Direction,
         hello: &Ssl2ClientHello<'_>,
     ) -> Result<(), AllocError>
-        ensures { OnOk result (IsHeardInSsl2 self.old side (view_ssl2_hello hello.now) self.new) }
+        ensures { OnOk result (IsReadInSsl2 self.old side (view_ssl2_hello hello.now) self.new) }
     {
         self.conversation_state.analyze_ssl2(alloc, side, hello)?;
         self.is_tls = true;
@@ -321,10 +324,10 @@ impl Analyzer {
         Ok(())
     }
 
-    /// Treats a side that has sent nothing so far as one that isn't TLS: that counts as a fault, and
-    /// the side is skipped.
+    /// Treats a side that has sent nothing so far as one that isn't TLS: that counts as a fault,
+    /// and the side is skipped.
     pub fn skip_side(&mut self, side: Direction)
-        ensures { IsHeardAsNone self.old side self.new }
+        ensures { IsReadAsNone self.old side self.new }
     {
         if !self.is_over(side) {
             self.conversation_state.follow_fault(side);
@@ -343,7 +346,7 @@ impl Analyzer {
         side: Direction,
         bytes: &[u8],
     ) -> Result<(), AllocError>
-        ensures { OnOk result (IsHeardOn self.old side bytes.now self.new) }
+        ensures { OnOk result (IsReadOn self.old side bytes.now self.new) }
     {
         self.analyze_with(alloc, side, bytes, &mut NoObserver)
     }
@@ -357,9 +360,9 @@ impl Analyzer {
         bytes: &[u8],
         observer: &mut W,
     ) -> Result<(), AllocError>
-        ensures { OnOk result (IsHeardOn self.old side bytes.now self.new) }
+        ensures { OnOk result (IsReadOn self.old side bytes.now self.new) }
     {
-        if self.hearing(side) == SideState::Unknown {
+        if self.side_state(side) == SideState::Unknown {
             return self.analyze_first(alloc, side, bytes, observer);
         }
         self.follow(alloc, side, bytes, observer)

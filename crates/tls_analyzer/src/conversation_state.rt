@@ -2,15 +2,15 @@
 ghost use Rattle.std.specs.Prelude.{◌≡◌, [], IfOk, OnOk};
 ghost use Rattle.std.specs.Option.{option_map};
 ghost use Rattle.ssl2_hello.specs.ClientHello.{view_client_hello as view_ssl2_hello};
-ghost use Rattle.tls_stream.specs.Readers.{IsBegun, ear};
-ghost use Rattle.tls_stream.specs.Ears.{IsReady, front_of};
-ghost use Rattle.tls_stream.specs.FlowEvents.{event_of, view_said};
-ghost use Rattle.tls_flow.specs.Bytes.{view_heard};
+ghost use Rattle.tls_stream.specs.Readers.{IsBegun, reader_of};
+ghost use Rattle.tls_stream.specs.SideReaders.{IsReady, front_of};
+ghost use Rattle.tls_stream.specs.FlowEvents.{event_of, view_stream_event};
+ghost use Rattle.tls_flow.specs.Bytes.{view_handshake_message};
 ghost use Rattle.tls_summary.specs.HandshakeSummary.{nothing, view_summary};
 ghost use Rattle.tls_flow.specs.Steps.{silence};
 ghost use Rattle.tls_observer.specs.Noting.{followed, is_sealed, noted, noted_with, stepped};
 ghost use Rattle.tls_observer.specs.History.{letter_of, with_letter};
-ghost use Rattle.tls_analyzer.specs.Hearing.{IsFed, IsHelloNoted, IsNextTaken, with_fault};
+ghost use Rattle.tls_analyzer.specs.Following.{IsFed, IsHelloNoted, IsNextTaken, with_fault};
 
 use ssl2_hello::Ssl2ClientHello;
 use std::alloc::{AllocError, Global};
@@ -36,10 +36,10 @@ pub(crate) struct ConversationState {
 }
 
 /// Whether what follows in this direction is encrypted.
-fn is_encrypted(said: &SideEvent<'_>) -> bool
-    ensures { result ≡ is_sealed (view_said said.now) }
+fn is_encrypted(sent: &SideEvent<'_>) -> bool
+    ensures { result ≡ is_sealed (view_stream_event sent.now) }
 {
-    match said {
+    match sent {
         SideEvent::Event(Event::Encrypted(_)) | SideEvent::Event(Event::ApplicationData(_)) => true,
         SideEvent::Event(_) | SideEvent::Fault(_) => false,
     }
@@ -60,16 +60,16 @@ fn note(
     handshake: &mut HandshakeSummary,
     alloc: Global,
     side: Direction,
-    said: &SideEvent<'_>,
+    sent: &SideEvent<'_>,
     message: Option<&HandshakeMessage<'_>>,
     known: Option<&mut CertificateCache>,
 ) -> Result<(), AllocError>
     ensures { OnOk result
         (view_summary handshake.new ≡ noted_with side (view_summary handshake.old)
-        (view_said said.now)
-        (option_map (λ m. view_heard m.now) message.entry)) }
+        (view_stream_event sent.now)
+        (option_map (λ m. view_handshake_message m.now) message.entry)) }
 {
-    match said {
+    match sent {
         SideEvent::Event(Event::Handshake(_)) => {
             if let Some(message) = message {
                 handshake.note_with(alloc, side, message, known)?;
@@ -87,31 +87,34 @@ fn note(
 
 /// Follows an event of a side, updates the summary and appends its letter. Its message is parsed
 /// once for these and the observer.
-fn tell<W: Observer>(
+fn emit<W: Observer>(
     flow: &mut Flow,
     handshake: &mut HandshakeSummary,
     history: &mut Vec<u8>,
     alloc: Global,
     side: Direction,
-    said: &SideEvent<'_>,
+    sent: &SideEvent<'_>,
     observer: &mut W,
 ) -> Result<FlowEvent, AllocError>
     ensures flow { OnOk result
-        (flow.new ≡ followed side flow.old (view_summary handshake.old) (view_said said.now)) }
+        (flow.new ≡ followed side flow.old (view_summary handshake.old)
+        (view_stream_event sent.now)) }
     ensures handshake { OnOk result
-        (view_summary handshake.new ≡ noted side (view_summary handshake.old) (view_said said.now)) }
+        (view_summary handshake.new
+        ≡ noted side (view_summary handshake.old) (view_stream_event sent.now)) }
     ensures history { OnOk result
-        (history.new.items ≡ with_letter side history.old.items (letter_of (view_said said.now))) }
-    ensures event { IfOk result (λ e. e ≡ event_of side (view_said said.now)) }
+        (history.new.items ≡ with_letter side history.old.items
+        (letter_of (view_stream_event sent.now))) }
+    ensures event { IfOk result (λ e. e ≡ event_of side (view_stream_event sent.now)) }
 {
-    let message = stream_message(said);
+    let message = stream_message(sent);
     let kind = Kind::of_message(message.as_ref());
-    let event = stream_event_with(said, kind, side);
+    let event = stream_event_with(sent, kind, side);
     step(flow, handshake, side, event);
     let known = observer.certificate_cache();
-    note(handshake, alloc, side, said, message.as_ref(), known)?;
-    add_letter(history, side, stream_letter(said, kind))?;
-    observer.on_stream_event(side, said, message.as_ref())?;
+    note(handshake, alloc, side, sent, message.as_ref(), known)?;
+    add_letter(history, side, stream_letter(sent, kind))?;
+    observer.on_stream_event(side, sent, message.as_ref())?;
     Ok(event)
 }
 
@@ -134,7 +137,7 @@ impl ConversationState {
     /// Appends a piece of this side's stream.
     pub(crate) fn feed(&mut self, side: Direction, piece: &[u8]) -> Result<(), AllocError>
         ensures fed { OnOk result (IsFed self.old side piece.now self.new) }
-        ensures ready { OnOk result (IsReady (ear self.new.reader side)) }
+        ensures ready { OnOk result (IsReady (reader_of self.new.reader side)) }
     {
         self.reader.feed(side, piece).map_err(|_e| AllocError)
     }
@@ -171,23 +174,24 @@ impl ConversationState {
         observer: &mut W,
     ) -> Result<Option<bool>, AllocError>
         ensures taken { IfOk result
-            (λ r. IsNextTaken (front_of (ear self.old.reader side)) self.old side r self.new) }
+            (λ r. IsNextTaken (front_of
+            (reader_of self.old.reader side)) self.old side r self.new) }
         ensures ready { OnOk result
-            (IsReady (ear self.old.reader side) → IsReady (ear self.new.reader side)) }
+            (IsReady (reader_of self.old.reader side) → IsReady (reader_of self.new.reader side)) }
     {
         let (event, is_encrypted) = match self.reader.front(side) {
-            Some(said) => {
+            Some(sent) => {
                 let (flow, handshake) = (&mut self.flow, &mut self.handshake);
-                let event = tell(
+                let event = emit(
                     flow,
                     handshake,
                     &mut self.history,
                     alloc,
                     side,
-                    &said,
+                    &sent,
                     observer,
                 )?;
-                (event, is_encrypted(&said))
+                (event, is_encrypted(&sent))
             }
             None => return Ok(None),
         };

@@ -6,7 +6,7 @@
 //! `content_view` check one content.
 ghost use Rattle.std.specs.Prelude.{◌≡◌, ℕ};
 ghost use Rattle.std.specs.Option.{option_map};
-ghost use Rattle.layouts.specs.Items.{Tells, items_in};
+ghost use Rattle.layouts.specs.Items.{Returns, items_in};
 ghost use Rattle.layouts.specs.Framed.{Framed};
 ghost use Rattle.layouts.specs.Text.{held};
 ghost use Rattle.tls_ext.specs.InPlace.{content_of, extension_type, raw_extension, view_raw_extension};
@@ -94,7 +94,7 @@ pub fn first_content<'a>(
     extensions: Items<'a, RawExtension<'a>>,
     kind: TlsExtensionType,
 ) -> Result<Option<&'a [u8]>, Err<Error<&'a [u8]>>>
-    ensures { Tells (option_map (λ x. x.now))
+    ensures { Returns (option_map (λ x. x.now))
         (content_of kind.0 extensions.entry.bytes.now) result }
 {
     let block = extensions.bytes();

@@ -8,7 +8,7 @@
 
 ghost use Rattle.std.specs.Prelude.{◌≡◌, IsTrue, ◌↔◌};
 ghost use Rattle.std.specs.Option.{option_map};
-ghost use Rattle.layouts.specs.Items.{Tells, items_in};
+ghost use Rattle.layouts.specs.Items.{Returns, items_in};
 ghost use Rattle.layouts.specs.Layout.{counted, number};
 ghost use Rattle.layouts.specs.Text.{held};
 ghost use Rattle.tls_ext.specs.Dispatch.{is_grease as is_grease_number};
@@ -25,7 +25,7 @@ use tls_base::{TlsExtensionType, TlsVersion};
 /// `None` if there is no such extension, or it has no name. Refuses if the extension's content is
 /// refused, or if there is no such extension and the extensions end with an incomplete one.
 pub fn server_name<'a>(ext: Option<&'a [u8]>) -> Result<Option<&'a [u8]>, Err<Error<&'a [u8]>>>
-    ensures { Tells (option_map (λ x. x.now))
+    ensures { Returns (option_map (λ x. x.now))
         (host_name (held (option_map (λ x. x.now) ext.entry))) result }
 {
     let Some(content) = first_content(extensions(ext), TlsExtensionType::ServerName)? else {
@@ -46,7 +46,7 @@ pub fn server_name<'a>(ext: Option<&'a [u8]>) -> Result<Option<&'a [u8]>, Err<Er
 pub fn application_protocols<'a>(
     ext: Option<&'a [u8]>,
 ) -> Result<Option<Items<'a, Counted1>>, Err<Error<&'a [u8]>>>
-    ensures { Tells (option_map (λ v. items_in (counted 1) v.bytes.now))
+    ensures { Returns (option_map (λ v. items_in (counted 1) v.bytes.now))
         (protocol_names_in (held (option_map (λ x. x.now) ext.entry))) result }
 {
     let kind = TlsExtensionType::ApplicationLayerProtocolNegotiation;
@@ -107,7 +107,7 @@ pub fn best_version<'a>(
     version: TlsVersion,
     ext: Option<&'a [u8]>,
 ) -> Result<Option<TlsVersion>, Err<Error<&'a [u8]>>>
-    ensures { Tells (option_map (λ v. v.0))
+    ensures { Returns (option_map (λ v. v.0))
         (best_version_in version.0 (held (option_map (λ x. x.now) ext.entry))) result }
 {
     let kind = TlsExtensionType::SupportedVersions;

@@ -115,28 +115,28 @@ pub suites_are : (n : ℕ) (room ns front part : List ℕ) → IsFilled room n n
     → ((n == 0) ≡ (length (hex_list (rising front)) == 0)
     → part ≡ short_digest (hex_list (rising front)))
     → IsPart n part ns (hex_list (rising ns))
-suites_are n room ns front part filled is told =
+suites_are n room ns front part filled is is_front =
     let all : front ≡ ns = is ∙ filled.are in
     let count : n ≡ length ns = filled_count room ns n filled in
     record {
       count = count;
-      digits = told (ap (λ k. k == 0) (count ∙ ap length (sym all)) ∙ hex_rising front)
+      digits = is_front (ap (λ k. k == 0) (count ∙ ap length (sym all)) ∙ hex_rising front)
           ∙ ap (λ xs. short_digest (hex_list (rising xs))) all;
     }
 
-pub types_are : (n others : ℕ) (any : Bool) (room ns types algorithms said front part : List ℕ)
+pub types_are : (n others : ℕ) (any : Bool) (room ns types algorithms listed front part : List ℕ)
     → n ≡ length ns
-    → IsFilled room others types → front ≡ take others room → said ≡ algorithms → any ≡ has_any said
-    → (((others == 0) && not any) ≡ (length (with_algorithms (hex_list (rising front)) said) == 0)
-    → part ≡ short_digest (with_algorithms (hex_list (rising front)) said))
+    → IsFilled room others types → front ≡ take others room → listed ≡ algorithms → any ≡ has_any listed
+    → (((others == 0) && not any) ≡ (length (with_algorithms (hex_list (rising front)) listed) == 0)
+    → part ≡ short_digest (with_algorithms (hex_list (rising front)) listed))
     → IsPart n part ns (with_algorithms (hex_list (rising types)) algorithms)
-types_are n others any room ns types algorithms said front part count filled is same anys told =
+types_are n others any room ns types algorithms listed front part count filled is same anys is_front =
     let all : front ≡ types = is ∙ filled.are in
     let size : others ≡ length types = filled_count room types others filled in
     record {
       count = count;
-      digits = told (ap (λ k. (k == 0) && not any) (size ∙ ap length (sym all))
-          ∙ ap (λ t. (length front == 0) && not t) anys ∙ types_empty front said)
-          ∙ ap (λ xs. short_digest (with_algorithms (hex_list (rising xs)) said)) all
+      digits = is_front (ap (λ k. (k == 0) && not any) (size ∙ ap length (sym all))
+          ∙ ap (λ t. (length front == 0) && not t) anys ∙ types_empty front listed)
+          ∙ ap (λ xs. short_digest (with_algorithms (hex_list (rising xs)) listed)) all
           ∙ ap (λ xs. short_digest (with_algorithms (hex_list (rising types)) xs)) same;
     }

@@ -2,7 +2,7 @@
 use Rattle.std.proofs.Common.{◌≡◌, ℕ, ◌+◌, ◌<◌, ◌≤◌, List, [], ◌∷◌, ◌++◌, true, false, not, cond, length, take, set, sym, ◌∙◌, ap, arith}
 use Rattle.std.proofs.Common.{append_assoc, append-nil, length-append}
 use Rattle.std.proofs.lemmas.List.{length-take, take_more_set}
-use Rattle.tls_fingerprints.specs.Ja4.{is_told_before, other_types}
+use Rattle.tls_fingerprints.specs.Ja4.{is_in_first_part, other_types}
 
 -- one more is written: the first of those that remain
 pub room_filled : (room : List ℕ) (count n : ℕ) (rest others all : List ℕ) → count < length room
@@ -33,12 +33,12 @@ room_full room count n rest others all full within first before =
     omega (arith, whole, parts, more, front, full, within)
 
 -- the first number is skipped, or kept
-pub others_skip : (ns others : List ℕ) (n : ℕ) → ns ≡ n ∷ others → is_told_before n ≡ true
+pub others_skip : (ns others : List ℕ) (n : ℕ) → ns ≡ n ∷ others → is_in_first_part n ≡ true
     → other_types ns ≡ other_types others
-others_skip ns others n e told =
-    ap other_types e ∙ ap (λ b. cond (not b) (n ∷ other_types others) (other_types others)) told
+others_skip ns others n e is_front =
+    ap other_types e ∙ ap (λ b. cond (not b) (n ∷ other_types others) (other_types others)) is_front
 
-pub others_keep : (ns others : List ℕ) (n : ℕ) → ns ≡ n ∷ others → is_told_before n ≡ false
+pub others_keep : (ns others : List ℕ) (n : ℕ) → ns ≡ n ∷ others → is_in_first_part n ≡ false
     → other_types ns ≡ n ∷ other_types others
 others_keep ns others n e other =
     ap other_types e ∙ ap (λ b. cond (not b) (n ∷ other_types others) (other_types others)) other

@@ -80,12 +80,12 @@ abbrev pub ja4_suites_of : Client → Bytes
 ja4_suites_of h = hex_list (rising (without_grease h.suites))
 
 -- The first part covers server_name and application_layer_protocol_negotiation.
-abbrev pub is_told_before : ℕ → Bool
-is_told_before n = n == extension_number.server_name
+abbrev pub is_in_first_part : ℕ → Bool
+is_in_first_part n = n == extension_number.server_name
     || n == extension_number.application_layer_protocol_negotiation
 
 abbrev pub other_types : List ℕ → List ℕ
-other_types ns = filter (λ n. not (is_told_before n)) ns
+other_types ns = filter (λ n. not (is_in_first_part n)) ns
 
 abbrev pub with_algorithms : Bytes → List ℕ → Bytes
 with_algorithms text [] = text

@@ -105,7 +105,7 @@ fn add_protocol(text: &mut String, ext: Option<&[u8]>) -> Result<(), AllocError>
 }
 
 /// Removes the types that the first part of JA4 covers.
-fn leave_told(types: &mut Vec<u16>)
+fn remove_first_part(types: &mut Vec<u16>)
     ensures { types.new.items ≡ other_types types.old.items }
 {
     types.retain(|kind| *kind != 0 && *kind != 16);
@@ -116,7 +116,7 @@ fn others(types: Vec<u16>) -> Vec<u16>
     ensures { result.items ≡ other_types types.items }
 {
     let mut types = types;
-    leave_told(&mut types);
+    remove_first_part(&mut types);
     types
 }
 

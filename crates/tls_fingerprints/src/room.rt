@@ -3,7 +3,7 @@ ghost use Rattle.std.specs.Prelude.{◌≡◌, ◌<◌, length, IfSome, IfNone};
 ghost use Rattle.layouts.specs.Items.{items_in};
 ghost use Rattle.layouts.specs.Layout.{number};
 ghost use Rattle.tls_ext.specs.InPlace.{extension_type};
-ghost use Rattle.tls_fingerprints.specs.Ja4.{is_told_before as is_told_before_in_front, other_types};
+ghost use Rattle.tls_fingerprints.specs.Ja4.{is_in_first_part as is_part_of_front, other_types};
 ghost use Rattle.tls_fingerprints.specs.Numbers.{IsFilled, without_grease};
 
 use crate::numbers::is_grease;
@@ -35,8 +35,8 @@ pub(crate) fn kept_in(numbers: Items<u16>, room: &mut [u16]) -> Option<usize>
 }
 
 /// Whether the first part of JA4 covers this type.
-fn is_told_before(kind: u16) -> bool
-    ensures { result ≡ is_told_before_in_front kind }
+fn is_in_first_part(kind: u16) -> bool
+    ensures { result ≡ is_part_of_front kind }
 {
     kind == 0 || kind == 16
 }
@@ -74,7 +74,7 @@ pub(crate) fn other_types_in(types: Items<ExtensionType>, room: &mut [u16]) -> O
             return None;
         }
         all += 1;
-        if is_told_before(kind.0) {
+        if is_in_first_part(kind.0) {
             continue;
         }
         room[others] = kind.0;

@@ -43,7 +43,7 @@ use Rattle.tls_flow.specs.declared.state.State.TheVariants as state
 use Rattle.tls_flow.specs.declared.state.Outcome.{Outcome}
 use Rattle.tls_flow.specs.declared.state.Outcome.TheVariants as outcome
 use Rattle.tls_flow.proofs.StepLemmas.{true_or_false, is_done, waiting_is, end_stays, run_stays}
-use Rattle.tls_flow.proofs.ConversationLemmas.{end_of, done_from, done_to, waiting_where, told_whole}
+use Rattle.tls_flow.proofs.ConversationLemmas.{end_of, done_from, done_to, waiting_where, outcome_of_whole}
 
 -- One event, by whether the flow waits.
 followed : (t : Bool) (f : Flow) (e : FlowEvent) → is_waiting (outcome_at f.state) ≡ t
@@ -58,14 +58,14 @@ state_of f [] = refl
 state_of f (e ∷ es) = state_of (follow f e) es
     ∙ ap (λ q. run step q (symbols_of es)) (followed (is_waiting (outcome_at f.state)) f e refl)
 
-pub told_of_flow : (es : List FlowEvent) (from end : Flow) → end ≡ run follow from es
+pub flow_of_run : (es : List FlowEvent) (from end : Flow) → end ≡ run follow from es
     → from ≡ silence
     → (o : Outcome) → (outcome_at end.state ≡ o) ↔ IsOutcome o (symbols_of es)
-told_of_flow es from end ends starts o =
+flow_of_run es from end ends starts o =
     let at : end.state ≡ end_of (symbols_of es) =
     ap (λ f. f.state) (ends ∙ ap (λ f. run follow f es) starts) ∙ state_of silence es in
     subst (λ q. (outcome_at q ≡ o) ↔ IsOutcome o (symbols_of es)) (sym at)
-    (told_whole (symbols_of es) o)
+    (outcome_of_whole (symbols_of es) o)
 
 -- After the end the stop doesn't change.
 kept_by : (t : Bool) (f : Flow) (e : FlowEvent) → t ≡ false → (follow_by t f e).stop ≡ f.stop

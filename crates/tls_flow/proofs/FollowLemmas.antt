@@ -44,7 +44,7 @@ use Rattle.tls_flow.proofs.StepLemmas.{
   GoesByRow,
   GoesByRule,
   goes,
-  row_speaks,
+  row_is_sent,
   rule_waiting,
   end_stays,
 }
@@ -257,7 +257,7 @@ module _ (o : Outcome) (q : State) (l : Symbol) where
       (behind same_symbol (waits (pattern_of o) q) l))
       (r.3 (row_test (pattern_of o)) (rows_pass o))
       ∙ ap (λ t. cond t (waits (pattern_of o) q) (behind same_symbol (waits (pattern_of o) q) l))
-      (sym (row_speaks q l r))
+      (sym (row_is_sent q l r))
 
   begins_waiting : (t : Bool) (x : Pattern Symbol) → t ≡ true
       → (if t then begins_by (has_symbol (rows_of q)) x else is_flat x) ≡ true

@@ -165,8 +165,8 @@ module _ (q : State) (l : Symbol) (r : GoesByRow q l) where
   pub row_lives : is_alive (outcome_at r.0) ≡ true
   row_lives = (both_and (is_waiting (outcome_at q)) (is_alive (outcome_at r.0)) parts.0).1
 
-  pub row_speaks : is_noise l ≡ false
-  row_speaks =
+  pub row_is_sent : is_noise l ≡ false
+  row_is_sent =
       not_true (is_noise l) (both_and (not (is_noise l)) (not (is_stopping l.kind)) parts.1).0
 
   row_goes_on : is_stopping l.kind ≡ false
@@ -292,7 +292,7 @@ pub symbol_awaited : (q : State) (l : Symbol) → has_symbol (rows_of q) l ≡ a
 symbol_awaited q l = elim (goes q l) [
   | inl r ↦ r.2
       ∙ sym (all_three (is_waiting (outcome_at q)) (is_noise l) (is_alive (outcome_at (step q l)))
-      (row_waits q l r) (row_speaks q l r)
+      (row_waits q l r) (row_is_sent q l r)
       (ap (λ s. is_alive (outcome_at s)) r.1 ∙ row_lives q l r))
   | inr r ↦ r.1
       ∙ sym (ap (λ s. is_waiting (outcome_at q) && (not (is_noise l) && is_alive (outcome_at s)))

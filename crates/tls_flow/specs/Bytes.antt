@@ -19,8 +19,8 @@ pub record HandshakeMessage : Type 0 where
   pub body : Bytes
   pub server_hello : Option handshakes.Handshake
 
-abbrev pub view_heard : rust.HandshakeMessage → HandshakeMessage
-view_heard m = record {
+abbrev pub view_handshake_message : rust.HandshakeMessage → HandshakeMessage
+view_handshake_message m = record {
   msg_type = m.msg_type.0;
   body = m.body.now;
   server_hello = option_map (λ h. handshakes.view_handshake h.message) m.server_hello;

@@ -4,7 +4,7 @@ ghost use Rattle.std.specs.Option.{option_map};
 ghost use Rattle.tls_hs.specs.Handshake.{view_handshake};
 ghost use Rattle.tls_hs.specs.Handshake as handshakes;
 ghost use Rattle.layouts.specs.Reading.{reading};
-ghost use Rattle.tls_flow.specs.Bytes.{datagram_hello_in, datagram_message, draft_hello, kind_in_datagrams, kind_in_stream, kind_of_datagrams, kind_of_message, message_of, server_hello_in, stream_message, view_heard};
+ghost use Rattle.tls_flow.specs.Bytes.{datagram_hello_in, datagram_message, draft_hello, kind_in_datagrams, kind_in_stream, kind_of_datagrams, kind_of_message, message_of, server_hello_in, stream_message, view_handshake_message};
 
 use crate::symbol::Kind;
 use layouts::InPlace;
@@ -73,7 +73,7 @@ impl<'a> HandshakeMessage<'a> {
     /// A TLS handshake message with this type and body. A ServerHello is parsed, including those of
     /// the drafts of TLS 1.3.
     pub fn of_stream(msg_type: TlsHandshakeType, body: &'a [u8]) -> HandshakeMessage<'a>
-        ensures { view_heard result ≡ stream_message msg_type.0 body.now }
+        ensures { view_handshake_message result ≡ stream_message msg_type.0 body.now }
     {
         let server_hello = if msg_type == TlsHandshakeType::ServerHello {
             server_hello_of(body)
@@ -90,7 +90,7 @@ impl<'a> HandshakeMessage<'a> {
     /// A DTLS handshake message with this type and body. A ServerHello is parsed whatever its
     /// version.
     pub fn of_datagrams(msg_type: TlsHandshakeType, body: &'a [u8]) -> HandshakeMessage<'a>
-        ensures { view_heard result ≡ datagram_message msg_type.0 body.now }
+        ensures { view_handshake_message result ≡ datagram_message msg_type.0 body.now }
     {
         let server_hello = if msg_type == TlsHandshakeType::ServerHello {
             datagram_hello_of(body)
@@ -107,7 +107,7 @@ impl<'a> HandshakeMessage<'a> {
     /// The TLS handshake message in bytes that start with its header of 4 bytes (RFC 8446, section
     /// 4); `None` if it isn't whole.
     pub fn read(message: &'a [u8]) -> Option<HandshakeMessage<'a>>
-        ensures { option_map view_heard result ≡ message_of message.now }
+        ensures { option_map view_handshake_message result ≡ message_of message.now }
     {
         match RawHandshake::read(message) {
             Ok((_, raw)) => Some(HandshakeMessage::of_stream(raw.msg_type, raw.body)),
@@ -118,7 +118,7 @@ impl<'a> HandshakeMessage<'a> {
     /// Its kind as a message of TLS: [`Kind::Unknown`] if the type isn't one that is parsed, or if
     /// a ServerHello is refused.
     pub fn kind(&self) -> Kind
-        ensures { result ≡ kind_in_stream (view_heard self.now) }
+        ensures { result ≡ kind_in_stream (view_handshake_message self.now) }
     {
         if self.msg_type != TlsHandshakeType::ServerHello {
             return Kind::of_type(self.msg_type);
@@ -131,7 +131,7 @@ impl<'a> HandshakeMessage<'a> {
 
     /// Its kind as a message of DTLS. A refused ServerHello counts by its type.
     pub fn datagram_kind(&self) -> Kind
-        ensures { result ≡ kind_in_datagrams (view_heard self.now) }
+        ensures { result ≡ kind_in_datagrams (view_handshake_message self.now) }
     {
         if self.msg_type != TlsHandshakeType::ServerHello {
             return Kind::of_type(self.msg_type);
@@ -146,7 +146,8 @@ impl<'a> HandshakeMessage<'a> {
 impl Kind {
     /// The kind of a TLS message; [`Kind::Unknown`] for `None`.
     pub fn of_message(message: Option<&HandshakeMessage<'_>>) -> Kind
-        ensures { result ≡ kind_of_message (option_map (λ m. view_heard m.now) message.entry) }
+        ensures { result ≡ kind_of_message
+            (option_map (λ m. view_handshake_message m.now) message.entry) }
     {
         match message {
             Some(message) => message.kind(),
@@ -156,7 +157,8 @@ impl Kind {
 
     /// The kind of a DTLS message; [`Kind::Unknown`] for `None`.
     pub fn of_datagrams(message: Option<&HandshakeMessage<'_>>) -> Kind
-        ensures { result ≡ kind_of_datagrams (option_map (λ m. view_heard m.now) message.entry) }
+        ensures { result ≡ kind_of_datagrams
+            (option_map (λ m. view_handshake_message m.now) message.entry) }
     {
         match message {
             Some(message) => message.datagram_kind(),

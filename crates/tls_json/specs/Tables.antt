@@ -103,8 +103,8 @@ retry_fields text request = object_of (
     ∷ suite (codes "cipher_suite") text request.cipher.0
     ∷ extensions_fields request.ext)
 
--- A certificate chain (RFC 5246, section 7.4.2) in the bytes b of its list: the certificates' bytes,
--- their fields, and what follows the last whole one.
+-- A certificate chain (RFC 5246, section 7.4.2) in the bytes b of its list: the certificates'
+-- bytes, their fields, and what follows the last whole one.
 abbrev pub chain_fields : List ℕ → Data
 chain_fields b = object_of (
     list (codes "certificate_list")

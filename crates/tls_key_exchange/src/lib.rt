@@ -1,8 +1,8 @@
 //! Parameters of key exchange (RFC 5246, section 7.4.3; RFC 8422, section 5.4), signatures (RFC
 //! 5246, section 4.7) and certificate timestamps (RFC 6962, section 3.2).
 //!
-//! The promise: each parse call returns the one answer of its layout. `KeyExchange`, `Signature` and
-//! `Timestamp` in `specs/` define the layouts.
+//! The promise: each parse call returns the one answer of its layout. `KeyExchange`, `Signature`
+//! and `Timestamp` in `specs/` define the layouts.
 #![tactic(auto, using(layouts::proofs::OneAnswerLemmas::read_allowed))]
 
 mod dh;

@@ -3,7 +3,7 @@ use Rattle.std.specs.Prelude.{ℕ, Bool, true, false}
 use Rattle.tls_flow.specs.declared.state.Outcome.{Outcome}
 use Rattle.tls_flow.specs.declared.state.Outcome.TheVariants as outcome
 use Rattle.tls_summary.specs.HandshakeSummary.{HandshakeSummary}
-use Rattle.tls_summary.specs.Told.{has_session}
+use Rattle.tls_summary.specs.Fields.{has_session}
 
 -- The visible part of the handshake is complete: in TLS 1.3 it ends with the ServerHello.
 abbrev pub is_established : Outcome → Bool

@@ -4,7 +4,7 @@ use Rattle.std.specs.Str.{byte}
 use Rattle.layouts.specs.Bytes.{Bytes}
 use Rattle.tls_stream.specs.Item as stream
 use Rattle.dtls_stream.specs.Messages as datagrams
-use Rattle.tls_stream.specs.FlowEvents.{kind_said}
+use Rattle.tls_stream.specs.FlowEvents.{kind_of_stream_event}
 use Rattle.dtls_stream.specs.FlowEvents.{kind_in_datagram}
 use Rattle.tls_flow.specs.declared.symbol.Direction.{Direction as Side}
 use Rattle.tls_flow.specs.declared.symbol.Direction.TheVariants.{ToServer, FromServer}
@@ -69,7 +69,7 @@ letter_with k (stream.ApplicationData b) = Some (byte "d")
 letter_with k _ = None
 
 abbrev pub letter_of : stream.Event → Option ℕ
-letter_of v = letter_with (kind_said v) v
+letter_of v = letter_with (kind_of_stream_event v) v
 
 -- The letter of a DTLS handshake message.
 abbrev pub letter_of_datagram_message : Kind → ℕ → ℕ

@@ -1,7 +1,7 @@
 //! The history of both sides, a string of letters.
 ghost use Rattle.std.specs.Prelude.{◌≡◌, [], OnOk};
 ghost use Rattle.tls_stream.specs.Item.{view_event};
-ghost use Rattle.tls_stream.specs.FlowEvents.{view_said};
+ghost use Rattle.tls_stream.specs.FlowEvents.{view_stream_event};
 ghost use Rattle.dtls_stream.specs.Messages.{view_event as view_in_datagram};
 ghost use Rattle.tls_observer.specs.History.{cased as cased_of, letter_in_datagram_with, letter_of_datagram_message, letter_of_message, letter_of_type as letter_by_type, letter_with, with_letter};
 
@@ -65,10 +65,10 @@ fn datagram_message_letter(kind: Kind, msg_type: u8) -> u8
 }
 
 /// The letter of a TLS side's event; `kind` is the kind of its handshake message.
-pub fn stream_letter(said: &SideEvent<'_>, kind: Kind) -> Option<u8>
-    ensures { result ≡ letter_with kind (view_said said.now) }
+pub fn stream_letter(sent: &SideEvent<'_>, kind: Kind) -> Option<u8>
+    ensures { result ≡ letter_with kind (view_stream_event sent.now) }
 {
-    match said {
+    match sent {
         SideEvent::Event(Event::Handshake(message)) => Some(message_letter(kind, message)),
         SideEvent::Event(Event::ChangeCipherSpec) => Some(b'i'),
         SideEvent::Event(Event::Alert(_)) => Some(b'l'),

@@ -11,7 +11,7 @@ pub trait Observer {
     fn on_stream_event(
         &mut self,
         side: Direction,
-        said: &SideEvent<'_>,
+        sent: &SideEvent<'_>,
         message: Option<&HandshakeMessage<'_>>,
     ) -> Result<(), AllocError>;
 
@@ -38,7 +38,7 @@ impl Observer for NoObserver {
     fn on_stream_event(
         &mut self,
         side: Direction,
-        said: &SideEvent<'_>,
+        sent: &SideEvent<'_>,
         message: Option<&HandshakeMessage<'_>>,
     ) -> Result<(), AllocError> {
         Ok(())
@@ -59,11 +59,11 @@ impl<W: Observer> Observer for Option<Box<W>> {
     fn on_stream_event(
         &mut self,
         side: Direction,
-        said: &SideEvent<'_>,
+        sent: &SideEvent<'_>,
         message: Option<&HandshakeMessage<'_>>,
     ) -> Result<(), AllocError> {
         match self {
-            Some(observer) => observer.on_stream_event(side, said, message),
+            Some(observer) => observer.on_stream_event(side, sent, message),
             None => Ok(()),
         }
     }

@@ -10,7 +10,7 @@ use Rattle.tls_ext.specs.Extension as extension
 use Rattle.layouts.specs.Meaning.{Refusal}
 use Rattle.tls_ext.specs.InPlace.{first_name, picked}
 use Rattle.std.specs.Option.{option_map}
-use Rattle.layouts.specs.Items.{Tells}
+use Rattle.layouts.specs.Items.{Returns}
 use Rattle.tls_places.specs.Place.{Found, IsWithin, Lies, Stands}
 use Rattle.tls_places.proofs.OutwardLemmas.{ok_found}
 
@@ -33,11 +33,11 @@ pub part_found : (b x : Bytes) (p : Place) (F : Bytes → Result (Option Bytes) 
     (G : Result (Option Bytes) Refusal → Result (Option Bytes) Refusal)
     (c : Result (Option Bytes) Refusal) (r : Found)
     → ((y : Bytes) → G (Ok (Some y)) ≡ F y) → x ≡ bytes_at b p → Ok (Some (bytes_at b p)) ≡ c
-    → Tells (option_map (bytes_at x)) (F x) r → Tells (option_map (bytes_at (bytes_at b p))) (G c) r
+    → Returns (option_map (bytes_at x)) (F x) r → Returns (option_map (bytes_at (bytes_at b p))) (G c) r
 part_found b x p F G c r same is found t =
-    let here : Tells (option_map (bytes_at (bytes_at b p))) (F (bytes_at b p)) r =
-    subst (λ y. Tells (option_map (bytes_at y)) (F y) r) is t in
-    subst (λ a. Tells (option_map (bytes_at (bytes_at b p))) a r)
+    let here : Returns (option_map (bytes_at (bytes_at b p))) (F (bytes_at b p)) r =
+    subst (λ y. Returns (option_map (bytes_at y)) (F y) r) is t in
+    subst (λ a. Returns (option_map (bytes_at (bytes_at b p))) a r)
     (sym (same (bytes_at b p)) ∙ ap G found) here
 
 pub lies_there : (b : Bytes) (p : Place) (o : Option Place) → o ≡ Some p
@@ -46,5 +46,5 @@ lies_there b p o is h = subst (λ x. IsWithin b (ok_found x)) is h
 
 pub found_there : (b : Bytes) (p : Place) (o : Option Place) (c : Result (Option Bytes) Refusal)
     → o ≡ Some p
-    → Tells (option_map (bytes_at b)) c (ok_found o) → Ok (Some (bytes_at b p)) ≡ c
+    → Returns (option_map (bytes_at b)) c (ok_found o) → Ok (Some (bytes_at b p)) ≡ c
 found_there b p o c is t = ap (λ x. Ok (option_map (bytes_at b) x)) (sym is) ∙ t.is

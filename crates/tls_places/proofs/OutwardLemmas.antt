@@ -2,7 +2,7 @@
 use Rattle.std.proofs.Common.{◌≡◌, Option, Some, Result, Ok, ◌∙◌, ap, subst}
 use Rattle.std.specs.Option.{option_map}
 use Rattle.layouts.specs.Bytes.{Bytes}
-use Rattle.layouts.specs.Items.{Tells}
+use Rattle.layouts.specs.Items.{Returns}
 use Rattle.layouts.specs.Meaning.{Refusal}
 use Rattle.layouts.specs.Place.{bytes_at}
 use Rattle.layouts.specs.declared.places.Place.{Place}
@@ -27,11 +27,11 @@ module _ (b : Bytes) (p q s : Place)
   pub some_found : (found : Found) → found ≡ Ok (Some q)
       → (a : Result (Option Bytes) Refusal) → Lies b p
       → IsWithin (bytes_at b p) found
-      → Tells (option_map (bytes_at (bytes_at b p))) a found
-      → Tells (option_map (bytes_at b)) a (Ok (Some s))
+      → Returns (option_map (bytes_at (bytes_at b p))) a found
+      → Returns (option_map (bytes_at b)) a (Ok (Some s))
   some_found found is a out here t =
-      let at : Tells (option_map (bytes_at (bytes_at b p))) a (Ok (Some q)) =
-      subst (λ f. Tells (option_map (bytes_at (bytes_at b p))) a f) is t in
+      let at : Returns (option_map (bytes_at (bytes_at b p))) a (Ok (Some q)) =
+      subst (λ f. Returns (option_map (bytes_at (bytes_at b p))) a f) is t in
       record {
         answers = tt;
         is = ap (λ y. Ok (Some y)) (there out (subst (λ f. IsWithin (bytes_at b p) f) is here)).is

@@ -20,7 +20,7 @@ use Rattle.std.specs.Borrow.{Bor}
 use Rattle.std.specs.Iterator.{YieldsFirstBy}
 use Rattle.std.specs.Option.{option_map}
 use Rattle.layouts.specs.Bytes.{Bytes}
-use Rattle.layouts.specs.Items.{Tells}
+use Rattle.layouts.specs.Items.{Returns}
 use Rattle.layouts.specs.Meaning.{EndsWith, Refusal}
 use Rattle.layouts.specs.Place.{bytes_at}
 use Rattle.layouts.specs.declared.places.Place.{Place}
@@ -60,5 +60,5 @@ Found = Result (Option Place) (Failed (Error (Bor (List ℕ))))
 abbrev pub FindsTheSame : Bytes → Place → Found → Found → Type 0
 FindsTheSame b p found result = (a : Result (Option Bytes) Refusal) → Lies b p
     → IsWithin (bytes_at b p) found
-    → Tells (option_map (bytes_at (bytes_at b p))) a found
-    → Tells (option_map (bytes_at b)) a result
+    → Returns (option_map (bytes_at (bytes_at b p))) a found
+    → Returns (option_map (bytes_at b)) a result

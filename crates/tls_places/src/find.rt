@@ -5,7 +5,7 @@ ghost use Rattle.std.specs.Prelude.{◌≡◌, ℕ, IfOk, IfSome};
 ghost use Rattle.std.specs.Option.{option_map};
 ghost use Rattle.layouts.specs.Bytes.{Bytes};
 ghost use Rattle.layouts.specs.Answers.{Gives};
-ghost use Rattle.layouts.specs.Items.{Tells, items_in};
+ghost use Rattle.layouts.specs.Items.{Returns, items_in};
 ghost use Rattle.layouts.specs.Place.{bytes_at as bytes_there};
 ghost use Rattle.layouts.specs.Layout.{counted};
 ghost use Rattle.layouts.specs.Reading.{reading};
@@ -30,7 +30,7 @@ pub fn content_place(
     block: &[u8],
     kind: TlsExtensionType,
 ) -> Result<Option<Place>, Err<Error<&[u8]>>>
-    ensures finds { Tells (option_map (bytes_there block.now))
+    ensures finds { Returns (option_map (bytes_there block.now))
         (content_of kind.0 block.now) result }
     ensures within { IsWithin block.now result }
 {
@@ -69,7 +69,7 @@ fn server_names_placed(i: &[u8]) -> IResult<&[u8], (Items<ServerName>, Place)>
 
 /// The place of the first name in the content of a server_name extension.
 fn first_name_place(i: &[u8]) -> Result<Option<Place>, Err<Error<&[u8]>>>
-    ensures finds { Tells (option_map (bytes_there i.now))
+    ensures finds { Returns (option_map (bytes_there i.now))
         (picked first_name (reading content.server_names i.now)) result }
     ensures within { IsWithin i.now result }
 {
@@ -88,7 +88,7 @@ fn first_name_place(i: &[u8]) -> Result<Option<Place>, Err<Error<&[u8]>>>
 /// The result and the refusals are those of [`tls_ext::server_name`].
 #[inline(always)]
 pub fn host_name_place(block: &[u8]) -> Result<Option<Place>, Err<Error<&[u8]>>>
-    ensures finds { Tells (option_map (bytes_there block.now)) (host_name block.now) result }
+    ensures finds { Returns (option_map (bytes_there block.now)) (host_name block.now) result }
     ensures within { IsWithin block.now result }
 {
     match content_place(block, TlsExtensionType::ServerName)? {
@@ -117,7 +117,7 @@ fn protocol_names_placed(i: &[u8]) -> IResult<&[u8], (Items<Counted1>, Place)>
 /// The result and the refusals are those of [`tls_ext::application_protocols`]. The names are the
 /// items of [`Counted1`] there.
 pub fn protocol_names_place(block: &[u8]) -> Result<Option<Place>, Err<Error<&[u8]>>>
-    ensures finds { Tells (option_map (λ p. items_in (counted 1) (bytes_there block.now p)))
+    ensures finds { Returns (option_map (λ p. items_in (counted 1) (bytes_there block.now p)))
         (protocol_names block.now) result }
     ensures within { IsWithin block.now result }
 {

@@ -2,7 +2,7 @@
 #![tactic(auto, using(layouts::proofs::OneAnswerLemmas::read_allowed))]
 
 ghost use Rattle.std.specs.Option.{option_map};
-ghost use Rattle.layouts.specs.Items.{Tells};
+ghost use Rattle.layouts.specs.Items.{Returns};
 ghost use Rattle.layouts.specs.Place.{bytes_at as bytes_there};
 ghost use Rattle.layouts.specs.Reading.{reading};
 ghost use Rattle.tls_hs.specs.Hello.{client_hello};
@@ -24,7 +24,7 @@ pub fn body_place(
     fragment: &[u8],
     kind: TlsHandshakeType,
 ) -> Result<Option<Place>, Err<Error<&[u8]>>>
-    ensures finds { Tells (option_map (bytes_there fragment.now))
+    ensures finds { Returns (option_map (bytes_there fragment.now))
         (body_of_type kind.0 fragment.now) result }
     ensures within { IsWithin fragment.now result }
 {
@@ -49,7 +49,7 @@ pub fn body_place(
 #[tactic(auto, using(layouts::proofs::OneAnswerLemmas::read_allowed, crate::proofs::HostNameLemmas::none_found))]
 #[inline(always)]
 pub fn host_name_place_of_hello(body: &[u8]) -> Result<Option<Place>, Err<Error<&[u8]>>>
-    ensures finds { Tells (option_map (bytes_there body.now))
+    ensures finds { Returns (option_map (bytes_there body.now))
         (name_in_hello (reading client_hello body.now)) result }
     ensures within { IsWithin body.now result }
 {
@@ -62,7 +62,7 @@ pub fn host_name_place_of_hello(body: &[u8]) -> Result<Option<Place>, Err<Error<
 
 /// The place of the host name in `fragment`, from the first ClientHello of its handshake messages.
 fn host_name_place_of_fragment(fragment: &[u8]) -> Result<Option<Place>, Err<Error<&[u8]>>>
-    ensures finds { Tells (option_map (bytes_there fragment.now))
+    ensures finds { Returns (option_map (bytes_there fragment.now))
         (name_in_body (body_of_type 1 fragment.now)) result }
     ensures within { IsWithin fragment.now result }
 {
@@ -81,7 +81,7 @@ fn host_name_place_of_fragment(fragment: &[u8]) -> Result<Option<Place>, Err<Err
 ///
 /// The result and the refusals are those of [`tls_records::server_name_of_record`].
 pub fn host_name_place_of_record(i: &[u8]) -> Result<Option<Place>, Err<Error<&[u8]>>>
-    ensures finds { Tells (option_map (bytes_there i.now)) (host_name_of_record i.now) result }
+    ensures finds { Returns (option_map (bytes_there i.now)) (host_name_of_record i.now) result }
     ensures within { IsWithin i.now result }
 {
     let (_, (record, outer)) = frame_at::<Record>(i, i)?;

@@ -4,7 +4,7 @@
 ghost use Rattle.std.specs.Prelude.{◌≡◌};
 ghost use Rattle.std.specs.Option.{option_map};
 ghost use Rattle.layouts.specs.Answers.{Gives};
-ghost use Rattle.layouts.specs.Items.{Tells, decode_while, value_of};
+ghost use Rattle.layouts.specs.Items.{Returns, decode_while, value_of};
 ghost use Rattle.layouts.specs.Reading.{reading};
 ghost use Rattle.tls_hs.specs.Message.{heartbeat as heartbeat_layout};
 ghost use Rattle.tls_hs.specs.Messages.{message_of, raw_messages};
@@ -36,7 +36,7 @@ pub struct PlaintextView<'a> {
 #[tactic(auto, using(raw_records::proofs::FirstLemmas::first_is_read, raw_records::proofs::FirstLemmas::first_is_refused))]
 #[inline(always)]
 fn heartbeat_judged(i: &[u8], len: u16) -> Result<(), Err<Error<&[u8]>>>
-    ensures { Tells (λ u. tt) (first_judged_of (heartbeat_layout len) i.now) result }
+    ensures { Returns (λ u. tt) (first_judged_of (heartbeat_layout len) i.now) result }
 {
     match heartbeat(i, len) {
         Ok(_) => Ok(()),
@@ -48,7 +48,7 @@ fn heartbeat_judged(i: &[u8], len: u16) -> Result<(), Err<Error<&[u8]>>>
 /// [`crate::parse_tls_record_with_header`].
 #[tactic(auto, using(crate::proofs::InPlaceLemmas::judges_change_cipher_specs, crate::proofs::InPlaceLemmas::judges_alerts, crate::proofs::InPlaceLemmas::judges_handshakes, crate::proofs::InPlaceLemmas::all_data, crate::proofs::InPlaceLemmas::judges_heartbeat), unfolding(crate::specs::Record::record_content))]
 fn fragment_judged<'a>(i: &'a [u8], hdr: &TlsRecordHeader) -> Result<(), Err<Error<&'a [u8]>>>
-    ensures { Tells (λ u. messages_of_fragment hdr.now i.now)
+    ensures { Returns (λ u. messages_of_fragment hdr.now i.now)
         (value_of (reading (record_content (view_header hdr.now)) i.now)) result }
 {
     match hdr.record_type {
@@ -74,7 +74,7 @@ pub fn parse_tls_record_with_header_in_place<'a>(
     i: &'a [u8],
     hdr: &TlsRecordHeader,
 ) -> Result<Messages<'a>, Err<Error<&'a [u8]>>>
-    ensures { Tells (λ m. decode_while message_of (raw_messages m))
+    ensures { Returns (λ m. decode_while message_of (raw_messages m))
         (value_of (reading (record_content (view_header hdr.now)) i.now)) result }
 {
     fragment_judged(i, hdr)?;
@@ -105,7 +105,7 @@ pub fn first_body<'a>(
     fragment: &'a [u8],
     kind: TlsHandshakeType,
 ) -> Result<Option<&'a [u8]>, Err<Error<&'a [u8]>>>
-    ensures { Tells (option_map (λ x. x.now)) (body_of_type kind.0 fragment.now) result }
+    ensures { Returns (option_map (λ x. x.now)) (body_of_type kind.0 fragment.now) result }
 {
     let walk: Items<RawHandshake> = Items::new(fragment);
     for message in walk {
@@ -130,7 +130,7 @@ pub fn first_body<'a>(
 /// - if no ClientHello is found, the refusal of an incomplete message at the end;
 /// - if the ClientHello has no server_name, the refusal of an incomplete extension at the end.
 pub fn server_name_of_record(i: &[u8]) -> Result<Option<&[u8]>, Err<Error<&[u8]>>>
-    ensures { Tells (option_map (λ x. x.now)) (host_name_of_record i.now) result }
+    ensures { Returns (option_map (λ x. x.now)) (host_name_of_record i.now) result }
 {
     let (_, record) = parse_tls_raw_record(i)?;
     if record.hdr.record_type != TlsRecordType::Handshake {

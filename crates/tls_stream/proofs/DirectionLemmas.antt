@@ -22,8 +22,8 @@ use Rattle.tls_stream.specs.Item.{Event, Failed, Item}
 use Rattle.tls_stream.specs.Stream as stream
 use Rattle.tls_stream.specs.Stream.{FirstTaken, joined_items}
 use Rattle.tls_stream.specs.Events.{
-  SaysOnly,
-  SaysTheSame,
+  ReadsOnly,
+  ReadsTheSame,
   events,
   fed,
   fed_all,

@@ -36,7 +36,7 @@ use Rattle.tls_stream.proofs.FrameLemmas.{first_frame, no_frame}
 use Rattle.tls_stream.specs.Item.{Event, Failed, Item, Fragment, Alone, Broken}
 use Rattle.tls_stream.specs.Messages.{alerts, event_of, messages_of}
 use Rattle.tls_stream.specs.Stream.{
-  said,
+  sent,
   open_part,
   is_above,
   too_large_or,
@@ -75,17 +75,17 @@ module _ (limit kind : ℕ) where
   shape = messages_of limit kind
 
   -- A message is taken off the part.
-  said_then : (X : Bytes → List Event) (b : Bytes) (x : Bytes × Bytes) → front shape b ≡ Some x
-      → said limit kind b ++ X (open_part limit kind b)
-      ≡ event_of kind x.0 ∷ (said limit kind x.1 ++ X (open_part limit kind x.1))
-  said_then X b x e =
+  sent_then : (X : Bytes → List Event) (b : Bytes) (x : Bytes × Bytes) → front shape b ≡ Some x
+      → sent limit kind b ++ X (open_part limit kind b)
+      ≡ event_of kind x.0 ∷ (sent limit kind x.1 ++ X (open_part limit kind x.1))
+  sent_then X b x e =
       let one = first_frame shape (takes limit kind) b x.0 x.1 e in
       ap (λ ys. map (event_of kind) ys ++ X (left shape b)) one.0
       ∙ ap (λ l. event_of kind x.0 ∷ (map (event_of kind) (frames shape x.1) ++ X l)) one.1
 
   pub message_first : (b : Bytes) (x : Bytes × Bytes) → front shape b ≡ Some x → (is : List Item)
       → events_of limit kind b is ≡ event_of kind x.0 ∷ events_of limit kind x.1 is
-  message_first b x e [] = said_then (λ l. too_large_or shape l []) b x e
+  message_first b x e [] = sent_then (λ l. too_large_or shape l []) b x e
   message_first b x e (Fragment k f ∷ is) =
       go (k == kind) (message_first (b ++ f) (x.0, x.1 ++ f) (front_stays shape b f x e) is)
     where
@@ -93,19 +93,19 @@ module _ (limit kind : ℕ) where
           → events_of limit kind (b ++ f) is ≡ event_of kind x.0 ∷ events_of limit kind
           (x.1 ++ f) is
           → cond t (events_of limit kind (b ++ f) is)
-          (said limit kind b ++ closed shape (open_part limit kind b) (events_of limit k f is))
+          (sent limit kind b ++ closed shape (open_part limit kind b) (events_of limit k f is))
           ≡ event_of kind x.0 ∷ cond t (events_of limit kind (x.1 ++ f) is)
-          (said limit kind x.1 ++ closed shape (open_part limit kind x.1) (events_of limit k f is))
+          (sent limit kind x.1 ++ closed shape (open_part limit kind x.1) (events_of limit k f is))
       go true again = again
-      go false again = said_then (λ l. closed shape l (events_of limit k f is)) b x e
+      go false again = sent_then (λ l. closed shape l (events_of limit k f is)) b x e
   message_first b x e (Alone a ∷ is) =
-      said_then (λ l. closed shape l (a ∷ events_of limit kind [] is)) b x e
+      sent_then (λ l. closed shape l (a ∷ events_of limit kind [] is)) b x e
   message_first b x e (Broken k ∷ is) =
-      said_then (λ l. too_large_or shape l (Failed (fault.Refused k) ∷ [])) b x e
+      sent_then (λ l. too_large_or shape l (Failed (fault.Refused k) ∷ [])) b x e
 
   -- The part starts with no message.
   pub none_then : (X : Bytes → List Event) (b : Bytes) → front shape b ≡ None
-      → said limit kind b ++ X (open_part limit kind b) ≡ X b
+      → sent limit kind b ++ X (open_part limit kind b) ≡ X b
   none_then X b e =
       let no = no_frame shape (takes limit kind) b e in
       ap (λ ys. map (event_of kind) ys ++ X (left shape b)) no.0 ∙ ap X no.1
@@ -119,7 +119,7 @@ module _ (limit kind : ℕ) where
     where
       go : (t : Bool) → events_of limit kind (b ++ f) is ≡ Failed fault.TooLarge ∷ []
           → cond t (events_of limit kind (b ++ f) is)
-          (said limit kind b ++ closed shape (open_part limit kind b) (events_of limit k f is))
+          (sent limit kind b ++ closed shape (open_part limit kind b) (events_of limit k f is))
           ≡ Failed fault.TooLarge ∷ []
       go true again = again
       go false again =
@@ -142,20 +142,20 @@ onto_same limit kind k b f (Fragment j g ∷ is) = go (j == k) refl
   where
     same : (t : Bool) → k == kind ≡ t → j == k ≡ true
         → cond t (events_of limit kind (b ++ (f ++ g)) is)
-        (said limit kind b ++ closed (messages_of limit kind) (open_part limit kind b)
+        (sent limit kind b ++ closed (messages_of limit kind) (open_part limit kind b)
         (events_of limit k (f ++ g) is))
         ≡ cond t (events_of limit kind (b ++ f) (Fragment j g ∷ is))
-        (said limit kind b ++ closed (messages_of limit kind) (open_part limit kind b)
+        (sent limit kind b ++ closed (messages_of limit kind) (open_part limit kind b)
         (events_of limit k f (Fragment j g ∷ is)))
     same true at e =
         let is_kind : j == kind ≡ true = eq-eqb j kind (eqb-true j k e ∙ eqb-true k kind at) in
         ap (λ x. events_of limit kind x is) (sym (append_assoc b f g))
         ∙ ap (λ t. cond t (events_of limit kind ((b ++ f) ++ g) is)
-        (said limit kind (b ++ f) ++ closed (messages_of limit kind) (open_part limit kind (b ++ f))
+        (sent limit kind (b ++ f) ++ closed (messages_of limit kind) (open_part limit kind (b ++ f))
         (events_of limit j g is))) (sym is_kind)
     same false at e =
-        ap (λ t. said limit kind b ++ closed (messages_of limit kind) (open_part limit kind b)
-        (cond t (events_of limit k (f ++ g) is) (said limit k f
+        ap (λ t. sent limit kind b ++ closed (messages_of limit kind) (open_part limit kind b)
+        (cond t (events_of limit k (f ++ g) is) (sent limit k f
         ++ closed (messages_of limit k) (open_part limit k f) (events_of limit j g is)))) (sym e)
 
     go : (t : Bool) → j == k ≡ t → events_of limit kind b
@@ -169,15 +169,15 @@ pub joined_same : (limit kind : ℕ) (b : Bytes) (is : List Item)
 joined_same limit kind b [] = refl
 joined_same limit kind b (Fragment k f ∷ is) =
     onto_same limit kind k b f (joined_items is)
-    ∙ ap (λ es. cond (k == kind) es (said limit kind b
+    ∙ ap (λ es. cond (k == kind) es (sent limit kind b
     ++ closed (messages_of limit kind) (open_part limit kind b)
     (events_of limit k f (joined_items is))))
     (joined_same limit kind (b ++ f) is)
     ∙ ap (λ es. cond (k == kind) (events_of limit kind (b ++ f) is)
-    (said limit kind b ++ closed (messages_of limit kind) (open_part limit kind b) es)) (joined_same
+    (sent limit kind b ++ closed (messages_of limit kind) (open_part limit kind b) es)) (joined_same
     limit k f is)
 joined_same limit kind b (Alone a ∷ is) =
-    ap (λ es. said limit kind b ++ closed (messages_of limit kind)
+    ap (λ es. sent limit kind b ++ closed (messages_of limit kind)
     (open_part limit kind b) (a ∷ es))
     (joined_same limit kind [] is)
 joined_same limit kind b (Broken e ∷ is) = refl

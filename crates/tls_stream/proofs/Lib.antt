@@ -10,6 +10,6 @@ pub mod SourceLemmas
 pub mod DirectionLemmas
 pub mod HeldLemmas
 pub mod TakenLemmas
-pub mod EarLemmas
+pub mod SideReaderLemmas
 pub mod ReaderLemmas
 pub mod ConversationLemmas

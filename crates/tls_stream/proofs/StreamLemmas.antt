@@ -56,8 +56,8 @@ use Rattle.tls_stream.specs.Item.{
 use Rattle.tls_stream.specs.Messages.{alerts, event_of, messages_of}
 use Rattle.tls_stream.specs.Stream.{
   FirstTaken,
-  SaysOnly,
-  SaysTheSame,
+  ReadsOnly,
+  ReadsTheSame,
   alone,
   alone_in,
   alone_record,
@@ -73,7 +73,7 @@ use Rattle.tls_stream.specs.Stream.{
   is_above,
   joined_to,
   open_part,
-  said,
+  sent,
   standing,
   too_large_or,
   unread_items,
@@ -176,7 +176,7 @@ module _ (limit kind : ℕ) (st : Standing) (part u : Bytes)
       let others = events_of limit k f is' in
       item_first x (Fragment k f) s e is
       ∙ ap (λ t. cond t (events_of limit kind (part ++ f) is')
-      (said limit kind part ++ closed shape (open_part limit kind part) others)) other
+      (sent limit kind part ++ closed shape (open_part limit kind part) others)) other
       ∙ none_then limit kind (λ l. closed shape l others) part none
       ∙ interrupted shape part others some small
 
@@ -218,7 +218,7 @@ module _ (limit kind : ℕ) (st : Standing) (part u : Bytes)
     where
       go : (t : Bool) → k == kind ≡ t → (k ≡ kind) ⊎ (part ≡ [])
           → cond t (events_of limit kind (part ++ f) (unread_items (after st x.0) (x.1 ++ s)))
-          (said limit kind part ++ closed shape (open_part limit kind part)
+          (sent limit kind part ++ closed shape (open_part limit kind part)
           (events_of limit k f (unread_items (after st x.0) (x.1 ++ s))))
           ≡ events_of limit k (part ++ f) (unread_items (after st x.0) (x.1 ++ s))
       go true at may =
@@ -275,7 +275,7 @@ message_ready d y e =
     subst (λ a. IsSome (first_message d a)) (sym x.1) refl
 
 pub large_ready : (d : Stream) → IsTooLarge (messages_of d.limit d.kind) d.held.part
-    → SaysOnly d (Failed fault.TooLarge ∷ [])
+    → ReadsOnly d (Failed fault.TooLarge ∷ [])
 large_ready d l s =
     large_first d.limit d.kind d.held.part l (unread_items (standing d) (d.held.unread ++ s))
 
@@ -301,14 +301,14 @@ module _ (d : Stream) (none : None ≡ frame_of (front (messages_of d.limit d.ki
 
   pub fails_header : (k : ErrorKind) → 5 ≤ length d.held.unread
       → Some k ≡ refused (standing d) d.held.unread
-      → SaysOnly d (Failed (fault.Refused k) ∷ [])
+      → ReadsOnly d (Failed (fault.Refused k) ∷ [])
   fails_header k enough r s =
       header_refused d.limit d.kind (standing d) d.held.part d.held.unread no_message k s enough
       (sym r) small
 
   pub fails_broken : (y : Bytes) (k : ErrorKind)
       → Some y ≡ frame_of (front wide_record d.held.unread)
-      → Broken k ≡ item_of (standing d) y → SaysOnly d (Failed (fault.Refused k) ∷ [])
+      → Broken k ≡ item_of (standing d) y → ReadsOnly d (Failed (fault.Refused k) ∷ [])
   fails_broken y k e is s =
       let x = some_front wide_record d.held.unread y (sym e) in
       broken_first d.limit d.kind (standing d) d.held.part d.held.unread no_message x.0 k s x.1
@@ -326,7 +326,7 @@ module _ (d : Stream) (none : None ≡ frame_of (front (messages_of d.limit d.ki
 
   pub fails_alone : (y : Bytes) (a : Event) → Some y ≡ frame_of (front wide_record d.held.unread)
       → Alone a ≡ item_of (standing d) y → d.held.part ≢ []
-      → SaysOnly d (Failed fault.Interrupted ∷ [])
+      → ReadsOnly d (Failed fault.Interrupted ∷ [])
   fails_alone y a e is some s =
       let x = some_front wide_record d.held.unread y (sym e) in
       alone_interrupts d.limit d.kind (standing d) d.held.part d.held.unread no_message x.0 a s x.1
@@ -335,7 +335,7 @@ module _ (d : Stream) (none : None ≡ frame_of (front (messages_of d.limit d.ki
   pub fails_fragment : (y : Bytes) (k : ℕ) (f : Bytes)
       → Some y ≡ frame_of (front wide_record d.held.unread)
       → Fragment k f ≡ item_of (standing d) y → k ≢ d.kind → d.held.part ≢ []
-      → SaysOnly d (Failed fault.Interrupted ∷ [])
+      → ReadsOnly d (Failed fault.Interrupted ∷ [])
   fails_fragment y k f e is other some s =
       let x = some_front wide_record d.held.unread y (sym e) in
       fragment_interrupts d.limit d.kind (standing d) d.held.part d.held.unread no_message
@@ -348,7 +348,7 @@ module _ (d : Stream) (none : None ≡ frame_of (front (messages_of d.limit d.ki
 
   pub joins : (y : Bytes) (k : ℕ) (f : Bytes) → Some y ≡ frame_of (front wide_record d.held.unread)
       → Fragment k f ≡ item_of (standing d) y → (k ≡ d.kind) ⊎ (d.held.part ≡ [])
-      → (5 + length f ≤ length d.held.unread) × SaysTheSame (joined_to d k (length f)) d
+      → (5 + length f ≤ length d.held.unread) × ReadsTheSame (joined_to d k (length f)) d
   joins y k f e is may =
       let x = some_front wide_record d.held.unread y (sym e) in
       let item : item_of (standing d) x.0.0 ≡ Fragment k f = ap (item_of (standing d)) x.2

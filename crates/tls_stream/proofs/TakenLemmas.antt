@@ -52,7 +52,7 @@ use Rattle.tls_stream.specs.Item.{
   Failed,
 }
 use Rattle.tls_stream.specs.Stream.{FirstTaken}
-use Rattle.tls_stream.specs.Events.{SaysOnly, SaysTheSame, events, fed, first, silent}
+use Rattle.tls_stream.specs.Events.{ReadsOnly, ReadsTheSame, events, fed, first, silent}
 use Rattle.tls_stream.specs.Taken.{AreTaken, IsOver, TakesSame, handshake_in, handshakes, message_in, with_those_of}
 use Rattle.tls_stream.specs.declared.event_reader.EventReader.{EventReader}
 use Rattle.tls_stream.specs.declared.fault.Fault.{Fault}
@@ -64,7 +64,7 @@ use Rattle.tls_stream.proofs.DirectionLemmas.{fed_nothing, fed_twice, first_even
 
 -- What the next event is.
 pub record IsTakenOff (d : EventReader) (e : Event) (new : EventReader) : Type 0 where
-  pub says : (s : Bytes) → events (fed d s) ≡ e ∷ events (fed new s)
+  pub further_events : (s : Bytes) → events (fed d s) ≡ e ∷ events (fed new s)
 
 pub taken_off : (d new : EventReader) (t : Bool) → IsSome (first d) → FirstTaken (first d) d t new
     → (e : Event) × (option_map (λ x. x.0) (first d) ≡ Some e) × IsTakenOff d e new
@@ -77,7 +77,7 @@ taken_off d new t some off = go (first d) refl some off
       x.0,
       refl,
       record {
-        says = λ s. first_event d x.1 x.0 s is
+        further_events = λ s. first_event d x.1 x.0 s is
             ∙ ap (λ n. x.0 ∷ events (fed n s)) (sym off.1);
       },
     )
@@ -86,7 +86,7 @@ taken_off d new t some off = go (first d) refl some off
 one_off : (taken taken' : List Bytes) (d new : EventReader) (e : Event) → IsTakenOff d e new
     → taken' ≡ taken ++ message_in e → TakesSame taken d taken' new
 one_off taken taken' d new e off more s =
-    ap (λ es. taken ++ handshakes es) (off.says s)
+    ap (λ es. taken ++ handshakes es) (off.further_events s)
     ∙ sym (append_assoc taken (message_in e) (handshakes (events (fed new s))))
     ∙ ap (λ t. t ++ handshakes (events (fed new s))) (sym more)
 
@@ -134,23 +134,23 @@ pub fewer_off : (d new : EventReader) (t : Bool) → IsSome (first d) → FirstT
     → length (events (fed new [])) < length (events (fed d []))
 fewer_off d new t some off =
     let x = taken_off d new t some off in
-    let is = ap length (x.2.says []) in
+    let is = ap length (x.2.further_events []) in
     omega (arith, is)
 
 -- All events were taken.
-pub same_ready : (taken : List Bytes) (d new : EventReader) → SaysTheSame new d
+pub same_ready : (taken : List Bytes) (d new : EventReader) → ReadsTheSame new d
     → TakesSame taken d taken new
 same_ready taken d new same s = ap (λ es. taken ++ handshakes es) (sym (same s))
 
 pub ended : (taken all : List Bytes) (first_one d new : EventReader) (f : Fault)
     → TakesSame all first_one taken d
-    → SaysTheSame new d → SaysOnly new (Failed f ∷ []) → AreTaken all first_one taken new true
+    → ReadsTheSame new d → ReadsOnly new (Failed f ∷ []) → AreTaken all first_one taken new true
 ended taken all first_one d new f was same only =
     record { same = λ s. was s ∙ same_ready taken d new same s; over = (f, only) }
 
 pub waits : (taken all : List Bytes) (first_one d new : EventReader)
     → TakesSame all first_one taken d
-    → SaysTheSame new d → events new ≡ [] → AreTaken all first_one taken new false
+    → ReadsTheSame new d → events new ≡ [] → AreTaken all first_one taken new false
 waits taken all first_one d new was same none =
     record { same = λ s. was s ∙ same_ready taken d new same s; over = none }
 
@@ -160,25 +160,25 @@ none_over d true over = ap (λ k. handshakes (events k)) (sym (fed_nothing d))
 none_over d false over = ap handshakes over
 
 -- The messages of x were taken from a new direction, and none of those still to come are lost.
-abbrev pub IsSaid : List Bytes → EventReader → ℕ → Bytes → Type 0
-IsSaid taken d limit x = (s : Bytes)
+abbrev pub IsSent : List Bytes → EventReader → ℕ → Bytes → Type 0
+IsSent taken d limit x = (s : Bytes)
     → handshakes (events (fed (silent limit) (x ++ s))) ≡ with_those_of taken d s
 
-pub said_more : (x y : Bytes) (taken taken' : List Bytes) (d fed_d new : EventReader) (limit : ℕ)
-    → IsSaid taken d limit x
-    → fed_d ≡ fed d y → TakesSame taken fed_d taken' new → IsSaid taken' new limit (x ++ y)
-said_more x y taken taken' d fed_d new limit was feeds takes s =
+pub sent_more : (x y : Bytes) (taken taken' : List Bytes) (d fed_d new : EventReader) (limit : ℕ)
+    → IsSent taken d limit x
+    → fed_d ≡ fed d y → TakesSame taken fed_d taken' new → IsSent taken' new limit (x ++ y)
+sent_more x y taken taken' d fed_d new limit was feeds takes s =
     ap (λ x. handshakes (events (fed (silent limit) x))) (append_assoc x y s)
     ∙ was (y ++ s)
     ∙ ap (λ k. taken ++ handshakes (events k)) (sym (fed_twice d y s))
     ∙ ap (λ k. taken ++ handshakes (events (fed k s))) (sym feeds)
     ∙ takes s
 
-pub said_all : (x : Bytes) (taken : List Bytes) (d : EventReader) (limit : ℕ)
-    → IsSaid taken d limit x
+pub sent_all : (x : Bytes) (taken : List Bytes) (d : EventReader) (limit : ℕ)
+    → IsSent taken d limit x
     → handshakes (events d) ≡ []
     → taken ≡ handshakes (events (fed (silent limit) x))
-said_all x taken d limit was none =
+sent_all x taken d limit was none =
     sym (append-nil taken)
     ∙ ap (λ m. taken ++ m) (sym none)
     ∙ ap (λ k. taken ++ handshakes (events k)) (sym (fed_nothing d))
@@ -189,18 +189,18 @@ said_all x taken d limit was none =
 pub one_piece : (pieces : List (Bor (List ℕ))) (i : ℕ) (p : Bor (List ℕ))
     (taken taken' : List Bytes)
     (d fed_d new : EventReader)
-    (limit : ℕ) → i < length pieces → IsSaid taken d limit (joined (take i pieces))
+    (limit : ℕ) → i < length pieces → IsSent taken d limit (joined (take i pieces))
     → fed_d ≡ fed d (get_or pieces i p).now
-    → TakesSame taken fed_d taken' new → IsSaid taken' new limit (joined (take (i + 1) pieces))
+    → TakesSame taken fed_d taken' new → IsSent taken' new limit (joined (take (i + 1) pieces))
 one_piece pieces i p taken taken' d fed_d new limit h was feeds takes =
-    subst (λ x. IsSaid taken' new limit x) (sym (joined_next pieces i p h))
-    (said_more (joined (take i pieces)) (get_or pieces i p).now taken taken' d fed_d new limit was
+    subst (λ x. IsSent taken' new limit x) (sym (joined_next pieces i p h))
+    (sent_more (joined (take i pieces)) (get_or pieces i p).now taken taken' d fed_d new limit was
     feeds takes)
 
 -- The direction is at fault: no message follows, whatever is fed.
 pub at_fault : (pieces : List (Bor (List ℕ))) (i : ℕ) (p : Bor (List ℕ)) (taken taken' : List Bytes)
     (d fed_d new : EventReader)
-    (limit : ℕ) → i < length pieces → IsSaid taken d limit (joined (take i pieces))
+    (limit : ℕ) → i < length pieces → IsSent taken d limit (joined (take i pieces))
     → fed_d ≡ fed d (get_or pieces i p).now
     → AreTaken taken fed_d taken' new true
     → taken' ≡ handshakes (events (fed (silent limit) (joined pieces)))
@@ -230,7 +230,7 @@ silence limit =
     omega (arith, h, takes limit 22))
 
 pub begun : (taken : List (Vec ℕ)) (d : EventReader) (limit : ℕ) → taken ≡ [] → d ≡ silent limit
-    → IsSaid (elements taken) d limit [] × (events d ≡ [])
+    → IsSent (elements taken) d limit [] × (events d ≡ [])
 begun taken d limit none is = (
   λ s. sym (ap (λ t. elements t ++ handshakes (events (fed d s))) none
       ∙ ap (λ d. handshakes (events (fed d s))) is),
@@ -240,9 +240,9 @@ begun taken d limit none is = (
 pub at_end_all : (pieces : List (Bor (List ℕ))) (i : ℕ) (taken : List Bytes) (d : EventReader)
     (limit : ℕ)
     → length pieces ≤ i
-    → IsSaid taken d limit (joined (take i pieces)) → events d ≡ []
+    → IsSent taken d limit (joined (take i pieces)) → events d ≡ []
     → taken ≡ handshakes (events (fed (silent limit) (joined pieces)))
 at_end_all pieces i taken d limit all was none =
-    said_all (joined pieces) taken d limit
-    (subst (λ x. IsSaid taken d limit (joined x)) (take_all i pieces all) was)
+    sent_all (joined pieces) taken d limit
+    (subst (λ x. IsSent taken d limit (joined x)) (take_all i pieces all) was)
     (ap handshakes none)

@@ -73,18 +73,18 @@ abbrev pub first : EventReader → Option (Event × EventReader)
 first d = none_behind d.fault (stream.first d.stream)
 
 -- These are the events, whatever follows.
-abbrev pub SaysOnly : EventReader → List Event → Type 0
-SaysOnly d es = (s : Bytes) → events (fed d s) ≡ es
+abbrev pub ReadsOnly : EventReader → List Event → Type 0
+ReadsOnly d es = (s : Bytes) → events (fed d s) ≡ es
 
 -- Both have the same events, whatever follows.
-abbrev pub SaysTheSame : EventReader → EventReader → Type 0
-SaysTheSame d e = (s : Bytes) → events (fed d s) ≡ events (fed e s)
+abbrev pub ReadsTheSame : EventReader → EventReader → Type 0
+ReadsTheSame d e = (s : Bytes) → events (fed d s) ≡ events (fed e s)
 
 -- What the answer of Direction::ready means.
 abbrev pub IsReady : EventReader → Result Bool Fault → Type 0
 IsReady d (Ok true) = IsSome (first d)
 IsReady d (Ok false) = events d ≡ []
-IsReady d (Err f) = SaysOnly d (Failed f ∷ [])
+IsReady d (Err f) = ReadsOnly d (Failed f ∷ [])
 
 abbrev pub fault_in : Result Bool Fault → Option Fault
 fault_in (Ok b) = None

@@ -7,7 +7,7 @@ pub mod Stream
 pub mod Events
 pub mod Taken
 pub mod FlowEvents
-pub mod Ears
+pub mod SideReaders
 pub mod Readers
 pub mod Conversations
 pub use Rattle.layouts.specs.Bytes

@@ -58,8 +58,8 @@ use Rattle.tls_stream.specs.declared.fault.Fault.{Fault}
 use Rattle.tls_stream.specs.declared.fault.Fault.TheVariants as fault
 
 -- The messages of joined fragments.
-abbrev pub said : ℕ → ℕ → Bytes → List Event
-said limit kind b = map (event_of kind) (frames (messages_of limit kind) b)
+abbrev pub sent : ℕ → ℕ → Bytes → List Event
+sent limit kind b = map (event_of kind) (frames (messages_of limit kind) b)
 
 -- What they leave: nothing, or part of a message, perhaps with a length above the limit.
 abbrev pub open_part : ℕ → ℕ → Bytes → Bytes
@@ -80,16 +80,16 @@ closed f (b ∷ bs) others = too_large_or f (b ∷ bs) (Failed fault.Interrupted
 -- The events of the fragments of a type joined so far, and of what follows them.
 abbrev pub events_of : ℕ → ℕ → Bytes → List Item → List Event
 events_of limit kind b [] =
-    said limit kind b ++ too_large_or (messages_of limit kind) (open_part limit kind b) []
+    sent limit kind b ++ too_large_or (messages_of limit kind) (open_part limit kind b) []
 events_of limit kind b (Fragment k f ∷ is) =
     cond (k == kind) (events_of limit kind (b ++ f) is)
-    (said limit kind b ++ closed (messages_of limit kind) (open_part limit kind b)
+    (sent limit kind b ++ closed (messages_of limit kind) (open_part limit kind b)
     (events_of limit k f is))
 events_of limit kind b (Alone e ∷ is) =
-    said limit kind b ++ closed (messages_of limit kind) (open_part limit kind b)
+    sent limit kind b ++ closed (messages_of limit kind) (open_part limit kind b)
     (e ∷ events_of limit kind [] is)
 events_of limit kind b (Broken k ∷ is) =
-    said limit kind b ++ too_large_or (messages_of limit kind) (open_part limit kind b)
+    sent limit kind b ++ too_large_or (messages_of limit kind) (open_part limit kind b)
     (Failed (fault.Refused k) ∷ [])
 
 -- A fragment joins with a following one of its type.
@@ -210,22 +210,22 @@ FirstTaken (Some x) old taken new = (taken ≡ true) × (new ≡ x.1)
 FirstTaken None old taken new = (taken ≡ false) × (new ≡ old)
 
 -- These are the events, whatever follows.
-abbrev pub SaysOnly : Stream → List Event → Type 0
-SaysOnly d es = (s : Bytes) → events (fed d s) ≡ es
+abbrev pub ReadsOnly : Stream → List Event → Type 0
+ReadsOnly d es = (s : Bytes) → events (fed d s) ≡ es
 
 -- Both have the same events, whatever follows.
-abbrev pub SaysTheSame : Stream → Stream → Type 0
-SaysTheSame d e = (s : Bytes) → events (fed d s) ≡ events (fed e s)
+abbrev pub ReadsTheSame : Stream → Stream → Type 0
+ReadsTheSame d e = (s : Bytes) → events (fed d s) ≡ events (fed e s)
 
 -- What the answer of StreamView::next means.
 abbrev pub IsNext : Stream → Next → Type 0
 IsNext d next.Ready = IsSome (first d)
 IsNext d next.Waits = events d ≡ []
-IsNext d (next.Fails f) = SaysOnly d (Failed f ∷ [])
-IsNext d (next.Joins kind n) = (5 + n ≤ length d.held.unread) × SaysTheSame (joined_to d kind n) d
+IsNext d (next.Fails f) = ReadsOnly d (Failed f ∷ [])
+IsNext d (next.Joins kind n) = (5 + n ≤ length d.held.unread) × ReadsTheSame (joined_to d kind n) d
 
 -- What the answer of Stream::ready means.
 abbrev pub IsReady : Stream → Result Bool Fault → Type 0
 IsReady d (Ok true) = IsSome (first d)
 IsReady d (Ok false) = events d ≡ []
-IsReady d (Err f) = SaysOnly d (Failed f ∷ [])
+IsReady d (Err f) = ReadsOnly d (Failed f ∷ [])

@@ -3,7 +3,7 @@ use Rattle.std.specs.Prelude.{◌≡◌, ℕ, Bool, true, false, Option, Some, N
 use Rattle.std.specs.List.{flat_map}
 use Rattle.layouts.specs.Bytes.{Bytes}
 use Rattle.tls_stream.specs.Item.{Event, Handshake, Failed}
-use Rattle.tls_stream.specs.Events.{SaysOnly, events, fed}
+use Rattle.tls_stream.specs.Events.{ReadsOnly, events, fed}
 use Rattle.tls_stream.specs.declared.event_reader.EventReader.{EventReader}
 use Rattle.tls_stream.specs.declared.fault.Fault.{Fault}
 
@@ -32,7 +32,7 @@ TakesSame taken old taken' new = (s : Bytes)
 
 -- No event is left: more bytes are needed, or the direction is at fault, whatever is fed.
 abbrev pub IsOver : EventReader → Bool → Type 0
-IsOver d true = (f : Fault) × SaysOnly d (Failed f ∷ [])
+IsOver d true = (f : Fault) × ReadsOnly d (Failed f ∷ [])
 IsOver d false = events d ≡ []
 
 -- All available messages of a direction were taken; the Bool is whether it is at fault.

@@ -3,10 +3,10 @@ ghost use Rattle.std.specs.Prelude.{◌≡◌, List, IfOk, IsErr, OnOk};
 ghost use Rattle.std.specs.Option.{option_map};
 ghost use Rattle.tls_stream.specs.Item.{Event as EventSpec};
 ghost use Rattle.tls_flow.specs.Table.{outcome_at};
-ghost use Rattle.tls_stream.specs.Conversations.{IsBegun, IsFedBy, IsPieceFollowed, IsOutcomeOf, IsTakenBy, Drains, ear as ear_of, views};
+ghost use Rattle.tls_stream.specs.Conversations.{IsBegun, IsFedBy, IsPieceFollowed, IsOutcomeOf, IsTakenBy, Drains, reader_of as side_reader_of, views};
 ghost use Rattle.tls_stream.specs.Readers.{IsEventOf};
-ghost use Rattle.tls_stream.specs.Ears.{IsReady, front_of};
-ghost use Rattle.tls_stream.specs.FlowEvents.{view_said};
+ghost use Rattle.tls_stream.specs.SideReaders.{IsReady, front_of};
+ghost use Rattle.tls_stream.specs.FlowEvents.{view_stream_event};
 
 use crate::conversation_reader::ConversationReader;
 use crate::event_reader::DEFAULT_LIMIT;
@@ -60,7 +60,7 @@ impl Conversation {
     /// fault. `OutOfMemory` if there is no memory for it: then nothing changes.
     pub fn feed(&mut self, side: Direction, piece: &[u8]) -> Result<(), OutOfMemory>
         ensures fed { OnOk result (IsFedBy self.old side piece.now self.new) }
-        ensures ready { OnOk result (IsReady (ear_of self.new side)) }
+        ensures ready { OnOk result (IsReady (side_reader_of self.new side)) }
         ensures memory { IsErr result → self.new ≡ self.old }
     {
         self.reader.feed(side, piece)
@@ -69,7 +69,7 @@ impl Conversation {
     /// The side's next event, or its fault; `None` if more bytes are needed, or if the fault that
     /// ended the side was taken.
     pub fn front(&self, side: Direction) -> Option<SideEvent<'_>>
-        ensures { option_map view_said result ≡ front_of (ear_of self.now side) }
+        ensures { option_map view_stream_event result ≡ front_of (side_reader_of self.now side) }
     {
         self.reader.front(side)
     }
@@ -80,9 +80,10 @@ impl Conversation {
     /// If it is the first message that chooses TLS 1.3, both sides are read as TLS 1.3 from there
     /// on.
     pub fn take_front_as(&mut self, side: Direction, event: FlowEvent) -> bool
-        ensures taken { IsEventOf event side (front_of (ear_of self.old side))
-            → IsTakenBy (front_of (ear_of self.old side)) self.old side result self.new }
-        ensures ready { IsReady (ear_of self.old side) → IsReady (ear_of self.new side) }
+        ensures taken { IsEventOf event side (front_of (side_reader_of self.old side))
+            → IsTakenBy (front_of (side_reader_of self.old side)) self.old side result self.new }
+        ensures ready { IsReady (side_reader_of self.old side)
+            → IsReady (side_reader_of self.new side) }
     {
         if !self.reader.take_front(side, event) {
             return false;
@@ -97,11 +98,13 @@ impl Conversation {
     /// If it is the first message that chooses TLS 1.3, both sides are read as TLS 1.3 from there
     /// on.
     pub fn take_front(&mut self, side: Direction) -> bool
-        ensures taken { IsTakenBy (front_of (ear_of self.old side)) self.old side result self.new }
-        ensures ready { IsReady (ear_of self.old side) → IsReady (ear_of self.new side) }
+        ensures taken { IsTakenBy
+            (front_of (side_reader_of self.old side)) self.old side result self.new }
+        ensures ready { IsReady (side_reader_of self.old side)
+            → IsReady (side_reader_of self.new side) }
     {
         let event = match self.front(side) {
-            Some(said) => stream_event(&said, side),
+            Some(sent) => stream_event(&sent, side),
             None => return false,
         };
         self.take_front_as(side, event)
@@ -109,7 +112,7 @@ impl Conversation {
 
     /// Removes and follows every event that the side has.
     fn take_all(&mut self, side: Direction)
-        requires { IsReady (ear_of self.old side) }
+        requires { IsReady (side_reader_of self.old side) }
         ensures { (vs : List EventSpec) × Drains self.old side vs self.new }
     {
         'tls12: while !self.reader.is_tls13() {

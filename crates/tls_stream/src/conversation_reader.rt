@@ -1,9 +1,9 @@
 //! Both sides of a TLS conversation, read event by event.
 ghost use Rattle.std.specs.Prelude.{◌≡◌, IsErr, OnOk};
 ghost use Rattle.std.specs.Option.{option_map};
-ghost use Rattle.tls_stream.specs.Readers.{IsBegun, IsEventOf, IsFedBy, IsSwitched, IsTakenBy, ear as ear_of};
-ghost use Rattle.tls_stream.specs.Ears.{IsReady, front_of};
-ghost use Rattle.tls_stream.specs.FlowEvents.{view_said};
+ghost use Rattle.tls_stream.specs.Readers.{IsBegun, IsEventOf, IsFedBy, IsSwitched, IsTakenBy, reader_of as side_reader_of};
+ghost use Rattle.tls_stream.specs.SideReaders.{IsReady, front_of};
+ghost use Rattle.tls_stream.specs.FlowEvents.{view_stream_event};
 
 use crate::event_reader::DEFAULT_LIMIT;
 use crate::flow_event::chooses_tls13;
@@ -56,7 +56,7 @@ impl ConversationReader {
     /// fault. `OutOfMemory` if there is no memory for it: then nothing changes.
     pub fn feed(&mut self, side: Direction, piece: &[u8]) -> Result<(), OutOfMemory>
         ensures fed { OnOk result (IsFedBy self.old side piece.now self.new) }
-        ensures ready { OnOk result (IsReady (ear_of self.new side)) }
+        ensures ready { OnOk result (IsReady (side_reader_of self.new side)) }
         ensures memory { IsErr result → self.new ≡ self.old }
     {
         match side {
@@ -68,7 +68,7 @@ impl ConversationReader {
     /// The side's next event, or its fault; `None` if more bytes are needed, or if the fault that
     /// ended the side was taken.
     pub fn front(&self, side: Direction) -> Option<SideEvent<'_>>
-        ensures { option_map view_said result ≡ front_of (ear_of self.now side) }
+        ensures { option_map view_stream_event result ≡ front_of (side_reader_of self.now side) }
     {
         match side {
             Direction::ToServer => self.client.front(),
@@ -93,9 +93,10 @@ impl ConversationReader {
     /// If it is the first message that chooses TLS 1.3, both sides are read as TLS 1.3 from there
     /// on.
     pub fn take_front(&mut self, side: Direction, event: FlowEvent) -> bool
-        ensures taken { IsEventOf event side (front_of (ear_of self.old side))
-            → IsTakenBy (front_of (ear_of self.old side)) self.old side result self.new }
-        ensures ready { IsReady (ear_of self.old side) → IsReady (ear_of self.new side) }
+        ensures taken { IsEventOf event side (front_of (side_reader_of self.old side))
+            → IsTakenBy (front_of (side_reader_of self.old side)) self.old side result self.new }
+        ensures ready { IsReady (side_reader_of self.old side)
+            → IsReady (side_reader_of self.new side) }
     {
         let is_taken = match side {
             Direction::ToServer => self.client.take_front(),

@@ -2,7 +2,7 @@
 ghost use Rattle.std.specs.Prelude.{◌≡◌, IsOk, IsSome, is_ok, if◌then◌else◌};
 ghost use Rattle.std.specs.Option.{option_map};
 ghost use Rattle.tls_stream.specs.Stream.{FirstTaken};
-ghost use Rattle.tls_stream.specs.Events.{IsReady, SaysTheSame, fault_in, fed, first, silent, switched_to_tls13};
+ghost use Rattle.tls_stream.specs.Events.{IsReady, ReadsTheSame, fault_in, fed, first, silent, switched_to_tls13};
 ghost use Rattle.tls_stream.specs.Item.{view_event};
 
 use crate::event::Event;
@@ -74,7 +74,7 @@ impl EventReader {
     /// An `Err` is the fault that ends the direction: it is the next event and the last, whatever
     /// is fed. The buffered bytes stay, and every later call returns the same fault.
     pub fn ready(&mut self) -> Result<bool, Fault>
-        ensures same { SaysTheSame self.new self.old }
+        ensures same { ReadsTheSame self.new self.old }
         ensures next { IsReady self.new result }
         ensures ended { self.new.fault ≡ fault_in result }
     {

@@ -1,9 +1,9 @@
 //! A side's events as input for a flow.
 ghost use Rattle.std.specs.Prelude.{◌≡◌};
 ghost use Rattle.std.specs.Option.{option_map};
-ghost use Rattle.tls_flow.specs.Bytes.{view_heard};
+ghost use Rattle.tls_flow.specs.Bytes.{view_handshake_message};
 ghost use Rattle.tls_stream.specs.Item.{view_event};
-ghost use Rattle.tls_stream.specs.FlowEvents.{chooses_tls13 as chooses, event_of, event_with, message_in, view_said};
+ghost use Rattle.tls_stream.specs.FlowEvents.{chooses_tls13 as chooses, event_of, event_with, message_in, view_stream_event};
 
 use crate::event::Event;
 use crate::side_event::SideEvent;
@@ -26,10 +26,10 @@ pub fn tls_event(event: &Event<'_>, side: Direction) -> FlowEvent
 
 /// The handshake message of an event, with its ServerHello parsed; `None` if the event is another
 /// one.
-pub fn stream_message<'a>(said: &SideEvent<'a>) -> Option<HandshakeMessage<'a>>
-    ensures { option_map view_heard result ≡ message_in (view_said said.now) }
+pub fn stream_message<'a>(sent: &SideEvent<'a>) -> Option<HandshakeMessage<'a>>
+    ensures { option_map view_handshake_message result ≡ message_in (view_stream_event sent.now) }
 {
-    match said {
+    match sent {
         SideEvent::Event(Event::Handshake(message)) => HandshakeMessage::read(message),
         SideEvent::Event(_) | SideEvent::Fault(_) => None,
     }
@@ -37,10 +37,10 @@ pub fn stream_message<'a>(said: &SideEvent<'a>) -> Option<HandshakeMessage<'a>>
 
 /// The flow event of a side's event, for a caller that has the `kind` of a handshake message, so
 /// that it is parsed only once.
-pub fn stream_event_with(said: &SideEvent<'_>, kind: Kind, side: Direction) -> FlowEvent
-    ensures { result ≡ event_with side (view_said said.now) kind }
+pub fn stream_event_with(sent: &SideEvent<'_>, kind: Kind, side: Direction) -> FlowEvent
+    ensures { result ≡ event_with side (view_stream_event sent.now) kind }
 {
-    match said {
+    match sent {
         SideEvent::Event(Event::Handshake(_)) => FlowEvent::new(kind, side),
         SideEvent::Event(event) => tls_event(event, side),
         SideEvent::Fault(_) => FlowEvent::new(Kind::Unknown, side),
@@ -48,11 +48,11 @@ pub fn stream_event_with(said: &SideEvent<'_>, kind: Kind, side: Direction) -> F
 }
 
 /// The flow event of a side's event.
-pub(crate) fn stream_event(said: &SideEvent<'_>, side: Direction) -> FlowEvent
-    ensures { result ≡ event_of side (view_said said.now) }
+pub(crate) fn stream_event(sent: &SideEvent<'_>, side: Direction) -> FlowEvent
+    ensures { result ≡ event_of side (view_stream_event sent.now) }
 {
-    let kind = Kind::of_message(stream_message(said).as_ref());
-    stream_event_with(said, kind, side)
+    let kind = Kind::of_message(stream_message(sent).as_ref());
+    stream_event_with(sent, kind, side)
 }
 
 /// Whether the server chooses TLS 1.3 with this event: a ServerHello of TLS 1.3, or a

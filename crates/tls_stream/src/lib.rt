@@ -12,8 +12,8 @@
 //! [`ConversationReader`], which has no flow.
 //!
 //! Its promise: the events depend only on the bytes, and not on how these are cut into pieces or
-//! how messages are cut into records. `specs/Stream.antt`, `specs/Events.antt`, `specs/Readers.antt`
-//! and `specs/Conversations.antt` define them; [`laws`] states the promise.
+//! how messages are cut into records. `specs/Stream.antt`, `specs/Events.antt`,
+//! `specs/Readers.antt` and `specs/Conversations.antt` define them; [`laws`] states the promise.
 #![tactic(auto)]
 
 mod conversation;

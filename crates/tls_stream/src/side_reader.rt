@@ -1,8 +1,8 @@
 //! One side of a conversation.
 ghost use Rattle.std.specs.Prelude.{◌≡◌, IsErr, OnOk};
 ghost use Rattle.std.specs.Option.{option_map};
-ghost use Rattle.tls_stream.specs.Ears.{IsFed, IsReady, IsSilent, IsTaken, SaysAs, front_of, told};
-ghost use Rattle.tls_stream.specs.FlowEvents.{view_said};
+ghost use Rattle.tls_stream.specs.SideReaders.{IsFed, IsReady, IsSilent, IsTaken, ReadsAs, front_of, switched};
+ghost use Rattle.tls_stream.specs.FlowEvents.{view_stream_event};
 
 use crate::event_reader::EventReader;
 use crate::fault::Fault;
@@ -14,7 +14,7 @@ use std::alloc::Global;
 #[derive(Clone, Copy)]
 pub(crate) enum Standing {
     /// More events may come.
-    Speaks,
+    Active,
     /// Its next event is this fault, and the last.
     AtFault(Fault),
     /// No more events come.
@@ -35,16 +35,16 @@ impl SideReader {
     {
         SideReader {
             direction: EventReader::with_limit(alloc, limit),
-            standing: Standing::Speaks,
+            standing: Standing::Active,
         }
     }
 
     /// Joins fragments up to the next event.
     fn settle(&mut self)
-        ensures same { SaysAs self.old self.new }
+        ensures same { ReadsAs self.old self.new }
         ensures ready { IsReady self.new }
     {
-        if let Standing::Speaks = self.standing {
+        if let Standing::Active = self.standing {
             if let Err(fault) = self.direction.ready() {
                 self.standing = Standing::AtFault(fault);
             }
@@ -53,13 +53,13 @@ impl SideReader {
 
     /// Appends the piece, unless the side is at fault. `OutOfMemory` if there is no memory for it:
     /// then nothing changes.
-    #[tactic(auto, using(crate::proofs::EarLemmas::ear_rules))]
+    #[tactic(auto, using(crate::proofs::SideReaderLemmas::reader_rules))]
     pub(crate) fn feed(&mut self, piece: &[u8]) -> Result<(), OutOfMemory>
         ensures fed { OnOk result (IsFed self.old piece.now self.new) }
         ensures ready { OnOk result (IsReady self.new) }
         ensures memory { IsErr result → self.new ≡ self.old }
     {
-        if let Standing::Speaks = self.standing {
+        if let Standing::Active = self.standing {
             self.direction.feed(piece)?;
             self.settle();
         }
@@ -68,10 +68,10 @@ impl SideReader {
 
     /// The next event, or the fault.
     pub(crate) fn front(&self) -> Option<SideEvent<'_>>
-        ensures { option_map view_said result ≡ front_of self.now }
+        ensures { option_map view_stream_event result ≡ front_of self.now }
     {
         match self.standing {
-            Standing::Speaks => match self.direction.front() {
+            Standing::Active => match self.direction.front() {
                 Some(event) => Some(SideEvent::Event(event)),
                 None => None,
             },
@@ -86,7 +86,7 @@ impl SideReader {
         ensures ready { IsReady self.old → IsReady self.new }
     {
         match self.standing {
-            Standing::Speaks => {
+            Standing::Active => {
                 let taken = self.direction.take_front();
                 if taken {
                     self.settle();
@@ -103,7 +103,7 @@ impl SideReader {
 
     /// Switches the side to TLS 1.3.
     pub(crate) fn switch_to_tls13(&mut self)
-        ensures same { SaysAs (told self.old) self.new }
+        ensures same { ReadsAs (switched self.old) self.new }
         ensures ready { IsReady self.new }
     {
         self.direction.switch_to_tls13();

@@ -1,7 +1,7 @@
 //! The stream of a direction that isn't at fault.
 ghost use Rattle.std.specs.Prelude.{◌≡◌, is_ok, if◌then◌else◌};
 ghost use Rattle.std.specs.Option.{option_map};
-ghost use Rattle.tls_stream.specs.Stream.{FirstTaken, IsReady, SaysTheSame, fed, first, silent, switched_to_tls13};
+ghost use Rattle.tls_stream.specs.Stream.{FirstTaken, IsReady, ReadsTheSame, fed, first, silent, switched_to_tls13};
 ghost use Rattle.tls_stream.specs.Item.{view_event};
 
 use crate::event::Event;
@@ -68,7 +68,7 @@ impl Stream {
     /// Joins fragments until an event is available: true; or false if more bytes are needed. An
     /// `Err` is the fault that is the next event and the last, whatever is fed.
     pub fn ready(&mut self) -> Result<bool, Fault>
-        ensures same { SaysTheSame self.new self.old }
+        ensures same { ReadsTheSame self.new self.old }
         ensures next { IsReady self.new result }
     {
         'fragments: loop {

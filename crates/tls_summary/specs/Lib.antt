@@ -2,4 +2,4 @@ pub mod Exchange
 pub mod Hellos
 pub mod Parts
 pub mod HandshakeSummary
-pub mod Told
+pub mod Fields

@@ -1,7 +1,7 @@
 //! The fields of a hello's extensions; none if the extension is missing or refused.
 ghost use Rattle.std.specs.Prelude.{◌≡◌, IfOk, map};
 ghost use Rattle.std.specs.Option.{option_map};
-ghost use Rattle.layouts.specs.Items.{items_in, told as told_by};
+ghost use Rattle.layouts.specs.Items.{items_in, returned};
 ghost use Rattle.layouts.specs.Layout.{counted, number};
 ghost use Rattle.layouts.specs.Text.{held};
 ghost use Rattle.tls_key_exchange.specs.Timestamp.{serialized_timestamp};
@@ -23,7 +23,7 @@ use tls_key_exchange::{SignedCertificateTimestamp, certificate_timestamps};
 
 /// The value of an answer; `None` if it is a refusal.
 pub(crate) fn known<T: Drop>(answer: Result<Option<T>, Err<Error<&[u8]>>>) -> Option<T>
-    ensures { result ≡ known_by (told_by (λ v. v) answer.entry) }
+    ensures { result ≡ known_by (returned (λ v. v) answer.entry) }
 {
     match answer {
         Ok(value) => value,

@@ -4,20 +4,20 @@
 //! side updates it, and its methods return the fields.
 //!
 //! The promise is that no later message changes a hello: [`laws`] states it.
-//! `specs/HandshakeSummary.antt` defines the updates, and `specs/Told.antt` the fields.
+//! `specs/HandshakeSummary.antt` defines the updates, and `specs/Fields.antt` the fields.
 #![tactic(auto, using(layouts::proofs::OneAnswerLemmas::read_allowed))]
 
 mod certificate_cache;
 mod exchange;
+mod fields;
 mod hellos;
 pub mod laws;
 mod parts;
 mod summary;
-mod told;
 
 pub use certificate_cache::CertificateCache;
+pub use fields::{DELEGATED_CREDENTIAL, ENCRYPTED_CLIENT_HELLO};
 pub use parts::{
     CertificateFault, CertificateSummary, ClientParts, ServerParts, certificate_fault,
 };
 pub use summary::HandshakeSummary;
-pub use told::{DELEGATED_CREDENTIAL, ENCRYPTED_CLIENT_HELLO};

@@ -8,7 +8,7 @@ ghost use Rattle.tls_summary.specs.HandshakeSummary.{asked, asked_in_ssl2, certi
 ghost use Rattle.ssl2_hello.specs.ClientHello.{view_client_hello as view_ssl2_hello};
 ghost use Rattle.layouts.specs.Reading.{reading};
 ghost use Rattle.tls_hs.specs.Certificate.{certificate};
-ghost use Rattle.tls_flow.specs.Bytes.{view_heard};
+ghost use Rattle.tls_flow.specs.Bytes.{view_handshake_message};
 ghost use Rattle.dtls_records.specs.DtlsHello.{client_hello as datagram_client_hello};
 
 use crate::certificate_cache::CertificateCache;
@@ -342,7 +342,7 @@ impl HandshakeSummary {
         message: &HandshakeMessage<'_>,
     ) -> Result<(), AllocError>
         ensures { OnOk result
-            (view_summary self.new ≡ of_message side (view_heard message.now)
+            (view_summary self.new ≡ of_message side (view_handshake_message message.now)
             (view_summary self.old)) }
     {
         self.note_with(alloc, side, message, None)
@@ -360,7 +360,7 @@ impl HandshakeSummary {
         known: Option<&mut CertificateCache>,
     ) -> Result<(), AllocError>
         ensures { OnOk result
-            (view_summary self.new ≡ of_message side (view_heard message.now)
+            (view_summary self.new ≡ of_message side (view_handshake_message message.now)
             (view_summary self.old)) }
     {
         match message.msg_type {
@@ -435,7 +435,7 @@ impl HandshakeSummary {
         message: &HandshakeMessage<'_>,
     ) -> Result<(), AllocError>
         ensures { OnOk result
-            (view_summary self.new ≡ of_datagrams side (view_heard message.now)
+            (view_summary self.new ≡ of_datagrams side (view_handshake_message message.now)
             (view_summary self.old)) }
     {
         self.note_datagrams_with(alloc, side, message, None)
@@ -453,7 +453,7 @@ impl HandshakeSummary {
         known: Option<&mut CertificateCache>,
     ) -> Result<(), AllocError>
         ensures { OnOk result
-            (view_summary self.new ≡ of_datagrams side (view_heard message.now)
+            (view_summary self.new ≡ of_datagrams side (view_handshake_message message.now)
             (view_summary self.old)) }
     {
         match message.msg_type {

@@ -1,5 +1,6 @@
 //! What is kept of each connection, and the summary that its line is made of.
-ghost use Rattle.tlslog.specs.Pieces.{IsCollectorOf};
+ghost use Rattle.std.specs.Prelude.{◌≡◌, ◌≤◌};
+ghost use Rattle.tlslog.specs.Pieces.{Gives, GivesCertificates, GivesMessages, IsCollectorOf, bytes_of, certificates_in, chain_in, collector_of, messages_in, sent_certificates, sent_messages};
 ghost use Rattle.tlslog.specs.Summary.{IsParty, IsSummary};
 
 use connections::{Connection, Side};
@@ -25,6 +26,30 @@ pub enum CollectedPieces {
     Chains(CertificateLists),
 }
 
+impl CollectedPieces {
+    /// Takes the messages, if these are kept.
+    fn take_messages(&mut self, alloc: Global) -> Vec<SentMessage>
+        ensures taken { result.items ≡ sent_messages self.old }
+        ensures none { GivesMessages self.old self.new }
+    {
+        match self {
+            CollectedPieces::Messages(messages) => messages.take(),
+            CollectedPieces::Certificates(_) | CollectedPieces::Chains(_) => Vec::new(alloc),
+        }
+    }
+
+    /// Takes the certificates, if each is kept until its line is written.
+    fn take_certificates(&mut self, alloc: Global) -> Vec<SentCertificate>
+        ensures taken { result.items ≡ sent_certificates self.old }
+        ensures none { GivesCertificates self.old self.new }
+    {
+        match self {
+            CollectedPieces::Certificates(certificates) => certificates.take(),
+            CollectedPieces::Messages(_) | CollectedPieces::Chains(_) => Vec::new(alloc),
+        }
+    }
+}
+
 impl PieceCollector for CollectedPieces {
     fn begin(alloc: Global, pieces: PieceKind) -> CollectedPieces
         ensures { IsCollectorOf pieces result }
@@ -45,7 +70,12 @@ impl PieceCollector for CollectedPieces {
         }
     }
 
-    fn capacity(&self) -> usize {
+    ghost most_bytes = { λ p. bytes_of p };
+
+    fn capacity(&self) -> usize
+        ensures exactly { result ≡ bytes_of self.now }
+        ensures within { result ≤ bytes_of self.now }
+    {
         match self {
             // (these are taken before the next packet)
             CollectedPieces::Messages(_) | CollectedPieces::Certificates(_) => 0,
@@ -94,20 +124,30 @@ impl Observer for CollectedPieces {
 pub type Analysis = TlsAnalysis<CollectedPieces>;
 
 /// Takes the messages that are kept.
-pub fn take_messages(alloc: Global, attachment: &mut Analysis) -> Vec<SentMessage> {
+pub fn take_messages(alloc: Global, attachment: &mut Analysis) -> Vec<SentMessage>
+    ensures taken { result.items ≡ messages_in (collector_of attachment.old) }
+    ensures none { Gives GivesMessages (collector_of attachment.old)
+        (collector_of attachment.new) }
+    ensures same { attachment.new
+        ≡ record attachment.old { collector = attachment.new.collector } }
+{
     match attachment.collector() {
-        Some(CollectedPieces::Messages(messages)) => messages.take(),
-        Some(CollectedPieces::Certificates(_) | CollectedPieces::Chains(_)) | None => Vec::new(
-            alloc,
-        ),
+        Some(pieces) => pieces.take_messages(alloc),
+        None => Vec::new(alloc),
     }
 }
 
 /// Takes the certificates that are kept.
-pub fn take_certificates(alloc: Global, attachment: &mut Analysis) -> Vec<SentCertificate> {
+pub fn take_certificates(alloc: Global, attachment: &mut Analysis) -> Vec<SentCertificate>
+    ensures taken { result.items ≡ certificates_in (collector_of attachment.old) }
+    ensures none { Gives GivesCertificates (collector_of attachment.old)
+        (collector_of attachment.new) }
+    ensures same { attachment.new
+        ≡ record attachment.old { collector = attachment.new.collector } }
+{
     match attachment.collector() {
-        Some(CollectedPieces::Certificates(certificates)) => certificates.take(),
-        Some(CollectedPieces::Messages(_) | CollectedPieces::Chains(_)) | None => Vec::new(alloc),
+        Some(pieces) => pieces.take_certificates(alloc),
+        None => Vec::new(alloc),
     }
 }
 
@@ -130,7 +170,9 @@ fn party(connection: &Connection<Analysis>, side: Side) -> Party<'_>
 }
 
 /// Returns the certificates that the sender of this direction sent, if chains are kept.
-fn chain(attachment: &Analysis, direction: Direction) -> &[u8] {
+fn chain(attachment: &Analysis, direction: Direction) -> &[u8]
+    ensures { result.now ≡ chain_in direction (collector_of attachment.now) }
+{
     match attachment.kept() {
         Some(CollectedPieces::Chains(lists)) => lists.of(direction),
         Some(CollectedPieces::Messages(_) | CollectedPieces::Certificates(_)) | None => &[],

@@ -1,14 +1,17 @@
 //! Logs captures: packets in, lines out.
-ghost use Rattle.std.specs.Prelude.{◌≡◌, Bool, true, not, None, IfOk, OnOk};
+ghost use Rattle.std.specs.Prelude.{◌≡◌, ◌||◌, Bool, true, not, None, IfOk, OnOk, is_some};
+ghost use Rattle.std.specs.Option.{option_or};
 ghost use Rattle.log_connections.specs.Sink.{Receives};
 ghost use Rattle.std.specs.Io.KnownBytes.{Keeps};
 ghost use Rattle.log_io.specs.Output.{TracksFailure};
 ghost use Rattle.tlslog.specs.Failures.{line_error_of};
+ghost use Rattle.tlslog.specs.Options.{IsLogBy};
+ghost use Rattle.tlslog.specs.Pieces.{piece_kind};
 ghost use Rattle.tlslog.specs.Summary.{LogsConnection, are_connections};
 ghost use Rattle.log_io.specs.Run.{EndsBy, Exits, HasFailed, HasWritten, IsAsBefore, IsNotOfCapture, StaysSound};
 
 use crate::analysis::{Analysis, CollectedPieces, summary, take_certificates, take_messages};
-use arrivals::{Checksums, Counts};
+use arrivals::{ArrivalReader, Checksums, Counts};
 use connection_parts::Part;
 use connections::Connection;
 use log_connections::{Log, LogError, PieceKind, Sink};
@@ -301,7 +304,9 @@ fn report_counts<R: Runtime>(rt: &R, name: &str, counts: &Counts, exit: Exit) ->
 }
 
 /// Returns which pieces of connections are kept until they are printed.
-fn piece_kind_of(style: &Style) -> Option<PieceKind> {
+fn piece_kind_of(style: &Style) -> Option<PieceKind>
+    ensures { result ≡ piece_kind style.now }
+{
     match &style.lines {
         Lines::Connections(_) if style.has_chains() => Some(PieceKind::Chains),
         Lines::Connections(_) => None,
@@ -326,23 +331,44 @@ pub struct RunOptions {
     pub memory: usize,
 }
 
+/// Limits the log to a part of the connections, if there is one.
+fn set_part(reader: &mut ArrivalReader, part: Option<Part>)
+    ensures { reader.new ≡ record reader.old { part = option_or part reader.old.part } }
+{
+    if let Some(part) = part {
+        reader.set_part(part);
+    }
+}
+
+/// Tells networks apart, if that is asked for.
+fn set_networks(
+    reader: &mut ArrivalReader,
+    is_by_network: bool,
+    keys: RandomState,
+) -> Result<(), AllocError>
+    ensures separated { OnOk result (is_some reader.new.networks
+        ≡ (is_some reader.old.networks || is_by_network)) }
+    ensures same { reader.new ≡ record reader.old { networks = reader.new.networks } }
+{
+    if is_by_network {
+        reader.separate_networks(keys)?;
+    }
+    Ok(())
+}
+
 /// Returns an empty log by the options, with these keys for the hashes of its tables.
 fn log_of(
     alloc: Global,
     options: &RunOptions,
     keys: RandomState,
 ) -> Result<Log<CollectedPieces>, AllocError>
-    ensures { IfOk result (λ log. log.memory ≡ options.now.memory) }
+    ensures { IfOk result (IsLogBy options.now) }
 {
     let mut log = Log::new(alloc, keys, piece_kind_of(&options.style))?;
-    log.arrivals.set_checksums(options.checksums);
     log.set_memory(options.memory);
-    if let Some(part) = options.part {
-        log.arrivals.set_part(part);
-    }
-    if options.is_by_network {
-        log.arrivals.separate_networks(keys)?;
-    }
+    log.arrivals.set_checksums(options.checksums);
+    set_part(&mut log.arrivals, options.part);
+    set_networks(&mut log.arrivals, options.is_by_network, keys)?;
     Ok(log)
 }
 
@@ -352,7 +378,8 @@ fn begin_log<R: Runtime + AllocGlobal + RandomSource>(
     options: &RunOptions,
     name: &str,
 ) -> Result<Log<CollectedPieces>, Exit>
-    ensures { HasFailed result }
+    ensures failed { HasFailed result }
+    ensures begun { IfOk result (IsLogBy options.now) }
 {
     let keys = match RandomState::new(rt) {
         Ok(keys) => keys,

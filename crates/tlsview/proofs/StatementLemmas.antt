@@ -25,7 +25,7 @@ use Rattle.hex.specs.declared.error.FromHexError.{FromHexError}
 use Rattle.hex.specs.Hex.{decode_of}
 use Rattle.hex.proofs.HexLemmas.{decode_of-ok, decode_of-digits}
 use Rattle.tlsview.specs.Direction.{sign_of, direction_of}
-use Rattle.tlsview.specs.Statement.{with_direction, said_by, IsStatement}
+use Rattle.tlsview.specs.Statement.{with_direction, line_of, IsStatement}
 use Rattle.tlsview.specs.declared.direction.LineDirection.{LineDirection}
 use Rattle.tlsview.specs.declared.direction.LineDirection.TheVariants.{ToServer, FromServer}
 
@@ -53,7 +53,7 @@ decoded (Some e) digits h = let found = go (decode_of digits) refl in (e, refl, 
     go (Ok bytes) f = (bytes, f)
     go (Err g) f = cc (rw f at h)
 
-statement-from_some : (line : List ℕ) → IsSome (said_by line) → IsStatement line
+statement-from_some : (line : List ℕ) → IsSome (line_of line) → IsStatement line
 statement-from_some [] h = cc h
 statement-from_some (s ∷ []) h = cc h
 statement-from_some (s ∷ p ∷ digits) h = go (eqb p 32) refl h
@@ -74,10 +74,10 @@ statement-from_some (s ∷ p ∷ digits) h = go (eqb p 32) refl h
           hexadecimal = ok.1;
         }
 
-some-from_statement : (line : List ℕ) → IsStatement line → IsSome (said_by line)
+some-from_statement : (line : List ℕ) → IsStatement line → IsSome (line_of line)
 some-from_statement line h =
     let read = decode_of-digits h.digits h.even h.hexadecimal in
     rw (h.spelled, sign_back h.direction, read.1) refl
 
-pub statement_form : (line : List ℕ) → IsSome (said_by line) ↔ IsStatement line
+pub statement_form : (line : List ℕ) → IsSome (line_of line) ↔ IsStatement line
 statement_form line = (statement-from_some line, some-from_statement line)

@@ -34,7 +34,7 @@ use Rattle.tls_states.specs.declared.state.TlsState.{TlsState}
 use Rattle.tls_states.specs.declared.state.TlsState.TheVariants as states
 use Rattle.tlsview.specs.Lines.{lines_of}
 use Rattle.tlsview.specs.Direction.{sign_of}
-use Rattle.tlsview.specs.Statement.{Said, said_by}
+use Rattle.tlsview.specs.Statement.{Line, line_of}
 use Rattle.tlsview.specs.Fault.{Fault, Refused, BadLine, fault_line, fault_text, fault_status}
 use Rattle.tlsview.specs.Names.{message_name}
 use Rattle.tlsview.specs.Transition.{state_after, changes_cipher}
@@ -144,15 +144,15 @@ with_half d c p = (p.0, result_behind d c p.1)
 abbrev pub fed : ViewedSide → Bytes → ViewedSide
 fed side bytes = record { stream = side.stream ++ bytes; is_encrypted = side.is_encrypted }
 
-abbrev pub said_part : ViewedConversation → Option Said → Part ViewedConversation
-said_part c None = ([], Err BadLine)
-said_part c (Some said) =
-    with_half said.0 c (half_part said.0 (half (fed (side_of said.0 c) said.1) c.context))
+abbrev pub part_of_line : ViewedConversation → Option Line → Part ViewedConversation
+part_of_line c None = ([], Err BadLine)
+part_of_line c (Some line) =
+    with_half line.0 c (half_part line.0 (half (fed (side_of line.0 c) line.1) c.context))
 
 -- an empty line is skipped
 abbrev pub line_part : ViewedConversation → List ℕ → Part ViewedConversation
 line_part c [] = ([], Ok c)
-line_part c (b ∷ bs) = said_part c (said_by (b ∷ bs))
+line_part c (b ∷ bs) = part_of_line c (line_of (b ∷ bs))
 
 -- a line's part, and then the other lines, unless it ends the run
 abbrev pub followed_by : ℕ → Part ViewedConversation → (ViewedConversation → List ℕ × ℕ)

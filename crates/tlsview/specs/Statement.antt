@@ -7,20 +7,20 @@ use Rattle.tlsview.specs.Direction.{sign_of, direction_of}
 use Rattle.tlsview.specs.declared.direction.LineDirection.{LineDirection}
 
 -- the direction and the bytes of a line
-abbrev pub Said : Type 0
-Said = LineDirection × List ℕ
+abbrev pub Line : Type 0
+Line = LineDirection × List ℕ
 
 -- the bytes of the digits, in this direction
-abbrev pub with_direction : Option LineDirection → List ℕ → Option Said
+abbrev pub with_direction : Option LineDirection → List ℕ → Option Line
 with_direction None digits = None
 with_direction (Some direction) digits =
     option_map (λ bytes. (direction, bytes)) (result_ok (decode_of digits))
 
 -- a sign, a space, and digits that `hex` decodes
-abbrev pub said_by : List ℕ → Option Said
-said_by (sign ∷ space ∷ digits) = if space == 32 then
+abbrev pub line_of : List ℕ → Option Line
+line_of (sign ∷ space ∷ digits) = if space == 32 then
     with_direction (direction_of sign) digits else None
-said_by _ = None
+line_of _ = None
 
 -- a sign, a space, and an even number of digits
 pub record IsStatement (line : List ℕ) : Type 0 where

@@ -5,7 +5,7 @@ ghost use Rattle.tls_records.specs.Record.{raw_record};
 ghost use Rattle.tlsview.specs.Out.{Half, half_part, out, record_part};
 ghost use Rattle.tlsview.specs.Plain.{PlaintextIsPrinted, PlaintextIsRefused};
 ghost use Rattle.tlsview.specs.Exit.{status_of};
-ghost use Rattle.tlsview.specs.Statement.{IsStatement, said_by};
+ghost use Rattle.tlsview.specs.Statement.{IsStatement, line_of};
 ghost use Rattle.tlsview.specs.declared.direction.LineDirection.{LineDirection};
 
 use crate::exit::ViewExit;
@@ -14,7 +14,7 @@ use std::alloc::Global;
 
 /// A line is well-formed exactly if it is a sign, a space and an even number of digits.
 pub fn statement_form()
-    ensures { (line : List ℕ) → IsSome (said_by line) ↔ IsStatement line }
+    ensures { (line : List ℕ) → IsSome (line_of line) ↔ IsStatement line }
 {}
 
 /// The next record is taken off what a direction has left, and then the rest is read likewise.

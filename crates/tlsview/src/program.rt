@@ -27,7 +27,7 @@ pub fn run<R: Read, W: Write>(
     requires fresh_writer { w.old.has_failed ≡ false }
     ensures same_reader { r.new.reader.ghost_name ≡ r.old.reader.ghost_name }
     ensures same_writer { w.new.writer.ghost_name ≡ w.old.writer.ghost_name }
-    ensures told { IfOk result (λ exit.
+    ensures shown { IfOk result (λ exit.
         WritesOut R.remaining W.contents r.old.reader.now r.new.reader.now w.old.writer.now
         w.new.writer.now (status_of exit)) }
     ensures exit { IfOk result (λ exit. exit ≢ ViewExit.Failed) }
@@ -61,7 +61,7 @@ pub fn run<R: Read, W: Write>(
 /// The contract of [`run`] gives the fault of a failed run.
 pub fn view<R: Read, W: Write>(alloc: Global, r: &mut R, w: &mut W) -> u8
     // A run that doesn't fail has read all, and has written and returned what `out` gives.
-    ensures told { result ≢ status_of ViewExit.Failed
+    ensures shown { result ≢ status_of ViewExit.Failed
         → WritesOut R.remaining W.contents r.old r.new w.old w.new result }
     ensures status { result ≤ status_of ViewExit.Failed }
     // A run that fails hasn't written; or it has read all, and written a proper prefix of what

@@ -101,7 +101,7 @@ fn show_end(text: &mut String, conversation: &ViewedConversation) -> Result<View
 /// The printed text for an input, and how the run ends. It never returns [`ViewExit::Failed`].
 pub fn report_of(alloc: Global, input: &[u8]) -> Result<Report, AllocError>
     ensures exit { IfOk result (λ report. report.exit ≢ ViewExit.Failed) }
-    ensures told { IfOk result
+    ensures shown { IfOk result
         (λ report. (string_bytes report.text, status_of report.exit) ≡ out input.now) }
 {
     let mut text = String::new(alloc);

@@ -1,6 +1,6 @@
 //! Parses a line.
 ghost use Rattle.std.specs.Prelude.{◌≡◌, Option, None, Some, IfOk, MatchOption};
-ghost use Rattle.tlsview.specs.Statement.{said_by};
+ghost use Rattle.tlsview.specs.Statement.{line_of};
 
 use crate::direction::LineDirection;
 use std::alloc::AllocError;
@@ -8,8 +8,8 @@ use std::alloc::AllocError;
 /// Parses a line: a sign, a space, and an even number of hexadecimal digits, whose bytes it leaves
 /// in `bytes`. `None` if the line is malformed.
 pub fn parse_line(line: &[u8], bytes: &mut Vec<u8>) -> Result<Option<LineDirection>, AllocError>
-    ensures { IfOk result (λ found. MatchOption found (said_by line.now ≡ None)
-        (λ direction. said_by line.now ≡ Some (direction, bytes.new.items))) }
+    ensures { IfOk result (λ found. MatchOption found (line_of line.now ≡ None)
+        (λ direction. line_of line.now ≡ Some (direction, bytes.new.items))) }
 {
     let [sign, b' ', digits @ ..] = line else {
         return Ok(None);

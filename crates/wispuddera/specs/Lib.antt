@@ -85,7 +85,7 @@ pub use Rattle.raw_records.specs.Ciphertext
 pub use Rattle.dtls_stream.specs.Ack
 pub use Rattle.raw_records.specs.DatagramRecord
 pub mod BothEvents
-pub use Rattle.tls_stream.specs.Ears
+pub use Rattle.tls_stream.specs.SideReaders
 pub use Rattle.tls_stream.specs.Readers
 pub use Rattle.tls_stream.specs.Conversations as BothConversations
 pub use Rattle.der.specs.Element

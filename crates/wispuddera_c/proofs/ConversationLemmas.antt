@@ -25,10 +25,10 @@ use Rattle.std.proofs.Common.{
   ap₂,
 }
 use Rattle.tls_stream.specs.Conversations.{IsBehind, IsFedBy}
-use Rattle.tls_stream.specs.Readers.{IsToldIf}
-use Rattle.tls_stream.specs.Ears.{IsFed, IsFirst}
+use Rattle.tls_stream.specs.Readers.{IsSwitchedIf}
+use Rattle.tls_stream.specs.SideReaders.{IsFed, IsFirst}
 use Rattle.tls_stream.specs.FlowEvents.{chooses_tls13, event_of}
-use Rattle.tls_stream.specs.Item.{Event as Saying}
+use Rattle.tls_stream.specs.Item.{Event as StreamEvent}
 use Rattle.layouts.specs.Bytes.{Bytes}
 use Rattle.tls_flow.specs.Conversations.{IsOutcome, IsStop}
 use Rattle.tls_flow.specs.Symbols.{symbols_of}
@@ -38,24 +38,24 @@ use Rattle.tls_flow.specs.Table.{is_failed, is_waiting, outcome_at}
 use Rattle.tls_flow.specs.declared.event.FlowEvent.{FlowEvent}
 use Rattle.tls_flow.specs.declared.symbol.Direction.{Direction}
 use Rattle.tls_flow.specs.declared.state.Outcome.{Outcome}
-use Rattle.tls_flow.proofs.FlowLemmas.{stopped_of_flow, told_of_flow}
+use Rattle.tls_flow.proofs.FlowLemmas.{stopped_of_flow, flow_of_run}
 use Rattle.tls_words.specs.Words.{run}
 use Rattle.tls_words.proofs.MachineLemmas.{run_on}
 use Rattle.wispuddera_c.specs.Conversation.{
   AreEvents,
   IsNext,
-  SaysNoMore,
+  ReadsNoMore,
   known_of,
-  said_in,
+  read_in,
   session_behind,
   side_at,
   with_side,
 }
 use Rattle.wispuddera_c.specs.Course.{flow_of, state_in, stop_of}
-use Rattle.wispuddera_c.specs.Said.{takes_session}
-use Rattle.wispuddera_c.specs.Side.{IsHeardAs, IsWithin, Waits, ear_of}
+use Rattle.wispuddera_c.specs.EventContent.{takes_session}
+use Rattle.wispuddera_c.specs.Side.{IsNextEvent, IsWithin, Waits, side_reader_of}
 use Rattle.wispuddera_c.specs.declared.conversation.Conversation.{Conversation}
-use Rattle.wispuddera_c.specs.declared.said.ReadEvent.{ReadEvent}
+use Rattle.wispuddera_c.specs.declared.content.ReadEvent.{ReadEvent}
 use Rattle.wispuddera_c.specs.declared.side.ReadingState.{ReadingState}
 use Rattle.wispuddera_c.specs.declared.side.Side.{Side}
 
@@ -94,20 +94,20 @@ all_else false s c d is =
 
 pub fed_with : (t : Bool) (b b' : Bytes) (s : Side) (c d : Conversation) (p : Bytes)
     → d ≡ with_side t s c
-    → IsFed (ear_of (known_of c) b (side_at t c)) p (ear_of (known_of c) b' s)
-    → (o : Bytes) → IsFedBy (said_in t b o c) (direction t) p (said_in t b' o d)
+    → IsFed (side_reader_of (known_of c) b (side_at t c)) p (side_reader_of (known_of c) b' s)
+    → (o : Bytes) → IsFedBy (read_in t b o c) (direction t) p (read_in t b' o d)
 fed_with true b b' s c d p is fed o =
-    subst (λ d. IsFedBy (said_in true b o c) (direction true) p (said_in true b' o d)) (sym is)
+    subst (λ d. IsFedBy (read_in true b o c) (direction true) p (read_in true b' o d)) (sym is)
     (record { reader = record { side = fed; other = refl; is_tls13 = refl }; flow = refl })
 fed_with false b b' s c d p is fed o =
-    subst (λ d. IsFedBy (said_in false b o c) (direction false) p (said_in false b' o d)) (sym is)
+    subst (λ d. IsFedBy (read_in false b o c) (direction false) p (read_in false b' o d)) (sym is)
     (record { reader = record { side = fed; other = refl; is_tls13 = refl }; flow = refl })
 
 pub waits_with : (t : Bool) (b b' : Bytes) (s : Side) (c d : Conversation) → d ≡ with_side t s c
     → Waits (known_of c) b (side_at t c) b' s
-    → (o : Bytes) → SaysNoMore (said_in t b o c) (direction t) (said_in t b' o d)
+    → (o : Bytes) → ReadsNoMore (read_in t b o c) (direction t) (read_in t b' o d)
 waits_with true b b' s c d is waits o =
-    subst (λ d. SaysNoMore (said_in true b o c) (direction true) (said_in true b' o d)) (sym is)
+    subst (λ d. ReadsNoMore (read_in true b o c) (direction true) (read_in true b' o d)) (sym is)
     (record {
       nothing = waits.nothing;
       side = waits.same;
@@ -117,7 +117,7 @@ waits_with true b b' s c d is waits o =
       flow = refl;
     })
 waits_with false b b' s c d is waits o =
-    subst (λ d. SaysNoMore (said_in false b o c) (direction false) (said_in false b' o d)) (sym is)
+    subst (λ d. ReadsNoMore (read_in false b o c) (direction false) (read_in false b' o d)) (sym is)
     (record {
       nothing = waits.nothing;
       side = waits.same;
@@ -128,12 +128,12 @@ waits_with false b b' s c d is waits o =
     })
 
 -- Both sides are switched to TLS 1.3 by the first event that chooses it.
-told_if : (limit : ℕ) (known chooses : Bool) (b : Bytes) (s : Side)
-    → IsToldIf (not known && chooses) (ear_of (record { limit = limit; is_tls13 = known }) b s)
-    (ear_of (record { limit = limit; is_tls13 = known || chooses }) b s)
-told_if limit true chooses b s = λ t. refl
-told_if limit false true b s = λ t. refl
-told_if limit false false b s = λ t. refl
+switched_if : (limit : ℕ) (known chooses : Bool) (b : Bytes) (s : Side)
+    → IsSwitchedIf (not known && chooses) (side_reader_of (record { limit = limit; is_tls13 = known }) b s)
+    (side_reader_of (record { limit = limit; is_tls13 = known || chooses }) b s)
+switched_if limit true chooses b s = λ t. refl
+switched_if limit false true b s = λ t. refl
+switched_if limit false false b s = λ t. refl
 
 known_or : (known chooses : Bool) → known || chooses ≡ (known || (not known && chooses))
 known_or true chooses = refl
@@ -142,61 +142,61 @@ known_or false chooses = refl
 abbrev chosen_by : FlowEvent → Bool
 chosen_by e = chooses_tls13 e.symbol.kind e.symbol.direction
 
--- d is c after the event e, with which v was said.
+-- d is c after the flow event e of the side's event v.
 module _ (c d : Conversation) (e : FlowEvent) (limit : d.limit ≡ c.limit)
     (tls13 : d.is_tls13 ≡ (c.is_tls13 || chosen_by e))
     (flow : flow_of d.course ≡ follow (flow_of c.course) e) where
-  told : (event : FlowEvent) → e ≡ event → (b : Bytes) (s n : Side) → n ≡ s
-      → IsToldIf (not c.is_tls13 && chosen_by event) (ear_of (known_of c) b s)
-      (ear_of (known_of d) b n)
-  told event is b s n same =
+  shown_by : (event : FlowEvent) → e ≡ event → (b : Bytes) (s n : Side) → n ≡ s
+      → IsSwitchedIf (not c.is_tls13 && chosen_by event) (side_reader_of (known_of c) b s)
+      (side_reader_of (known_of d) b n)
+  shown_by event is b s n same =
       let known : ◌≡◌ {A = ReadingState}
       (record { limit = c.limit; is_tls13 = c.is_tls13 || chosen_by event }) (known_of d) =
       ap₂ (λ l t. record { limit = l; is_tls13 = t }) (sym limit)
       (sym (tls13 ∙ ap (λ x. c.is_tls13 || chosen_by x) is)) in
-      subst (λ r. IsToldIf (not c.is_tls13 && chosen_by event) (ear_of (known_of c) b s) r)
-      (ap (λ k. ear_of k b s) known ∙ ap (λ x. ear_of (known_of d) b x) (sym same))
-      (told_if c.limit c.is_tls13 (chosen_by event) b s)
+      subst (λ r. IsSwitchedIf (not c.is_tls13 && chosen_by event) (side_reader_of (known_of c) b s) r)
+      (ap (λ k. side_reader_of k b s) known ∙ ap (λ x. side_reader_of (known_of d) b x) (sym same))
+      (switched_if c.limit c.is_tls13 (chosen_by event) b s)
 
   tls13_is : (event : FlowEvent) → e ≡ event
       → d.is_tls13 ≡ (c.is_tls13 || (not c.is_tls13 && chosen_by event))
   tls13_is event is =
       tls13 ∙ ap (λ x. c.is_tls13 || chosen_by x) is ∙ known_or c.is_tls13 (chosen_by event)
 
-  pub behind_with : (t : Bool) (b b' : Bytes) (s : Side) (m : Conversation) (v : Saying)
+  pub behind_with : (t : Bool) (b b' : Bytes) (s : Side) (m : Conversation) (v : StreamEvent)
       → m ≡ with_side t s c
       → (d.client ≡ m.client) × (d.server ≡ m.server) → e ≡ event_of (direction t) v
-      → IsFirst (ear_of (known_of c) b (side_at t c)) v (ear_of (known_of c) b' s)
-      → (o : Bytes) → IsBehind (said_in t b o c) (direction t) v (said_in t b' o d)
+      → IsFirst (side_reader_of (known_of c) b (side_at t c)) v (side_reader_of (known_of c) b' s)
+      → (o : Bytes) → IsBehind (read_in t b o c) (direction t) v (read_in t b' o d)
   behind_with true b b' s m v is sides event first o =
-      let said = event_of (direction true) v in
+      let content = event_of (direction true) v in
       record {
         reader =
             record {
               side = (
-                ear_of (known_of c) b' s,
+                side_reader_of (known_of c) b' s,
                 first,
-                told said event b' s d.client (sides.0 ∙ ap (λ (x : Conversation). x.client) is),
+                shown_by content event b' s d.client (sides.0 ∙ ap (λ (x : Conversation). x.client) is),
               );
-              other = told said event o c.server d.server
+              other = shown_by content event o c.server d.server
                   (sides.1 ∙ ap (λ (x : Conversation). x.server) is);
-              is_tls13 = tls13_is said event;
+              is_tls13 = tls13_is content event;
             };
         flow = flow ∙ ap (follow (flow_of c.course)) event;
       }
   behind_with false b b' s m v is sides event first o =
-      let said = event_of (direction false) v in
+      let content = event_of (direction false) v in
       record {
         reader =
             record {
               side = (
-                ear_of (known_of c) b' s,
+                side_reader_of (known_of c) b' s,
                 first,
-                told said event b' s d.server (sides.1 ∙ ap (λ (x : Conversation). x.server) is),
+                shown_by content event b' s d.server (sides.1 ∙ ap (λ (x : Conversation). x.server) is),
               );
-              other = told said event o c.client d.client
+              other = shown_by content event o c.client d.client
                   (sides.0 ∙ ap (λ (x : Conversation). x.client) is);
-              is_tls13 = tls13_is said event;
+              is_tls13 = tls13_is content event;
             };
         flow = flow ∙ ap (follow (flow_of c.course)) event;
       }
@@ -224,47 +224,47 @@ module _ (t : Bool) (b b' : Bytes) (c m d : Conversation) (s : Side) (h : ReadEv
   same : AllElse c m
   same = all_else t s c m is
 
-  session_is : (v : Saying) → h.takes_session ≡ takes_session v → d.has_session ≡ session_behind c v
+  session_is : (v : StreamEvent) → h.takes_session ≡ takes_session v → d.has_session ≡ session_behind c v
   session_is v takes =
       session
       ∙ ap (λ x. cond (is_waiting (outcome_at (state_in x.flow))) h.takes_session m.has_session)
       same.course
       ∙ ap₂ (λ x y. cond (is_waiting (outcome_at (state_in c.course.flow))) x y) takes same.session
 
-  next_of : IsHeardAs (direction t) (known_of c) b (side_at t c) b' s h → IsNext t b b' c d h.said
-  next_of heard =
+  next_of : IsNextEvent (direction t) (known_of c) b (side_at t c) b' s h → IsNext t b b' c d h.content
+  next_of received =
       let limit_is : d.limit ≡ c.limit = limit ∙ same.limit in
       let tls13_known : d.is_tls13 ≡ (c.is_tls13 || chosen_by h.event) =
       tls13 ∙ ap (λ x. x || chosen_by h.event) same.is_tls13 in
       let flow_is : flow_of d.course ≡ follow (flow_of c.course) h.event =
       flow ∙ ap (λ x. follow (flow_of x) h.event) same.course in (
-        heard.0,
+        received.0,
         record {
-          told = heard.2.told;
-          behind = behind_with c d h.event limit_is tls13_known flow_is t b b' s m heard.0 is sides
-              heard.2.event
-              heard.1;
+          shown_by = received.2.shown_by;
+          behind = behind_with c d h.event limit_is tls13_known flow_is t b b' s m received.0 is sides
+              received.2.event
+              received.1;
           within = within_behind t (length b') s c m d is sides within;
           other_side = other_behind t s c m d is sides;
-          session = session_is heard.0 heard.2.session;
+          session = session_is received.0 received.2.session;
           events = λ es. events_with c d h.event limit_is tls13_known flow_is
-              (event_of (direction t) heard.0) es
-              heard.2.event;
+              (event_of (direction t) received.0) es
+              received.2.event;
         },
       )
 
   pub next_with : (old : Side) (k : ReadingState) (side : Direction) → old ≡ side_at t c
       → k ≡ known_of c
-      → side ≡ direction t → IsHeardAs side k b old b' s h → IsNext t b b' c d h.said
-  next_with old k side old_is k_is side_is heard =
-      next_of (subst (λ x. IsHeardAs (direction t) (known_of c) b x b' s h) old_is
-      (subst (λ x. IsHeardAs (direction t) x b old b' s h) k_is
-      (subst (λ x. IsHeardAs x k b old b' s h) side_is heard)))
+      → side ≡ direction t → IsNextEvent side k b old b' s h → IsNext t b b' c d h.content
+  next_with old k side old_is k_is side_is received =
+      next_of (subst (λ x. IsNextEvent (direction t) (known_of c) b x b' s h) old_is
+      (subst (λ x. IsNextEvent (direction t) x b old b' s h) k_is
+      (subst (λ x. IsNextEvent x k b old b' s h) side_is received)))
 
 -- The outcome, by its events.
 pub outcome_with : (es : List FlowEvent) (c : Conversation) (o : Outcome) → AreEvents es c
     → o ≡ outcome_at (state_in c.course.flow) → IsOutcome o (symbols_of es)
-outcome_with es c o are is = (told_of_flow es silence (flow_of c.course) are refl o).0 (sym is)
+outcome_with es c o are is = (flow_of_run es silence (flow_of c.course) are refl o).0 (sym is)
 
 pub stop_with : (es : List FlowEvent) (c : Conversation) → AreEvents es c
     → is_failed (outcome_at (state_in c.course.flow)) ≡ true

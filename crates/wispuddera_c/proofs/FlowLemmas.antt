@@ -41,11 +41,11 @@ pub steps : (es : List Event) (d : Event) (e : FlowEvent) (q : State) (c n : Flo
     → state_at c.state ≡ Some q → f.state ≡ q → g ≡ follow f e → e.symbol ≡ symbol_of d
     → e.alert ≡ None
     → state_at n.state ≡ Some g.state → IsBehind es c → IsBehind (es ++ d ∷ []) n
-steps es d e q c n f g known at moved symbols alerts told behind =
+steps es d e q c n f g known at moved symbols alerts shown_by behind =
     let here : f.state ≡ (followed es).state =
     at ∙ same_held q (followed es).state (sym known ∙ behind) in
     let same : e ≡ event_of d = event_is e (symbol_of d) symbols alerts in
-    told ∙ ap Some (ap (λ h. h.state) moved ∙ same_state f (followed es) e here
+    shown_by ∙ ap Some (ap (λ h. h.state) moved ∙ same_state f (followed es) e here
     ∙ ap (λ x. (follow (followed es) x).state) same ∙ sym (ap (λ h. h.state) (one_more es d)))
 
 pub outcome_there : (es : List Event) (c : Flow) (q : State) (o : Outcome)

@@ -24,7 +24,7 @@ use Rattle.tls_flow.specs.Conversations.{IsOutcome}
 use Rattle.tls_flow.specs.Symbols.{symbols_of}
 use Rattle.tls_flow.specs.Steps.{follow, silence}
 use Rattle.tls_flow.specs.Table.{outcome_at}
-use Rattle.tls_flow.proofs.FlowLemmas.{told_of_flow}
+use Rattle.tls_flow.proofs.FlowLemmas.{flow_of_run}
 use Rattle.tls_flow.specs.declared.state.Outcome.{Outcome}
 use Rattle.tls_flow.specs.declared.event.FlowEvent.{FlowEvent}
 use Rattle.tls_flow.specs.declared.flow.Flow.{Flow}
@@ -59,4 +59,4 @@ pub outcome_holds : (es : List Event) (f : Flow) (o : Outcome)
     → o ≡ outcome_at f.state → IsOutcome o (word_of es)
 outcome_holds es f o ends is =
     subst (IsOutcome o) (symbols_are es)
-    ((told_of_flow (map event_of es) silence f ends refl o).0 (sym is))
+    ((flow_of_run (map event_of es) silence f ends refl o).0 (sym is))

@@ -12,11 +12,11 @@ pub answered : {A : Type 0} (l : Layout A) (Shows : A → Bytes → Type 0) (b i
 answered l Shows b i r v is read shown =
     subst (λ x. IsAnswered Shows x 0 0) (sym (ap (reading l) (sym is) ∙ read)) (refl, refl, shown)
 
-pub told : {A : Type 0} (l : Layout A) (Shows : A → Bytes → Type 0) (b i r : Bytes) (v : A)
+pub shown_by : {A : Type 0} (l : Layout A) (Shows : A → Bytes → Type 0) (b i r : Bytes) (v : A)
     (offset : ℕ)
     → i ≡ drop offset b → offset ≤ length b → reading l i ≡ Ok (v, r) → Shows v r
     → IsAnsweredAt l Shows b offset 0 0
-told l Shows b i r v offset is near read shown = record {
+shown_by l Shows b i r v offset is near read shown = record {
   inside = λ _. answered l Shows (drop offset b) i r v is read shown;
   behind = λ far. absurd (omega (arith, near, far));
 }
@@ -24,9 +24,9 @@ told l Shows b i r v offset is near read shown = record {
 pub refused : {A : Type 0} (l : Layout A) (Shows : A → Bytes → Type 0) (b i : Bytes) (e : Refusal)
     (offset status missing : ℕ) → i ≡ drop offset b → offset ≤ length b → reading l i ≡ Err e
     → IsRefused e status missing → IsAnsweredAt l Shows b offset status missing
-refused l Shows b i e offset status missing is near read told = record {
+refused l Shows b i e offset status missing is near read shown_by = record {
   inside = λ _. subst (λ x. IsAnswered Shows x status missing)
-      (sym (ap (reading l) (sym is) ∙ read)) told;
+      (sym (ap (reading l) (sym is) ∙ read)) shown_by;
   behind = λ far. absurd (omega (arith, near, far));
 }
 

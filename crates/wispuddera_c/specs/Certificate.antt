@@ -3,7 +3,7 @@ use Rattle.std.specs.Prelude.{◌≡◌, ℕ, List, Result, Ok, Err}
 use Rattle.std.specs.Borrow.{Bor}
 use Rattle.std.specs.Option.{option_map}
 use Rattle.layouts.specs.Bytes.{Bytes}
-use Rattle.layouts.specs.Items.{Tells}
+use Rattle.layouts.specs.Items.{Returns}
 use Rattle.layouts.specs.Meaning.{Refusal}
 use Rattle.layouts.specs.Text.{held}
 use Rattle.layouts.specs.declared.result.Err.{Err as Failed}
@@ -30,12 +30,12 @@ IsKey (Ok (public.Other algorithm)) kind bits = (kind ≡ 5) × (bits ≡ 0)
 IsKey (Err e) kind bits = (kind ≡ 0) × (bits ≡ 0)
 
 -- The library's answer for a key.
-abbrev pub KeyTold : Type 0
-KeyTold = Result LentPublicKey (Failed (Error (Bor (List ℕ))))
+abbrev pub KeyAnswer : Type 0
+KeyAnswer = Result LentPublicKey (Failed (Error (Bor (List ℕ))))
 
 -- The numbers are those of this answer.
-abbrev pub TellsKey : KeyTold → ℕ → ℕ → Type 0
-TellsKey found kind bits = (a : Result PublicKey Refusal) → Tells view_public_key a found
+abbrev pub ShowsKey : KeyAnswer → ℕ → ℕ → Type 0
+ShowsKey found kind bits = (a : Result PublicKey Refusal) → Returns view_public_key a found
     → IsKey a kind bits
 
 -- The struct shows the certificate v in b, and that r follows it.

@@ -29,7 +29,8 @@ IsWritten text size (Ok x) old new status missing = (status ≡ 0) × (missing �
 IsWritten text size (Err e) old new status missing = IsRefused e status missing × (new ≡ old)
 
 -- This holds if the buffer has room for the text. A shorter one is refused, and doesn't change.
-pub record IsTold {A : Type 0} (text : A → Bytes) (size : ℕ) (answer : Answer A) (old new : Bytes)
+pub record IsAnswered {A : Type 0} (text : A → Bytes) (size : ℕ) (answer : Answer A)
+    (old new : Bytes)
     (status missing : ℕ) : Type 0 where
   pub room : size ≤ length old → IsWritten text size answer old new status missing
   pub short : length old < size → (status ≡ no_room) × (missing ≡ 0) × (new ≡ old)

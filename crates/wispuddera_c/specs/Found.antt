@@ -3,7 +3,7 @@ use Rattle.std.specs.Prelude.{◌≡◌, ℕ, List, Option, Some, None, Result, 
 use Rattle.std.specs.Borrow.{Bor}
 use Rattle.std.specs.Option.{option_map}
 use Rattle.layouts.specs.Bytes.{Bytes}
-use Rattle.layouts.specs.Items.{Tells, items_in}
+use Rattle.layouts.specs.Items.{Returns, items_in}
 use Rattle.layouts.specs.Layout.{Layout}
 use Rattle.layouts.specs.Meaning.{Refusal}
 use Rattle.layouts.specs.Place.{bytes_at}
@@ -33,13 +33,13 @@ abbrev pub PlaceFound : Type 0
 PlaceFound = Result (Option Place) (Failed (Error (Bor (List ℕ))))
 
 -- If the call found bytes of b, the status and the struct show them.
-abbrev pub TellsPart : PlaceFound → ℕ → Found → Type 0
-TellsPart found status c = (b : Bytes) (a : Result (Option Bytes) Refusal)
-    → Tells (option_map (bytes_at b)) a found
+abbrev pub ShowsPart : PlaceFound → ℕ → Found → Type 0
+ShowsPart found status c = (b : Bytes) (a : Result (Option Bytes) Refusal)
+    → Returns (option_map (bytes_at b)) a found
     → IsWithin b found → IsFound b a status c
 
 -- If the call found a list of items in b, the status and the struct show it.
-abbrev pub TellsList : {A : Type 0} → Layout A → PlaceFound → ℕ → Found → Type 0
-TellsList {A} l found status c = (b : Bytes) (a : Result (Option (List A)) Refusal)
-    → Tells (option_map (λ p. items_in l (bytes_at b p))) a found → IsWithin b found
+abbrev pub ShowsList : {A : Type 0} → Layout A → PlaceFound → ℕ → Found → Type 0
+ShowsList {A} l found status c = (b : Bytes) (a : Result (Option (List A)) Refusal)
+    → Returns (option_map (λ p. items_in l (bytes_at b p))) a found → IsWithin b found
     → AreFound l b a status c

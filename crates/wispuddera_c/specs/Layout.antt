@@ -3,7 +3,8 @@ use Rattle.std.specs.Prelude.{ℕ, List, [], ◌∷◌, slice_get}
 use Rattle.std.specs.Option.{unwrap_or}
 
 -- Place, Record, Part, ClientHello, ServerHello, Found, Number, DtlsRecord, DtlsMessage,
--- DtlsClientHello, Event, Flow, X509, X509Extension, Said, Stop, Side, Course, Conversation.
+-- DtlsClientHello, Event, Flow, X509, X509Extension, EventContent, Stop, Side, Course,
+-- Conversation.
 abbrev pub struct_sizes : List ℕ
 struct_sizes = 16 ∷ 40 ∷ 40 ∷ 104 ∷ 72 ∷ 24 ∷ 24 ∷ 48 ∷ 48 ∷ 120 ∷ 2 ∷ 4 ∷ 200 ∷ 56 ∷ 24 ∷ 16 ∷ 40
     ∷ 32 ∷ 128 ∷ []

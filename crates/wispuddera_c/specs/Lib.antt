@@ -14,6 +14,6 @@ pub mod Flow
 pub mod Detection
 pub mod Certificate
 pub mod Course
-pub mod Said
+pub mod EventContent
 pub mod Side
 pub mod Conversation

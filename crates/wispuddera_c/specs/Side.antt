@@ -1,18 +1,18 @@
 -- One side's stream, in a buffer of the caller's.
 use Rattle.std.specs.Prelude.{◌≡◌, ℕ, ◌≤◌, ◌+◌, ◌-◌, Bool, true, false, None, [], length, take}
 use Rattle.std.specs.List.{between}
-use Rattle.tls_stream.specs.Ears.{IsFirst, SaysAs, says}
+use Rattle.tls_stream.specs.SideReaders.{IsFirst, ReadsAs, further_events}
 use Rattle.tls_stream.specs.declared.side_reader.SideReader.{SideReader}
 use Rattle.tls_stream.specs.declared.side_reader.Standing.{Standing}
-use Rattle.tls_stream.specs.declared.side_reader.Standing.TheVariants.{Speaks, Over}
+use Rattle.tls_stream.specs.declared.side_reader.Standing.TheVariants.{Active, Over}
 use Rattle.tls_stream.specs.Held.{Held}
-use Rattle.tls_stream.specs.Item.{Event as Saying}
+use Rattle.tls_stream.specs.Item.{Event as StreamEvent}
 use Rattle.tls_stream.specs.Stream.{Source, OfMessage, OfRecord}
 use Rattle.tls_stream.specs.declared.stream.Stream.{Stream}
 use Rattle.layouts.specs.Bytes.{Bytes}
 use Rattle.tls_flow.specs.declared.symbol.Direction.{Direction}
-use Rattle.wispuddera_c.specs.Said.{Shows}
-use Rattle.wispuddera_c.specs.declared.said.ReadEvent.{ReadEvent}
+use Rattle.wispuddera_c.specs.EventContent.{Shows}
+use Rattle.wispuddera_c.specs.declared.content.ReadEvent.{ReadEvent}
 use Rattle.wispuddera_c.specs.declared.side.ReadingState.{ReadingState}
 use Rattle.wispuddera_c.specs.declared.side.Side.{Side}
 
@@ -50,14 +50,14 @@ stream_of k b s = record {
   held = held_in b s;
 }
 
--- After a fault the side says nothing more.
+-- After a fault the side has no more events.
 abbrev pub standing_by : Bool → Standing
 standing_by true = Over
-standing_by false = Speaks
+standing_by false = Active
 
 -- The side of the struct and its buffer.
-abbrev pub ear_of : ReadingState → Bytes → Side → SideReader
-ear_of k b s = record {
+abbrev pub side_reader_of : ReadingState → Bytes → Side → SideReader
+side_reader_of k b s = record {
   direction = record { stream = stream_of k b s; fault = None };
   standing = standing_by s.is_over;
 }
@@ -73,11 +73,12 @@ StandInFront h (OfMessage y) = take (length y) h.part ≡ y
 StandInFront h (OfRecord y) = (5 ≤ length y) × (take (length y) h.unread ≡ y)
 
 -- The side returns an event first, whatever follows, and then what the changed struct returns.
-abbrev pub IsHeardAs : Direction → ReadingState → Bytes → Side → Bytes → Side → ReadEvent → Type 0
-IsHeardAs side k b s b' s' h = (v : Saying) × IsFirst (ear_of k b s) v (ear_of k b' s')
+abbrev pub IsNextEvent : Direction → ReadingState → Bytes → Side → Bytes → Side → ReadEvent → Type 0
+IsNextEvent side k b s b' s' h =
+    (v : StreamEvent) × IsFirst (side_reader_of k b s) v (side_reader_of k b' s')
     × Shows side b' h v
 
 -- The side returns no event for now, and later the same as before.
 pub record Waits (k : ReadingState) (b : Bytes) (s : Side) (b' : Bytes) (s' : Side) : Type 0 where
-  pub nothing : says (ear_of k b s) [] ≡ []
-  pub same : SaysAs (ear_of k b s) (ear_of k b' s')
+  pub nothing : further_events (side_reader_of k b s) [] ≡ []
+  pub same : ReadsAs (side_reader_of k b s) (side_reader_of k b' s')

@@ -6,7 +6,7 @@ ghost use Rattle.layouts.specs.Reading.{reading};
 ghost use Rattle.x509.specs.Certificate.{certificate as certificate_layout, extension, view_certificate};
 ghost use Rattle.x509.specs.GeneralName.{general_name, general_names, view_general_name};
 ghost use Rattle.x509_places.specs.Certificate.{CertificateStands};
-ghost use Rattle.wispuddera_c.specs.Certificate.{ShowsName, ShowsX509, ShowsX509Extension, TellsKey, name_tag};
+ghost use Rattle.wispuddera_c.specs.Certificate.{ShowsName, ShowsX509, ShowsX509Extension, ShowsKey, name_tag};
 ghost use Rattle.wispuddera_c.specs.Place.{ItemsStandAt};
 ghost use Rattle.wispuddera_c.specs.Status.{IsAnswered, IsAnsweredAt};
 
@@ -66,7 +66,7 @@ pub struct X509 {
 /// The kind of a parsed key, and the bit length of an RSA key's modulus.
 #[inline(always)]
 fn key_numbers(found: Result<PublicKey, Err<Error<&[u8]>>>) -> (u8, u32)
-    ensures { TellsKey found.entry result.0 result.1 }
+    ensures { ShowsKey found.entry result.0 result.1 }
 {
     match found {
         Ok(PublicKey::Rsa(bits)) => (1, bits),

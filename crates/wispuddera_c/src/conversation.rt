@@ -10,15 +10,15 @@ ghost use Rattle.tls_flow.specs.Steps.{follow as follow_by};
 ghost use Rattle.tls_flow.specs.Table.{is_failed, is_waiting, outcome_at};
 ghost use Rattle.tls_flow.specs.declared.event.FlowEvent.{FlowEvent};
 ghost use Rattle.tls_flow.specs.declared.state.Outcome.{Outcome};
-ghost use Rattle.wispuddera_c.specs.Conversation.{AreEvents, IsGiven, IsNext, IsStopTold, IsWaiting, is_established, is_resumed, joined, known_of, side_at, with_side};
+ghost use Rattle.wispuddera_c.specs.Conversation.{AreEvents, IsGiven, IsNext, IsStopShown, IsWaiting, is_established, is_resumed, joined, known_of, side_at, with_side};
 ghost use Rattle.wispuddera_c.specs.Course.{flow_of, state_in};
 ghost use Rattle.wispuddera_c.specs.Outcome.{outcome_number};
 ghost use Rattle.wispuddera_c.specs.Side.{IsWithin, count_held};
 ghost use Rattle.wispuddera_c.specs.Status.{no_room, none, outside};
 
+use crate::content::EventContent;
 use crate::course::{Course, Stop};
 use crate::outcome::number_of_outcome;
-use crate::said::Said;
 use crate::side::{ReadingState, Side};
 use crate::status::{NO_ROOM, NONE, OUTSIDE, READ};
 use tls_flow::{Direction, FlowEvent, Kind, Outcome};
@@ -179,7 +179,7 @@ pub extern "C" fn wispuddera_conversation_next(
     buffer: &mut [u8],
     conversation: &mut Conversation,
     to_server: bool,
-    out: &mut Said,
+    out: &mut EventContent,
 ) -> u32
     ensures read { result ≡ 0
         → IsNext to_server buffer.old buffer.new conversation.old conversation.new out.new }
@@ -198,12 +198,12 @@ pub extern "C" fn wispuddera_conversation_next(
     if side.is_over {
         return NONE;
     }
-    let heard = side.next_event(buffer, conversation.known(), Direction::of(to_server));
+    let received = side.next_event(buffer, conversation.known(), Direction::of(to_server));
     conversation.put(to_server, side);
-    match heard {
-        Some(heard) => {
-            conversation.follow(heard.event, heard.takes_session);
-            *out = heard.said;
+    match received {
+        Some(received) => {
+            conversation.follow(received.event, received.takes_session);
+            *out = received.content;
             READ
         }
         None => NONE,
@@ -222,8 +222,8 @@ pub extern "C" fn wispuddera_conversation_outcome(conversation: &Conversation) -
 /// Returns what ended a handshake without success.
 #[unsafe(no_mangle)]
 pub extern "C" fn wispuddera_conversation_stop(conversation: &Conversation, out: &mut Stop) -> u32
-    ensures told { (events : List FlowEvent) → AreEvents events conversation.now
-        → IsStopTold events result out.new }
+    ensures shown_by { (events : List FlowEvent) → AreEvents events conversation.now
+        → IsStopShown events result out.new }
     ensures stays { result ≢ 0 → out.new ≡ out.old }
 {
     if is_stopped(conversation.course.state().outcome()) {

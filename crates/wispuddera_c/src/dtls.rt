@@ -86,7 +86,7 @@ pub struct DtlsClientHello {
 }
 
 /// Parses the DTLS record at this offset of a datagram.
-#[tactic(auto, using(layouts::proofs::OneAnswerLemmas::read_allowed, crate::proofs::StatusLemmas::told, crate::proofs::StatusLemmas::refused, crate::proofs::StatusLemmas::behind))]
+#[tactic(auto, using(layouts::proofs::OneAnswerLemmas::read_allowed, crate::proofs::StatusLemmas::shown_by, crate::proofs::StatusLemmas::refused, crate::proofs::StatusLemmas::behind))]
 #[unsafe(no_mangle)]
 pub extern "C" fn wispuddera_read_dtls_record(
     bytes: &[u8],
@@ -123,7 +123,7 @@ pub extern "C" fn wispuddera_read_dtls_record(
 }
 
 /// Parses the handshake message, or the fragment of one, at this offset of a record's fragment.
-#[tactic(auto, using(layouts::proofs::OneAnswerLemmas::read_allowed, crate::proofs::StatusLemmas::told, crate::proofs::StatusLemmas::refused, crate::proofs::StatusLemmas::behind))]
+#[tactic(auto, using(layouts::proofs::OneAnswerLemmas::read_allowed, crate::proofs::StatusLemmas::shown_by, crate::proofs::StatusLemmas::refused, crate::proofs::StatusLemmas::behind))]
 #[unsafe(no_mangle)]
 pub extern "C" fn wispuddera_read_dtls_message(
     bytes: &[u8],

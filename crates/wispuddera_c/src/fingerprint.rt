@@ -10,7 +10,7 @@ ghost use Rattle.tls_hs.specs.InPlace.{view_client_hello_in_place};
 ghost use Rattle.tls_hs.specs.ServerHello.{server_hello, server_hello_any, view_server_hello};
 ghost use Rattle.tls_records.specs.DtlsHello.{client_hello as dtls_client_hello};
 ghost use Rattle.tls_records.specs.DtlsInPlace.{view_client_hello_in_place as view_dtls_client_hello_in_place};
-ghost use Rattle.wispuddera_c.specs.Fingerprint.{BeginsWith, IsTold, client_of, server_of};
+ghost use Rattle.wispuddera_c.specs.Fingerprint.{BeginsWith, IsAnswered, client_of, server_of};
 
 use crate::status::{NO_ROOM, READ, Refusal, TOO_LARGE};
 use tls_fingerprints::{ClientHelloParts, ServerHelloParts, Transport};
@@ -66,7 +66,7 @@ fn server_parts<'a>(hello: &TlsServerHelloContents<'a>) -> ServerHelloParts<'a>
 
 /// Writes JA4 to the beginning of the buffer. A hello with more suites or extensions than are
 /// possible is refused.
-fn tell_ja4(hello: ClientHelloParts, transport: Transport, text: &mut [u8]) -> u32
+fn write_ja4(hello: ClientHelloParts, transport: Transport, text: &mut [u8]) -> u32
     requires { 36 ≤ length text.old }
     ensures { (IsTooLong 32767 (view_client hello.entry) → ⊥)
         → (result ≡ 0) × BeginsWith (ja4_of transport (view_client hello.entry)) 36
@@ -84,7 +84,7 @@ fn tell_ja4(hello: ClientHelloParts, transport: Transport, text: &mut [u8]) -> u
 /// Writes JA3 of a ClientHello, from its body (RFC 5246, section 7.4.1.2).
 #[unsafe(no_mangle)]
 pub extern "C" fn wispuddera_ja3(bytes: &[u8], digits: &mut [u8], missing: &mut usize) -> u32
-    ensures { IsTold (λ h. ja3_of (client_of h)) 32 (reading client_hello bytes.now) digits.old
+    ensures { IsAnswered (λ h. ja3_of (client_of h)) 32 (reading client_hello bytes.now) digits.old
         digits.new result missing.new }
 {
     *missing = 0;
@@ -107,7 +107,7 @@ pub extern "C" fn wispuddera_ja3(bytes: &[u8], digits: &mut [u8], missing: &mut 
 /// Writes JA3 of a DTLS ClientHello, from its body (RFC 6347, section 4.2.1).
 #[unsafe(no_mangle)]
 pub extern "C" fn wispuddera_dtls_ja3(bytes: &[u8], digits: &mut [u8], missing: &mut usize) -> u32
-    ensures { IsTold (λ h. ja3_of (client_of h.hello)) 32 (reading dtls_client_hello bytes.now)
+    ensures { IsAnswered (λ h. ja3_of (client_of h.hello)) 32 (reading dtls_client_hello bytes.now)
         digits.old digits.new result missing.new }
 {
     *missing = 0;
@@ -130,7 +130,7 @@ pub extern "C" fn wispuddera_dtls_ja3(bytes: &[u8], digits: &mut [u8], missing: 
 /// Writes JA3S of a ServerHello, from its body (RFC 5246, section 7.4.1.3).
 #[unsafe(no_mangle)]
 pub extern "C" fn wispuddera_ja3s(bytes: &[u8], digits: &mut [u8], missing: &mut usize) -> u32
-    ensures { IsTold (λ h. ja3s_of (server_of h)) 32 (reading server_hello bytes.now) digits.old
+    ensures { IsAnswered (λ h. ja3s_of (server_of h)) 32 (reading server_hello bytes.now) digits.old
         digits.new result missing.new }
 {
     *missing = 0;
@@ -153,7 +153,8 @@ pub extern "C" fn wispuddera_ja3s(bytes: &[u8], digits: &mut [u8], missing: &mut
 /// Writes JA3S of a DTLS ServerHello of any version, from its body (RFC 6347, section 4.3.2).
 #[unsafe(no_mangle)]
 pub extern "C" fn wispuddera_dtls_ja3s(bytes: &[u8], digits: &mut [u8], missing: &mut usize) -> u32
-    ensures { IsTold (λ h. ja3s_of (server_of h)) 32 (reading server_hello_any bytes.now) digits.old
+    ensures { IsAnswered (λ h. ja3s_of (server_of h)) 32
+        (reading server_hello_any bytes.now) digits.old
         digits.new result missing.new }
 {
     *missing = 0;
@@ -175,7 +176,7 @@ pub extern "C" fn wispuddera_dtls_ja3s(bytes: &[u8], digits: &mut [u8], missing:
 
 /// Writes JA4 of a ClientHello over this transport, from its body.
 fn ja4_over(bytes: &[u8], transport: Transport, text: &mut [u8], missing: &mut usize) -> u32
-    ensures { IsTold (λ h. ja4_of transport (client_of h)) 36 (reading client_hello bytes.now)
+    ensures { IsAnswered (λ h. ja4_of transport (client_of h)) 36 (reading client_hello bytes.now)
         text.old text.new result missing.new }
 {
     *missing = 0;
@@ -183,7 +184,7 @@ fn ja4_over(bytes: &[u8], transport: Transport, text: &mut [u8], missing: &mut u
         return NO_ROOM;
     }
     match ClientHelloView::parse(bytes) {
-        Ok((_, hello)) => tell_ja4(client_parts(&hello), transport, text),
+        Ok((_, hello)) => write_ja4(client_parts(&hello), transport, text),
         Err(e) => {
             let refusal = Refusal::of(e);
             *missing = refusal.missing;
@@ -195,7 +196,8 @@ fn ja4_over(bytes: &[u8], transport: Transport, text: &mut [u8], missing: &mut u
 /// Writes JA4 of a ClientHello over TCP, from its body (RFC 5246, section 7.4.1.2).
 #[unsafe(no_mangle)]
 pub extern "C" fn wispuddera_ja4(bytes: &[u8], text: &mut [u8], missing: &mut usize) -> u32
-    ensures { IsTold (λ h. ja4_of Tcp (client_of h)) 36 (reading client_hello bytes.now) text.old
+    ensures { IsAnswered (λ h. ja4_of Tcp (client_of h)) 36
+        (reading client_hello bytes.now) text.old
         text.new result missing.new }
 {
     ja4_over(bytes, Transport::Tcp, text, missing)
@@ -204,7 +206,8 @@ pub extern "C" fn wispuddera_ja4(bytes: &[u8], text: &mut [u8], missing: &mut us
 /// Writes JA4 of a ClientHello over QUIC (RFC 9001), from its body.
 #[unsafe(no_mangle)]
 pub extern "C" fn wispuddera_quic_ja4(bytes: &[u8], text: &mut [u8], missing: &mut usize) -> u32
-    ensures { IsTold (λ h. ja4_of Quic (client_of h)) 36 (reading client_hello bytes.now) text.old
+    ensures { IsAnswered (λ h. ja4_of Quic (client_of h)) 36
+        (reading client_hello bytes.now) text.old
         text.new result missing.new }
 {
     ja4_over(bytes, Transport::Quic, text, missing)
@@ -213,7 +216,8 @@ pub extern "C" fn wispuddera_quic_ja4(bytes: &[u8], text: &mut [u8], missing: &m
 /// Writes JA4 of a DTLS ClientHello, from its body (RFC 6347, section 4.2.1).
 #[unsafe(no_mangle)]
 pub extern "C" fn wispuddera_dtls_ja4(bytes: &[u8], text: &mut [u8], missing: &mut usize) -> u32
-    ensures { IsTold (λ h. ja4_of Udp (client_of h.hello)) 36 (reading dtls_client_hello bytes.now)
+    ensures { IsAnswered (λ h. ja4_of Udp (client_of h.hello)) 36
+        (reading dtls_client_hello bytes.now)
         text.old text.new result missing.new }
 {
     *missing = 0;
@@ -221,7 +225,7 @@ pub extern "C" fn wispuddera_dtls_ja4(bytes: &[u8], text: &mut [u8], missing: &m
         return NO_ROOM;
     }
     match DTLSClientHelloView::parse(bytes) {
-        Ok((_, hello)) => tell_ja4(dtls_client_parts(&hello), Transport::Udp, text),
+        Ok((_, hello)) => write_ja4(dtls_client_parts(&hello), Transport::Udp, text),
         Err(e) => {
             let refusal = Refusal::of(e);
             *missing = refusal.missing;

@@ -136,7 +136,7 @@ pub extern "C" fn wispuddera_flow_step(flow: &mut Flow, event: &Event)
 /// number counts as no handshake.
 #[unsafe(no_mangle)]
 pub extern "C" fn wispuddera_flow_outcome(flow: &Flow) -> u32
-    ensures told { (events : List Event) → IsBehind events flow.now
+    ensures shown_by { (events : List Event) → IsBehind events flow.now
         → (o : Outcome) × (result ≡ outcome_number o) × IsOutcome o (word_of events) }
     ensures other { state_at flow.now.state ≡ None → result ≡ 5 }
 {

@@ -1,12 +1,12 @@
 //! Looking things up in records, hellos and extensions: names, lists, contents.
 ghost use Rattle.tls_ext.specs.InPlace.{client_shares, content_of, host_name, key_share_entry, protocol_names};
-ghost use Rattle.layouts.specs.Items.{IsTold};
+ghost use Rattle.layouts.specs.Items.{IsReturned};
 ghost use Rattle.layouts.specs.Layout.{counted};
 ghost use Rattle.layouts.specs.Reading.{reading};
 ghost use Rattle.tls_hs.specs.Certificate.{certificate};
 ghost use Rattle.tls_hs.specs.Hello.{client_hello};
 ghost use Rattle.tls_records.specs.InPlace.{body_of_type, host_name_of_record, name_in_hello};
-ghost use Rattle.wispuddera_c.specs.Found.{AreFound, IsFound, TellsList, TellsPart};
+ghost use Rattle.wispuddera_c.specs.Found.{AreFound, IsFound, ShowsList, ShowsPart};
 ghost use Rattle.wispuddera_c.specs.Place.{ItemsStandAt};
 ghost use Rattle.wispuddera_c.specs.Status.{IsAnswered};
 
@@ -32,10 +32,10 @@ pub struct Found {
 
 /// Writes the library's result to the struct, and returns its status.
 #[inline(always)]
-fn tell(found: Result<Option<Within>, Err<Error<&[u8]>>>, out: &mut Found) -> u32
-    requires { IsTold found }
-    ensures part { TellsPart found.entry result out.new }
-    ensures list { TellsList (counted 1) found.entry result out.new }
+fn write_found(found: Result<Option<Within>, Err<Error<&[u8]>>>, out: &mut Found) -> u32
+    requires { IsReturned found }
+    ensures part { ShowsPart found.entry result out.new }
+    ensures list { ShowsList (counted 1) found.entry result out.new }
 {
     out.missing = 0;
     match found {
@@ -57,7 +57,7 @@ fn tell(found: Result<Option<Within>, Err<Error<&[u8]>>>, out: &mut Found) -> u3
 pub extern "C" fn wispuddera_find_server_name_in_record(bytes: &[u8], out: &mut Found) -> u32
     ensures { IsFound bytes.now (host_name_of_record bytes.now) result out.new }
 {
-    tell(host_name_place_of_record(bytes), out)
+    write_found(host_name_place_of_record(bytes), out)
 }
 
 /// Finds the host name that a ClientHello asks for, in its body.
@@ -65,7 +65,7 @@ pub extern "C" fn wispuddera_find_server_name_in_record(bytes: &[u8], out: &mut 
 pub extern "C" fn wispuddera_find_server_name_in_hello(bytes: &[u8], out: &mut Found) -> u32
     ensures { IsFound bytes.now (name_in_hello (reading client_hello bytes.now)) result out.new }
 {
-    tell(host_name_place_of_hello(bytes), out)
+    write_found(host_name_place_of_hello(bytes), out)
 }
 
 /// Finds the host name in a block of extensions (RFC 6066, section 3).
@@ -73,7 +73,7 @@ pub extern "C" fn wispuddera_find_server_name_in_hello(bytes: &[u8], out: &mut F
 pub extern "C" fn wispuddera_find_server_name(bytes: &[u8], out: &mut Found) -> u32
     ensures { IsFound bytes.now (host_name bytes.now) result out.new }
 {
-    tell(host_name_place(bytes), out)
+    write_found(host_name_place(bytes), out)
 }
 
 /// Finds the list of protocol names in a block of extensions (RFC 7301, section 3.1).
@@ -81,7 +81,7 @@ pub extern "C" fn wispuddera_find_server_name(bytes: &[u8], out: &mut Found) -> 
 pub extern "C" fn wispuddera_find_protocols(bytes: &[u8], out: &mut Found) -> u32
     ensures { AreFound (counted 1) bytes.now (protocol_names bytes.now) result out.new }
 {
-    tell(protocol_names_place(bytes), out)
+    write_found(protocol_names_place(bytes), out)
 }
 
 /// Finds the content of the first extension of this type in a block of extensions (RFC 8446,
@@ -90,7 +90,7 @@ pub extern "C" fn wispuddera_find_protocols(bytes: &[u8], out: &mut Found) -> u3
 pub extern "C" fn wispuddera_find_extension(bytes: &[u8], kind: u16, out: &mut Found) -> u32
     ensures { IsFound bytes.now (content_of kind bytes.now) result out.new }
 {
-    tell(content_place(bytes, TlsExtensionType(kind)), out)
+    write_found(content_place(bytes, TlsExtensionType(kind)), out)
 }
 
 /// Finds the body of the first handshake message of this type in a fragment (RFC 5246, section
@@ -99,7 +99,7 @@ pub extern "C" fn wispuddera_find_extension(bytes: &[u8], kind: u16, out: &mut F
 pub extern "C" fn wispuddera_find_body(bytes: &[u8], kind: u8, out: &mut Found) -> u32
     ensures { IsFound bytes.now (body_of_type kind bytes.now) result out.new }
 {
-    tell(body_place(bytes, TlsHandshakeType(kind)), out)
+    write_found(body_place(bytes, TlsHandshakeType(kind)), out)
 }
 
 /// Finds the list of key shares in the content of a ClientHello's key_share (RFC 8446, section

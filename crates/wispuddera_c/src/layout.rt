@@ -6,6 +6,7 @@ ghost use Rattle.wispuddera_c.specs.Layout.{field_offsets as offsets_of_structs,
 
 use crate::certificate::{X509, X509Extension};
 use crate::client_hello::ClientHello;
+use crate::content::EventContent;
 use crate::conversation::Conversation;
 use crate::course::{Course, Stop};
 use crate::dtls::{DtlsClientHello, DtlsMessage, DtlsRecord};
@@ -16,7 +17,6 @@ use crate::outcome::Event;
 use crate::part::Part;
 use crate::place::Place;
 use crate::record::Record;
-use crate::said::Said;
 use crate::server_hello::ServerHello;
 use crate::side::Side;
 use std::mem::size_of;
@@ -41,7 +41,7 @@ pub extern "C" fn wispuddera_struct_size(index: usize) -> usize
         11 => size_of::<Flow>(),
         12 => size_of::<X509>(),
         13 => size_of::<X509Extension>(),
-        14 => size_of::<Said>(),
+        14 => size_of::<EventContent>(),
         15 => size_of::<Stop>(),
         16 => size_of::<Side>(),
         17 => size_of::<Course>(),

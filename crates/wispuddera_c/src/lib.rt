@@ -13,6 +13,7 @@
 
 mod certificate;
 mod client_hello;
+mod content;
 mod conversation;
 mod course;
 mod detection;
@@ -26,7 +27,6 @@ mod outcome;
 mod part;
 mod place;
 mod record;
-mod said;
 mod server_hello;
 mod side;
 mod status;

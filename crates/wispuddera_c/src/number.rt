@@ -29,7 +29,7 @@ pub struct Number {
 
 /// The number at this index of a list.
 #[inline(always)]
-fn tell(numbers: Items<u16>, index: usize, out: &mut Number) -> u32
+fn write_number(numbers: Items<u16>, index: usize, out: &mut Number) -> u32
     ensures { IsNumberOf (items_in (number 2) numbers.entry.bytes.now) index result out.new }
 {
     out.missing = 0;
@@ -49,7 +49,7 @@ fn tell(numbers: Items<u16>, index: usize, out: &mut Number) -> u32
 pub extern "C" fn wispuddera_number_at(bytes: &[u8], index: usize, out: &mut Number) -> u32
     ensures { IsNumberOf (items_in (number 2) bytes.now) index result out.new }
 {
-    tell(Items::new(bytes), index, out)
+    write_number(Items::new(bytes), index, out)
 }
 
 /// Finds the cipher suite at this index in the body of a ClientHello (RFC 5246, section 7.4.1.2).
@@ -59,7 +59,7 @@ pub extern "C" fn wispuddera_cipher_suite_at(bytes: &[u8], index: usize, out: &m
         result out.new }
 {
     match ClientHelloView::parse(bytes) {
-        Ok((_, hello)) => tell(Items::new(hello.ciphers.bytes()), index, out),
+        Ok((_, hello)) => write_number(Items::new(hello.ciphers.bytes()), index, out),
         Err(e) => {
             let refusal = Refusal::of(e);
             out.missing = refusal.missing;
@@ -81,7 +81,7 @@ pub extern "C" fn wispuddera_dtls_cipher_suite_at(
         result out.new }
 {
     match DTLSClientHelloView::parse(bytes) {
-        Ok((_, hello)) => tell(Items::new(hello.ciphers.bytes()), index, out),
+        Ok((_, hello)) => write_number(Items::new(hello.ciphers.bytes()), index, out),
         Err(e) => {
             let refusal = Refusal::of(e);
             out.missing = refusal.missing;
@@ -98,7 +98,7 @@ pub extern "C" fn wispuddera_version_at(bytes: &[u8], index: usize, out: &mut Nu
         index result out.new }
 {
     match supported_versions(bytes) {
-        Ok((_, versions)) => tell(Items::new(versions.bytes()), index, out),
+        Ok((_, versions)) => write_number(Items::new(versions.bytes()), index, out),
         Err(e) => {
             let refusal = Refusal::of(e);
             out.missing = refusal.missing;
@@ -114,7 +114,7 @@ pub extern "C" fn wispuddera_group_at(bytes: &[u8], index: usize, out: &mut Numb
         result out.new }
 {
     match supported_groups(bytes) {
-        Ok((_, groups)) => tell(Items::new(groups.bytes()), index, out),
+        Ok((_, groups)) => write_number(Items::new(groups.bytes()), index, out),
         Err(e) => {
             let refusal = Refusal::of(e);
             out.missing = refusal.missing;
@@ -135,7 +135,7 @@ pub extern "C" fn wispuddera_signature_scheme_at(
         index result out.new }
 {
     match signature_algorithms(bytes) {
-        Ok((_, schemes)) => tell(Items::new(schemes.bytes()), index, out),
+        Ok((_, schemes)) => write_number(Items::new(schemes.bytes()), index, out),
         Err(e) => {
             let refusal = Refusal::of(e);
             out.missing = refusal.missing;

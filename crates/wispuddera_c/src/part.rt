@@ -28,7 +28,7 @@ pub struct Part {
 }
 
 /// Parses the handshake message at this offset of a record's fragment (RFC 5246, section 7.4).
-#[tactic(auto, using(layouts::proofs::OneAnswerLemmas::read_allowed, crate::proofs::StatusLemmas::told, crate::proofs::StatusLemmas::refused, crate::proofs::StatusLemmas::behind))]
+#[tactic(auto, using(layouts::proofs::OneAnswerLemmas::read_allowed, crate::proofs::StatusLemmas::shown_by, crate::proofs::StatusLemmas::refused, crate::proofs::StatusLemmas::behind))]
 #[unsafe(no_mangle)]
 pub extern "C" fn wispuddera_read_message(bytes: &[u8], offset: usize, out: &mut Part) -> u32
     ensures { IsAnsweredAt raw_handshake (ShowsPart bytes.now out.new) bytes.now offset result
@@ -57,7 +57,7 @@ pub extern "C" fn wispuddera_read_message(bytes: &[u8], offset: usize, out: &mut
 }
 
 /// Parses the extension at this offset of a block of extensions (RFC 8446, section 4.2).
-#[tactic(auto, using(layouts::proofs::OneAnswerLemmas::read_allowed, crate::proofs::StatusLemmas::told, crate::proofs::StatusLemmas::refused, crate::proofs::StatusLemmas::behind))]
+#[tactic(auto, using(layouts::proofs::OneAnswerLemmas::read_allowed, crate::proofs::StatusLemmas::shown_by, crate::proofs::StatusLemmas::refused, crate::proofs::StatusLemmas::behind))]
 #[unsafe(no_mangle)]
 pub extern "C" fn wispuddera_read_extension(bytes: &[u8], offset: usize, out: &mut Part) -> u32
     ensures { IsAnsweredAt raw_extension (ShowsPart bytes.now out.new) bytes.now offset result
@@ -87,7 +87,7 @@ pub extern "C" fn wispuddera_read_extension(bytes: &[u8], offset: usize, out: &m
 
 /// Parses the key share at this offset of a list of key shares (RFC 8446, section 4.2.8). Its kind
 /// is its group.
-#[tactic(auto, using(layouts::proofs::OneAnswerLemmas::read_allowed, crate::proofs::StatusLemmas::told, crate::proofs::StatusLemmas::refused, crate::proofs::StatusLemmas::behind))]
+#[tactic(auto, using(layouts::proofs::OneAnswerLemmas::read_allowed, crate::proofs::StatusLemmas::shown_by, crate::proofs::StatusLemmas::refused, crate::proofs::StatusLemmas::behind))]
 #[unsafe(no_mangle)]
 pub extern "C" fn wispuddera_read_key_share(bytes: &[u8], offset: usize, out: &mut Part) -> u32
     ensures { IsAnsweredAt key_share_entry (ShowsPart bytes.now out.new) bytes.now offset result
@@ -116,7 +116,7 @@ pub extern "C" fn wispuddera_read_key_share(bytes: &[u8], offset: usize, out: &m
 }
 
 /// Parses the protocol name at this offset of a list of names (RFC 7301, section 3.1).
-#[tactic(auto, using(layouts::proofs::OneAnswerLemmas::read_allowed, crate::proofs::StatusLemmas::told, crate::proofs::StatusLemmas::refused, crate::proofs::StatusLemmas::behind))]
+#[tactic(auto, using(layouts::proofs::OneAnswerLemmas::read_allowed, crate::proofs::StatusLemmas::shown_by, crate::proofs::StatusLemmas::refused, crate::proofs::StatusLemmas::behind))]
 #[unsafe(no_mangle)]
 pub extern "C" fn wispuddera_read_protocol(bytes: &[u8], offset: usize, out: &mut Part) -> u32
     ensures { IsAnsweredAt (counted 1) (ShowsBytes bytes.now out.new) bytes.now offset result
@@ -145,7 +145,7 @@ pub extern "C" fn wispuddera_read_protocol(bytes: &[u8], offset: usize, out: &mu
 }
 
 /// Parses the certificate at this offset of a list of certificates (RFC 5246, section 7.4.2).
-#[tactic(auto, using(layouts::proofs::OneAnswerLemmas::read_allowed, crate::proofs::StatusLemmas::told, crate::proofs::StatusLemmas::refused, crate::proofs::StatusLemmas::behind))]
+#[tactic(auto, using(layouts::proofs::OneAnswerLemmas::read_allowed, crate::proofs::StatusLemmas::shown_by, crate::proofs::StatusLemmas::refused, crate::proofs::StatusLemmas::behind))]
 #[unsafe(no_mangle)]
 pub extern "C" fn wispuddera_read_certificate(bytes: &[u8], offset: usize, out: &mut Part) -> u32
     ensures { IsAnsweredAt (counted 3) (ShowsBytes bytes.now out.new) bytes.now offset result

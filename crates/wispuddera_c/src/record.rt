@@ -27,7 +27,7 @@ pub struct Record {
 }
 
 /// Parses the record at this offset.
-#[tactic(auto, using(layouts::proofs::OneAnswerLemmas::read_allowed, crate::proofs::StatusLemmas::told, crate::proofs::StatusLemmas::refused, crate::proofs::StatusLemmas::behind))]
+#[tactic(auto, using(layouts::proofs::OneAnswerLemmas::read_allowed, crate::proofs::StatusLemmas::shown_by, crate::proofs::StatusLemmas::refused, crate::proofs::StatusLemmas::behind))]
 #[unsafe(no_mangle)]
 pub extern "C" fn wispuddera_read_record(bytes: &[u8], offset: usize, out: &mut Record) -> u32
     ensures { IsAnsweredAt raw_record (ShowsRecord bytes.now out.new) bytes.now offset result

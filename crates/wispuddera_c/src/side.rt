@@ -1,13 +1,13 @@
 //! One side's stream, in a buffer of the caller's.
 ghost use Rattle.std.specs.Prelude.{◌≡◌, ◌↔◌, ◌≤◌, ◌+◌, length, true, false, Some, None, IfSome, IfNone};
-ghost use Rattle.tls_stream.specs.Item.{Event as Saying, view_event};
-ghost use Rattle.tls_stream.specs.Stream.{IsReady, SaysTheSame, behind, fed, first, joined_to, view_source};
+ghost use Rattle.tls_stream.specs.Item.{Event as StreamEvent, view_event};
+ghost use Rattle.tls_stream.specs.Stream.{IsReady, ReadsTheSame, behind, fed, first, joined_to, view_source};
 ghost use Rattle.wispuddera_c.specs.Place.{StandsAt};
-ghost use Rattle.wispuddera_c.specs.Said.{Shows};
-ghost use Rattle.wispuddera_c.specs.Side.{IsHeardAs, IsWithin, StandInFront, Waits, bytes_of, count_held, ear_of, held_in, silent_side, stream_of};
+ghost use Rattle.wispuddera_c.specs.EventContent.{Shows};
+ghost use Rattle.wispuddera_c.specs.Side.{IsNextEvent, IsWithin, StandInFront, Waits, bytes_of, count_held, side_reader_of, held_in, silent_side, stream_of};
 
+use crate::content::{ReadEvent, event_at, event_of_fault};
 use crate::place::Place;
-use crate::said::{ReadEvent, event_at, event_of_fault};
 use tls_flow::Direction;
 use tls_stream::{Fault, Next, Source, StreamView};
 
@@ -160,7 +160,7 @@ impl Side {
     /// `Err` is the fault that is the next event and the last.
     fn settle(&mut self, buffer: &mut [u8], known: ReadingState) -> Result<bool, Fault>
         requires { IsWithin (length buffer.old) self.old }
-        ensures same { SaysTheSame (stream_of known buffer.new self.new)
+        ensures same { ReadsTheSame (stream_of known buffer.new self.new)
             (stream_of known buffer.old self.old) }
         ensures next { IsReady (stream_of known buffer.new self.new) result }
         ensures within { IsWithin (length buffer.new) self.new }
@@ -216,7 +216,7 @@ impl Side {
     ) -> Option<ReadEvent>
         requires { IsWithin (length buffer.now) self.old }
         ensures some { IfSome result
-            (λ h. (v : Saying)
+            (λ h. (v : StreamEvent)
             × (first (stream_of known buffer.now self.old) ≡ Some
             (v, stream_of known buffer.now self.new)) × Shows side buffer.now h v) }
         ensures none { IfNone result (first (stream_of known buffer.now self.old) ≡ None) }
@@ -240,9 +240,9 @@ impl Side {
         side: Direction,
     ) -> Option<ReadEvent>
         requires within { IsWithin (length buffer.old) self.old }
-        requires speaks { self.old.is_over ≡ false }
+        requires is_active { self.old.is_over ≡ false }
         ensures some { IfSome result
-            (λ h. IsHeardAs side known buffer.old self.old buffer.new self.new h) }
+            (λ h. IsNextEvent side known buffer.old self.old buffer.new self.new h) }
         ensures none { IfNone result (Waits known buffer.old self.old buffer.new self.new) }
         ensures within { IsWithin (length buffer.new) self.new }
     {

@@ -5,7 +5,7 @@
 ghost use Rattle.std.specs.Prelude.{◌≡◌, ◌≤◌, ℕ};
 ghost use Rattle.std.specs.Option.{option_map};
 ghost use Rattle.layouts.specs.Answers.{Gives};
-ghost use Rattle.layouts.specs.Items.{Tells};
+ghost use Rattle.layouts.specs.Items.{Returns};
 ghost use Rattle.der.specs.Element.{view_element, whole, tagged as tagged_layout};
 ghost use Rattle.x509.specs.Certificate.{view_key_info};
 ghost use Rattle.x509.specs.PublicKey.{byte_bits as byte_bits_of, zero_byte, bit_length, positive_bits, rsa_content, rsa_public_key, view_public_key, named_curve as named_curve_of, key_of};
@@ -141,7 +141,7 @@ pub enum PublicKey<'a> {
 
 /// The curve in an algorithm's parameters.
 fn named_curve<'a>(parameters: Option<Element<'a>>) -> Result<PublicKey<'a>, Err<Error<&'a [u8]>>>
-    ensures { Tells view_public_key
+    ensures { Returns view_public_key
         (named_curve_of (option_map view_element parameters.entry)) result }
 {
     match parameters {
@@ -168,7 +168,7 @@ impl<'a> SubjectPublicKeyInfo<'a> {
     /// - `Error` of kind `Tag` if the parameters of an elliptic curve key aren't a name (RFC 5480,
     ///   section 2.1.1, has no others), and what parsing an [`ObjectIdentifier`] refuses.
     pub fn public_key(self) -> Result<PublicKey<'a>, Err<Error<&'a [u8]>>>
-        ensures { Tells view_public_key (key_of (view_key_info self.entry)) result }
+        ensures { Returns view_public_key (key_of (view_key_info self.entry)) result }
     {
         let algorithm = self.algorithm.algorithm.content;
         if algorithm == oid::RSA_ENCRYPTION.content || algorithm == oid::RSASSA_PSS.content {

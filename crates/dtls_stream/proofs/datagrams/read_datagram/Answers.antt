@@ -11,7 +11,7 @@ use Rattle.dtls_stream.proofs.ReadingLemmas.{
   reading_ends,
   reading_fails,
   reading_next,
-  reading_untold,
+  reading_not_emitted,
 }
 use Rattle.dtls_stream.proofs.datagrams.read_datagram.Goals as goal
 
@@ -30,7 +30,7 @@ records-preserved c a h st =
     (view_events c.read_record_events.new.events.items) c.records.messages
     c.read_record_events.new.messages
     (omega arith) c.in-Ok.ensures.read (c.records.invariant a h st)
-    c.in_ok-read_record_events-in-Ok.ensures.told
+    c.in_ok-read_record_events-in-Ok.ensures.emitted
 
 pub returns-in_err-read_record_events-in-Ok-clause-stopped
     : goal.returns-in_err-read_record_events-in-Ok-clause-stopped
@@ -47,28 +47,28 @@ returns-in_err-read_record_events-in-Ok-clause-stopped c a h st =
     (omega arith) c.in-Ok.ensures.read (c.records.invariant a h st)
     c.in_err-read_record_events-in-Ok.ensures.stopped)
 
-pub returns-in-Err-clause-told : goal.returns-in-Err-clause-told
-returns-in-Err-clause-told c a h st =
-    on_ok c.tell_unread.result c.tell_unread.ensures.told
+pub returns-in-Err-clause-emitted : goal.returns-in-Err-clause-emitted
+returns-in-Err-clause-emitted c a h st =
+    on_ok c.emit_unread.result c.emit_unread.ensures.emitted
     (reading_fails a h (fragments_of c.args.datagram.now) (datagram a h c.args.datagram.now)
     (length c.args.datagram.now - c.records.taken)
     (length c.args.datagram.now - (c.records.taken + 1))
     c.records.left.now
     (refusal_of c.in-Err.error) (view_events c.args.events.now.items)
     (view_events c.records.events.items)
-    (view_events c.tell_unread.new.events.items) c.records.messages
+    (view_events c.emit_unread.new.events.items) c.records.messages
     (omega arith) c.in-Err.ensures.read (c.records.invariant a h st))
 
 pub returns-in-Err-clause-stopped : goal.returns-in-Err-clause-stopped
 returns-in-Err-clause-stopped c a h st =
-    on_err c.tell_unread.result c.tell_unread.ensures.stopped
-    (reading_untold a h (fragments_of c.args.datagram.now) (datagram a h c.args.datagram.now)
+    on_err c.emit_unread.result c.emit_unread.ensures.stopped
+    (reading_not_emitted a h (fragments_of c.args.datagram.now) (datagram a h c.args.datagram.now)
     (length c.args.datagram.now - c.records.taken) c.records.left.now
     (view_events c.args.events.now.items) (view_events c.records.events.items)
-    (view_events c.tell_unread.new.events.items) c.records.messages (c.records.invariant a h st))
+    (view_events c.emit_unread.new.events.items) c.records.messages (c.records.invariant a h st))
 
-pub returns-clause-told : goal.returns-clause-told
-returns-clause-told c a h st =
+pub returns-clause-emitted : goal.returns-clause-emitted
+returns-clause-emitted c a h st =
     reading_ends a h (fragments_of c.args.datagram.now) (datagram a h c.args.datagram.now)
     (length c.args.datagram.now - c.records.taken) c.records.left.now
     (view_events c.args.events.now.items)

@@ -16,7 +16,7 @@ pub loop-datagram-preserved : goal.loop-datagram-preserved
 loop-datagram-preserved c =
     datagrams_next (view_limits c.args.limits) (views c.args.datagrams.now) c.args.datagrams.now
     c.loop-datagram.datagram-index _ _ _ c.loop-datagram.messages c.read_datagram.new.messages
-    c.loop-datagram-test.true c.loop-datagram.invariant c.in_ok-read_datagram.ensures.told
+    c.loop-datagram-test.true c.loop-datagram.invariant c.in_ok-read_datagram.ensures.emitted
 
 pub returns : goal.returns
 returns c =

@@ -8,18 +8,18 @@ use Rattle.dtls_stream.proofs.DatagramLemmas.{on_ok, other_step}
 use Rattle.dtls_stream.proofs.ReadingLemmas.{handshake_cut, other_cut}
 use Rattle.dtls_stream.proofs.records.read_record_events.Goals as goal
 
-pub returns-clause-told : goal.returns-clause-told
-returns-clause-told c l h st =
-    on_ok c.tell_content.result (c.tell_content.ensures.told h)
-    (λ told. other_step l h (view_raw_record c.args.raw) (view_events c.args.events.now.items)
-    (view_events c.tell_content.new.events.items) c.args.messages.now c.if-raw-gt0.false
-    c.if-raw.false told st)
+pub returns-clause-emitted : goal.returns-clause-emitted
+returns-clause-emitted c l h st =
+    on_ok c.emit_content.result (c.emit_content.ensures.emitted h)
+    (λ emitted. other_step l h (view_raw_record c.args.raw) (view_events c.args.events.now.items)
+    (view_events c.emit_content.new.events.items) c.args.messages.now c.if-raw-gt0.false
+    c.if-raw.false emitted st)
 
 pub returns-clause-stopped : goal.returns-clause-stopped
 returns-clause-stopped c l h st =
-    on_err c.tell_content.result (c.tell_content.ensures.stopped h)
+    on_err c.emit_content.result (c.emit_content.ensures.stopped h)
     (λ part. other_cut l h (view_raw_record c.args.raw) (view_events c.args.events.now.items)
-    (view_events c.tell_content.new.events.items) c.args.messages.now c.if-raw-gt0.false
+    (view_events c.emit_content.new.events.items) c.args.messages.now c.if-raw-gt0.false
     c.if-raw.false part st)
 
 pub returns-then-raw-clause-stopped : goal.returns-then-raw-clause-stopped

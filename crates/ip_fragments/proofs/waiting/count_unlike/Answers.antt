@@ -8,5 +8,5 @@ returns-clause-is c =
     let common = c.min-common.ensures in
     let rest = unlike_rest c.args.bytes.now c.args.others.now c.loop-i.i
     (subst (λ n. n ≤ c.loop-i.i) common (omega (arith, done))) in
-    let told = c.loop-i.invariant.1 in
-    omega (arith, rest, told)
+    let equal = c.loop-i.invariant.1 in
+    omega (arith, rest, equal)

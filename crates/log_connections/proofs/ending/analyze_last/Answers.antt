@@ -15,22 +15,22 @@ returns-in_err-analyze_stream-clause-cut g c =
       attachment = c.analyze_stream.new.self;
     }) c.in_err-analyze_stream.ensures.cut.0))
 
-pub returns-clause-heard : goal.returns-clause-heard
-returns-clause-heard g c =
+pub returns-clause-analysis : goal.returns-clause-analysis
+returns-clause-analysis g c =
     IfOk-weaker c.analyze_stream-2.result _ _
-    (λ _ heard. record {
+    (λ _ analysis. record {
       between = c.analyze_stream.new.self;
       last = c.analyze_stream-2.new.self;
-      originator = rw (← c.has_opening-is_opened.ensures) c.in_ok-analyze_stream.ensures.heard;
-      responder = rw (← c.has_opening-is_opened.ensures) heard;
+      originator = rw (← c.has_opening-is_opened.ensures) c.in_ok-analyze_stream.ensures.analysis;
+      responder = rw (← c.has_opening-is_opened.ensures) analysis;
       same = refl;
-    }) c.analyze_stream-2.ensures.heard
+    }) c.analyze_stream-2.ensures.analysis
 
 pub returns-clause-cut : goal.returns-clause-cut
 returns-clause-cut g c =
     both_err c.analyze_stream-2.result _ _ _
     (λ cut undone. at_responder c.analyze_stream.new.self c.analyze_stream-2.new.self
-    (rw (← c.has_opening-is_opened.ensures) c.in_ok-analyze_stream.ensures.heard) undone cut.1
+    (rw (← c.has_opening-is_opened.ensures) c.in_ok-analyze_stream.ensures.analysis) undone cut.1
     (ap (λ t. record c.args.connection.now {
       from_originator = c.analyze_stream.new.stream;
       from_responder = t;

@@ -6,5 +6,5 @@ pub returns : goal.returns
 returns g c =
     rw (← c.side_of-side.ensures, ← c.direction-direction.ensures)
     (IfOk-weaker c.analyze_datagram.result _ _
-    (λ _ heard. (c.prepare.new.self, c.in_ok-prepare.ensures.same, heard, refl))
+    (λ _ analysis. (c.prepare.new.self, c.in_ok-prepare.ensures.same, analysis, refl))
     c.analyze_datagram.ensures)

@@ -1,16 +1,16 @@
 use Rattle.std.proofs.Common.{◌∙◌, ap, rules}
-use Rattle.log_connections.specs.Found.{speaks, speaks_none, with_gap, with_outcome}
+use Rattle.log_connections.specs.Found.{counts_tls, counts_none, with_gap, with_outcome}
 use Rattle.log_connections.proofs.found.add_connection.Goals as goal
 
 pub returns-then-not-is_tls_or_dtls : goal.returns-then-not-is_tls_or_dtls
 returns-then-not-is_tls_or_dtls g c =
-    speaks_none
+    counts_none
     (rw c.if-not-is_tls_or_dtls.true at c.is_tls_or_dtls.ensures)
     (search (rules))
 
 pub returns : goal.returns
 returns g c =
-    speaks c.outcome.result c.has_gap.result
+    counts_tls c.outcome.result c.has_gap.result
     (rw c.if-not-is_tls_or_dtls.false at c.is_tls_or_dtls.ensures) c.outcome.ensures c.has_gap.ensures
     (c.add_gap.ensures
     ∙ ap (with_gap c.has_gap.result) (c.add_outcome.ensures

@@ -8,13 +8,13 @@ returns-then-has_data g c =
     let is : true ≡ has_data c.args.segment.now = sym c.if-has_data.true ∙ c.has_data.ensures in
     record {
       mid = c.analyze_next.new.stream;
-      between = c.analyze_next.new.heard;
-      hears = c.in_ok-analyze_next.ensures;
+      between = c.analyze_next.new.analysis;
+      receives = c.in_ok-analyze_next.ensures;
       passes = rw (← is) c.pass.ensures.passing;
       counts =
           rw (← is)
           (c.count_records.ensures
-          ∙ ap (λ b. counting c.args.side b c.analyze_next.new.heard) c.pass.ensures.bytes);
+          ∙ ap (λ b. counting c.args.side b c.analyze_next.new.analysis) c.pass.ensures.bytes);
     }
 
 pub returns-else-has_data : goal.returns-else-has_data
@@ -22,8 +22,8 @@ returns-else-has_data g c =
     let is : false ≡ has_data c.args.segment.now = sym c.if-has_data.false ∙ c.has_data.ensures in
     record {
       mid = c.analyze_next.new.stream;
-      between = c.analyze_next.new.heard;
-      hears = c.in_ok-analyze_next.ensures;
+      between = c.analyze_next.new.analysis;
+      receives = c.in_ok-analyze_next.ensures;
       passes = rw (← is) refl;
       counts = rw (← is) refl;
     }

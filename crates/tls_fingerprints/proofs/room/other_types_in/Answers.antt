@@ -35,8 +35,8 @@ loop-kind-preserved-then-is_grease c =
           ∙ c.loop-kind.invariant.kept;
     }
 
-pub loop-kind-preserved-then-is_told_before : goal.loop-kind-preserved-then-is_told_before
-loop-kind-preserved-then-is_told_before c =
+pub loop-kind-preserved-then-is_in_first_part : goal.loop-kind-preserved-then-is_in_first_part
+loop-kind-preserved-then-is_in_first_part c =
     let short : c.loop-kind.all < length c.loop-kind.room = search rules in
     let keeps = kept_keeps _ _ c.in-Some.kind.0 c.in-Some.ensures.steps
     (sym c.is_grease.ensures ∙ c.if-is_grease.false) in
@@ -50,7 +50,7 @@ loop-kind-preserved-then-is_told_before c =
           c.loop-kind.invariant.counted;
       kept = ap (λ ns. take c.loop-kind.others c.loop-kind.room ++ ns)
           (sym (others_skip _ _ c.in-Some.kind.0 keeps
-          (sym c.is_told_before.ensures ∙ c.if-is_told_before.true)))
+          (sym c.is_in_first_part.ensures ∙ c.if-is_in_first_part.true)))
           ∙ c.loop-kind.invariant.kept;
     }
 
@@ -71,6 +71,6 @@ loop-kind-preserved c =
           c.loop-kind.invariant.counted;
       kept = room_filled c.loop-kind.room c.loop-kind.others c.in-Some.kind.0 _ _ _ room
           (others_keep _ _ c.in-Some.kind.0 keeps
-          (sym c.is_told_before.ensures ∙ c.if-is_told_before.false))
+          (sym c.is_in_first_part.ensures ∙ c.if-is_in_first_part.false))
           c.loop-kind.invariant.kept;
     }

@@ -13,9 +13,9 @@ returns-clause-places c =
     let is = c.with_cookie.ensures in
     let s : HelloStandsWithin w c.in_ok-rest.hello p =
     c.client_hello_places_in-cookie_place.ensures.places c.in_ok-rest.ensures.lies in
-    let said = held (option_map (λ x. x.now) c.in_ok-rest.cookie) in
-    let cookie : Stands w c.unwrap_or.result said =
-    subst (λ q. Stands w q said) (sym c.unwrap_or.ensures)
+    let cookie_bytes = held (option_map (λ x. x.now) c.in_ok-rest.cookie) in
+    let cookie : Stands w c.unwrap_or.result cookie_bytes =
+    subst (λ q. Stands w q cookie_bytes) (sym c.unwrap_or.ensures)
     (held_there w c.client_hello_places_in-cookie_place.result.1
     (option_map (λ x. x.now) c.in_ok-rest.cookie)
     (c.client_hello_places_in-cookie_place.ensures.cookie c.in_ok-rest.ensures.lies)) in

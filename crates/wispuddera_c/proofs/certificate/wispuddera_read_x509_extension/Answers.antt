@@ -4,7 +4,7 @@ use Rattle.x509.specs.Certificate.{extension, view_extension}
 use Rattle.x509_places.specs.Walk.{ExtensionStands}
 use Rattle.wispuddera_c.specs.Certificate.{ShowsX509Extension}
 use Rattle.wispuddera_c.proofs.CertificateLemmas.{in_c_stands}
-use Rattle.wispuddera_c.proofs.StatusLemmas.{told}
+use Rattle.wispuddera_c.proofs.StatusLemmas.{shown_by}
 use Rattle.wispuddera_c.proofs.certificate.wispuddera_read_x509_extension.Goals as goal
 
 pub returns-in-Ok : goal.returns-in-Ok
@@ -15,7 +15,7 @@ returns-in-Ok c =
     let v = view_extension c.in-Ok.extension in
     let there : ExtensionStands b c.in-Ok.extension c.in-Ok.places =
     c.in-Ok.ensures.places c.in-Some.ensures.ends in
-    told extension (ShowsX509Extension b _) b i r v c.args.offset c.in-Some.ensures.is
+    shown_by extension (ShowsX509Extension b _) b i r v c.args.offset c.in-Some.ensures.is
     c.in-Some.ensures.inside
     c.in-Ok.ensures.gives.read (record {
       oid = in_c_stands b _ c.in_c-oid.result _ c.in_c-oid.ensures there.extn_id;

@@ -4,7 +4,7 @@ use Rattle.x509.specs.GeneralName.{general_name, view_general_name}
 use Rattle.wispuddera_c.specs.Certificate.{ShowsName}
 use Rattle.wispuddera_c.specs.Place.{StandsAt}
 use Rattle.wispuddera_c.proofs.CertificateLemmas.{in_c_stands, name_viewed}
-use Rattle.wispuddera_c.proofs.StatusLemmas.{told}
+use Rattle.wispuddera_c.proofs.StatusLemmas.{shown_by}
 use Rattle.wispuddera_c.proofs.certificate.wispuddera_read_x509_name.Goals as goal
 
 pub returns-in-Ok : goal.returns-in-Ok
@@ -13,7 +13,7 @@ returns-in-Ok c =
     let i = c.in-Some.i.now in
     let r = c.in-Ok.rest.now in
     let v = view_general_name c.in-Ok.name in
-    told general_name (ShowsName b _) b i r v c.args.offset c.in-Some.ensures.is
+    shown_by general_name (ShowsName b _) b i r v c.args.offset c.in-Some.ensures.is
     c.in-Some.ensures.inside
     c.in-Ok.ensures.gives.read (record {
       kind = search rules;

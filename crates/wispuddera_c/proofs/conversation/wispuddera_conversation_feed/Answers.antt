@@ -1,7 +1,7 @@
 use Rattle.std.proofs.Common.{length, subst}
-use Rattle.tls_stream.specs.Ears.{IsFed}
+use Rattle.tls_stream.specs.SideReaders.{IsFed}
 use Rattle.wispuddera_c.specs.Conversation.{known_of}
-use Rattle.wispuddera_c.specs.Side.{ear_of}
+use Rattle.wispuddera_c.specs.Side.{side_reader_of}
 use Rattle.wispuddera_c.proofs.ConversationLemmas.{all_else, fed_with, other_with, within_with}
 use Rattle.wispuddera_c.proofs.SideLemmas.{fed_is}
 use Rattle.wispuddera_c.proofs.conversation.wispuddera_conversation_feed.Goals as goal
@@ -14,8 +14,8 @@ returns-clause-fed c = λ read.
       fed = fed_with c.args.to_server c.args.buffer.now c.append.new.buffer c.append.new.self old
           c.put.new.self
           c.args.piece.now c.put.ensures
-          (subst (λ s. IsFed (ear_of k c.args.buffer.now s) c.args.piece.now
-          (ear_of k c.append.new.buffer c.append.new.self)) c.side-side.ensures
+          (subst (λ s. IsFed (side_reader_of k c.args.buffer.now s) c.args.piece.now
+          (side_reader_of k c.append.new.buffer c.append.new.self)) c.side-side.ensures
           (fed_is k c.args.buffer.now c.append.new.buffer c.side-side.result c.append.new.self
           c.args.piece.now
           c.if-side.false c.append.ensures.over (c.append.ensures.fed k)));

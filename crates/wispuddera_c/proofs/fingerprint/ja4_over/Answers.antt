@@ -10,17 +10,17 @@ use Rattle.wispuddera_c.proofs.fingerprint.ja4_over.Goals as goal
 
 pub returns-in-Ok : goal.returns-in-Ok
 returns-in-Ok c =
-    let told = c.tell_ja4.ensures
+    let shown_by = c.write_ja4.ensures
     (subst (λ (h : Client). IsTooLong 32767 h → ⊥) (sym c.client_parts.ensures)
     (never_too_long c.args.bytes.now (view_client_hello_in_place c.in-Ok.hello)
     c.in-Ok.field-0-0.now c.in-Ok.ensures.allowed)) in
     record {
       room = λ fits. subst
           (λ (a : Answer ClientHello). IsWritten (λ h. ja4_of c.args.transport (client_of h)) 36 a
-          c.args.text.now c.tell_ja4.new.text c.tell_ja4.result 0) (sym c.in-Ok.ensures.read) (
-            told.0,
+          c.args.text.now c.write_ja4.new.text c.write_ja4.result 0) (sym c.in-Ok.ensures.read) (
+            shown_by.0,
             refl,
-            told.1 ∙ ap (λ h. ja4_of c.args.transport h ++ drop 36 c.args.text.now)
+            shown_by.1 ∙ ap (λ h. ja4_of c.args.transport h ++ drop 36 c.args.text.now)
                 c.client_parts.ensures,
           );
       short = λ less. absurd (omega (arith, less));

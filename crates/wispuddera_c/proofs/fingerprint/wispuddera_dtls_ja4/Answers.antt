@@ -11,7 +11,7 @@ use Rattle.wispuddera_c.proofs.fingerprint.wispuddera_dtls_ja4.Goals as goal
 
 pub returns-in-Ok : goal.returns-in-Ok
 returns-in-Ok c =
-    let told = c.tell_ja4.ensures
+    let shown_by = c.write_ja4.ensures
     (subst (λ (h : Client). IsTooLong 32767 h → ⊥) (sym c.dtls_client_parts.ensures)
     (dtls_never_too_long c.args.bytes.now (view_client_hello_in_place c.in-Ok.hello)
     c.in-Ok.field-0-0.now c.in-Ok.ensures.allowed)) in
@@ -19,10 +19,10 @@ returns-in-Ok c =
       room = λ fits. subst
           (λ (a : Answer ClientHello). IsWritten
           (λ (h : ClientHello). ja4_of Udp (client_of h.hello)) 36 a
-          c.args.text.now c.tell_ja4.new.text c.tell_ja4.result 0) (sym c.in-Ok.ensures.read) (
-            told.0,
+          c.args.text.now c.write_ja4.new.text c.write_ja4.result 0) (sym c.in-Ok.ensures.read) (
+            shown_by.0,
             refl,
-            told.1
+            shown_by.1
                 ∙ ap (λ h. ja4_of Udp h ++ drop 36 c.args.text.now) c.dtls_client_parts.ensures,
           );
       short = λ less. absurd (omega (arith, less));

@@ -2,8 +2,8 @@ use Rattle.std.proofs.Common.{sym, ◌∙◌}
 use Rattle.wispuddera_c.proofs.FlowLemmas.{outcome_there}
 use Rattle.wispuddera_c.proofs.flow.wispuddera_flow_outcome.Goals as goal
 
-pub returns-in-Some-clause-told : goal.returns-in-Some-clause-told
-returns-in-Some-clause-told c = λ events behind. (
+pub returns-in-Some-clause-shown_by : goal.returns-in-Some-clause-shown_by
+returns-in-Some-clause-shown_by c = λ events behind. (
   c.outcome.result,
   c.number_of_outcome.ensures,
   outcome_there events c.args.flow.now c.in-Some.state c.outcome.result

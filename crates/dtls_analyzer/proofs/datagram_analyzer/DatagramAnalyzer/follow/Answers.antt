@@ -6,13 +6,13 @@ pub returns-in-ToServer : goal.returns-in-ToServer
 returns-in-ToServer g c k is =
     client_answers k c.args.self.now c.args.side c.analyze.new.account c.analyze.new.self
     (view_raw_record c.args.record)
-    c.analyze.result c.in-ToServer.is c.analyze.ensures.told c.analyze.ensures.same is
+    c.analyze.result c.in-ToServer.is c.analyze.ensures.emitted c.analyze.ensures.same is
 
 pub returns-in-FromServer : goal.returns-in-FromServer
 returns-in-FromServer g c k is =
     server_answers k c.args.self.now c.args.side c.analyze-in-FromServer.new.account
     c.analyze-in-FromServer.new.self
     (view_raw_record c.args.record)
-    c.analyze-in-FromServer.result c.in-FromServer.is c.analyze-in-FromServer.ensures.told
+    c.analyze-in-FromServer.result c.in-FromServer.is c.analyze-in-FromServer.ensures.emitted
     c.analyze-in-FromServer.ensures.same
     is

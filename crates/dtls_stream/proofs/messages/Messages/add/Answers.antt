@@ -1,6 +1,6 @@
 use Rattle.std.proofs.Common.{arith, ap}
 use Rattle.dtls_stream.specs.Fragments.{view_fragment}
-use Rattle.dtls_stream.proofs.HeardLemmas.{answered, taken_ok}
+use Rattle.dtls_stream.proofs.ReceivedLemmas.{answered, taken_ok}
 use Rattle.dtls_stream.proofs.messages.Messages.add.Goals as goal
 
 pub returns-clause-answer : goal.returns-clause-answer

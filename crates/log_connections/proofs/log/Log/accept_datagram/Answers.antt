@@ -1,6 +1,6 @@
 use Rattle.connections.specs.Datagram.{five_tuple_of_datagram}
 use Rattle.connections.specs.Table.{with_other}
-use Rattle.log_connections.proofs.LogLemmas.{datagram_heard, datagram_lent}
+use Rattle.log_connections.proofs.LogLemmas.{datagram_received, datagram_lent}
 use Rattle.log_connections.proofs.OtherLemmas.{keeps_other, keeps_put, keeps_same, keeps_then}
 use Rattle.log_connections.proofs.log.Log.accept_datagram.Goals as goal
 
@@ -21,7 +21,7 @@ returns-in_err-analyze_from-in-Some-clause-others g c =
 pub returns-in_ok-analyze_from-in-Some-clause-logged : goal.returns-in_ok-analyze_from-in-Some-clause-logged
 returns-in_ok-analyze_from-in-Some-clause-logged g c =
     rw c.between.ensures
-    (datagram_heard c.args.datagram.now c.args.self.now.connections c.accept_datagram.new.self
+    (datagram_received c.args.datagram.now c.args.self.now.connections c.accept_datagram.new.self
     c.in-Some.exchange.now
     c.analyze_from.new.exchange c.in_ok-accept_datagram.ensures.put c.accept_datagram.ensures.closed
     (rw c.between.ensures at c.in-Some.ensures.value) c.in_ok-analyze_from-in-Some.ensures)

@@ -9,11 +9,11 @@ use Rattle.log_connections.proofs.PacketLemmas.{given}
 use Rattle.log_connections.proofs.OtherLemmas.{keeps_then}
 use Rattle.log_connections.proofs.log.Log.accept_user_datagram.Goals as goal
 
-pub returns-in-Heard-clause-accepted : goal.returns-in-Heard-clause-accepted
-returns-in-Heard-clause-accepted g c = record {
-  way = delivery.Heard;
-  is = rw c.in-Heard.is at c.in_ok-analyze_exchange.ensures.delivered;
-  accepts = (rw c.in-Heard.is at c.in_ok-analyze_exchange.ensures.logged, refl);
+pub returns-in-Received-clause-accepted : goal.returns-in-Received-clause-accepted
+returns-in-Received-clause-accepted g c = record {
+  way = delivery.Received;
+  is = rw c.in-Received.is at c.in_ok-analyze_exchange.ensures.delivered;
+  accepts = (rw c.in-Received.is at c.in_ok-analyze_exchange.ensures.logged, refl);
 }
 
 pub returns-in-Damaged-clause-accepted : goal.returns-in-Damaged-clause-accepted
@@ -82,7 +82,7 @@ returns-in-BeginsAnother-clause-others g c =
 pub returns-in_err-analyze_exchange-clause-refused : goal.returns-in_err-analyze_exchange-clause-refused
 returns-in_err-analyze_exchange-clause-refused g c =
     given c.from_residual.result _ _ c.from_residual.ensures.1 (record {
-      way = delivery.Heard;
+      way = delivery.Received;
       is = c.in_err-analyze_exchange.ensures.refused;
       refuses = refl;
     })

@@ -1,13 +1,13 @@
 use Rattle.std.proofs.Common.{◌≡◌, ◌-◌, ◌+◌, refl, subst, arith, ◌∙◌}
 use Rattle.connections.specs.Segment.{five_tuple_of}
 use Rattle.connections.specs.declared.pending.TheConstants.{MAX_PENDING}
-use Rattle.log_connections.specs.Log.{HearsAcknowledged, HearsOne, enough, no_more, one_then}
+use Rattle.log_connections.specs.Log.{AnalyzesAcknowledged, AnalyzesOne, enough, no_more, one_then}
 use Rattle.log_connections.proofs.OtherLemmas.{keeps_same, keeps_then}
 use Rattle.log_connections.proofs.log.Log.analyze_acknowledged.Goals as goal
 
 pub waiting-init : goal.waiting-init
 waiting-init g c = record {
-  heard = λ final h. h;
+  analysis = λ final h. h;
   others = keeps_same (five_tuple_of c.args.segment.now) c.args.self.now.connections.live
       c.args.self.now.connections.live refl;
   memory = refl;
@@ -17,12 +17,12 @@ waiting-init g c = record {
 pub waiting-preserved : goal.waiting-preserved
 waiting-preserved g c =
     let one = subst
-    (HearsOne c.args.segment.now c.waiting.self.connections
+    (AnalyzesOne c.args.segment.now c.waiting.self.connections
     c.analyze_one_acknowledged.new.self.connections) c.if-not-branch.false
-    c.in_ok-analyze_one_acknowledged.ensures.heard in
+    c.in_ok-analyze_one_acknowledged.ensures.analysis in
     let less : MAX_PENDING - c.waiting.count ≡ (MAX_PENDING - (c.waiting.count + 1)) + 1 =
     omega arith in record {
-      heard = λ final h. c.waiting.invariant.heard final
+      analysis = λ final h. c.waiting.invariant.analysis final
           (one_then (MAX_PENDING - c.waiting.count) (MAX_PENDING - (c.waiting.count + 1))
           c.waiting.self.connections c.analyze_one_acknowledged.new.self.connections final less one h);
       others = keeps_then (five_tuple_of c.args.segment.now) c.args.self.now.connections.live
@@ -38,15 +38,15 @@ returns-in_err-analyze_one_acknowledged-clause-others g c =
     c.waiting.self.connections.live c.analyze_one_acknowledged.new.self.connections.live
     c.waiting.invariant.others c.analyze_one_acknowledged.ensures.others
 
-pub returns-then-not-branch-clause-heard : goal.returns-then-not-branch-clause-heard
-returns-then-not-branch-clause-heard g c =
-    c.waiting.invariant.heard c.analyze_one_acknowledged.new.self.connections
+pub returns-then-not-branch-clause-analysis : goal.returns-then-not-branch-clause-analysis
+returns-then-not-branch-clause-analysis g c =
+    c.waiting.invariant.analysis c.analyze_one_acknowledged.new.self.connections
     (no_more (MAX_PENDING - c.waiting.count) c.waiting.self.connections
     c.analyze_one_acknowledged.new.self.connections
     (subst
-    (HearsOne c.args.segment.now c.waiting.self.connections
+    (AnalyzesOne c.args.segment.now c.waiting.self.connections
     c.analyze_one_acknowledged.new.self.connections) c.if-not-branch.true
-    c.in_ok-analyze_one_acknowledged.ensures.heard))
+    c.in_ok-analyze_one_acknowledged.ensures.analysis))
 
 pub returns-then-not-branch-clause-others : goal.returns-then-not-branch-clause-others
 returns-then-not-branch-clause-others g c =
@@ -54,10 +54,10 @@ returns-then-not-branch-clause-others g c =
     c.waiting.self.connections.live c.analyze_one_acknowledged.new.self.connections.live
     c.waiting.invariant.others c.analyze_one_acknowledged.ensures.others
 
-pub returns-clause-heard : goal.returns-clause-heard
-returns-clause-heard g c =
+pub returns-clause-analysis : goal.returns-clause-analysis
+returns-clause-analysis g c =
     let none : 0 ≡ MAX_PENDING - c.waiting.count = omega arith in
-    c.waiting.invariant.heard c.waiting.self.connections
+    c.waiting.invariant.analysis c.waiting.self.connections
     (subst
-    (λ n. HearsAcknowledged c.args.segment.now n c.waiting.self.connections
+    (λ n. AnalyzesAcknowledged c.args.segment.now n c.waiting.self.connections
     c.waiting.self.connections) none (enough c.waiting.self.connections))

@@ -1,14 +1,14 @@
 use Rattle.std.specs.Prelude.{◌≡◌, ◌-◌}
 use Rattle.connections.specs.Segment.{five_tuple_of}
 use Rattle.connections.specs.declared.pending.TheConstants.{MAX_PENDING}
-use Rattle.log_connections.specs.Log.{HearsAcknowledged, HearsAllAcknowledged, KeepsOthers, uncounted}
+use Rattle.log_connections.specs.Log.{AnalyzesAcknowledged, AnalyzesAllAcknowledged, KeepsOthers, uncounted}
 use Rattle.log_connections.proofs.log.Log.analyze_acknowledged.Given as goal
 
--- What is heard from here on, behind what was heard so far, is all.
+-- What is analyzed from here on, behind what was analyzed so far, is all.
 abbrev pub invariant-waiting : goal.invariant-waiting
 invariant-waiting g l = record {
-  heard : (final : _) → HearsAcknowledged l.segment (MAX_PENDING - l.count) l.self.connections final
-      → HearsAllAcknowledged l.segment l.initial.self.connections final;
+  analysis : (final : _) → AnalyzesAcknowledged l.segment (MAX_PENDING - l.count) l.self.connections final
+      → AnalyzesAllAcknowledged l.segment l.initial.self.connections final;
   others : KeepsOthers (five_tuple_of l.segment) l.initial.self.connections.live
       l.self.connections.live;
   memory : l.self.memory ≡ l.initial.self.memory;

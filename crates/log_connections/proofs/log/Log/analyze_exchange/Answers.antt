@@ -1,7 +1,7 @@
 use Rattle.std.proofs.Common.{refl, sym, ◌∙◌}
 use Rattle.connections.specs.Datagram.{five_tuple_of_datagram}
 use Rattle.connections.proofs.TableLemmas.{on_err}
-use Rattle.log_connections.proofs.LogLemmas.{another_begun, exchange_heard, lent_unchanged, none_damaged, some_damaged}
+use Rattle.log_connections.proofs.LogLemmas.{another_begun, exchange_received, lent_unchanged, none_damaged, some_damaged}
 use Rattle.log_connections.proofs.OtherLemmas.{keeps_other, keeps_promoted}
 use Rattle.log_connections.proofs.log.Log.analyze_exchange.Goals as goal
 
@@ -53,7 +53,7 @@ returns-in_err-analyze_from-clause-others g c =
 pub returns-clause-logged : goal.returns-clause-logged
 returns-clause-logged g c =
     rw (c.promote.ensures.promoted, c.between-five_tuple.ensures)
-    (exchange_heard c.args.datagram.now c.args.self.now.connections c.in-Some.exchange.now
+    (exchange_received c.args.datagram.now c.args.self.now.connections c.in-Some.exchange.now
     c.take_datagram.new.self
     c.analyze_from.new.exchange (rw c.between-five_tuple.ensures at c.in-Some.ensures.value)
     c.take_datagram.ensures.taken

@@ -1,7 +1,7 @@
 use Rattle.std.proofs.Common.{◌∙◌}
 use Rattle.connections.specs.Segment.{five_tuple_of}
 use Rattle.connections.specs.Table.{with_other}
-use Rattle.log_connections.proofs.LogLemmas.{segment_closes, segment_heard, segment_lent}
+use Rattle.log_connections.proofs.LogLemmas.{segment_closes, segment_received, segment_lent}
 use Rattle.log_connections.proofs.OtherLemmas.{keeps_by_others, keeps_other, keeps_then}
 use Rattle.log_connections.proofs.log.Log.analyze_first.Goals as goal
 
@@ -27,7 +27,7 @@ returns-in_err-analyze-in-Some-clause-others g c =
 pub returns-in_ok-analyze-in-Some-clause-logged : goal.returns-in_ok-analyze-in-Some-clause-logged
 returns-in_ok-analyze-in-Some-clause-logged g c =
     rw c.between.ensures
-    (segment_heard c.in_ok-accept.field-0 c.args.segment.now c.args.self.now.connections
+    (segment_received c.in_ok-accept.field-0 c.args.segment.now c.args.self.now.connections
     c.accept.new.self
     c.in-Some.connection.now c.analyze.new.connection c.if-not-branch.false
     c.in_ok-accept.ensures.put

@@ -2,7 +2,7 @@ use Rattle.std.proofs.Common.{ap, ◌∙◌, sym, subst, Some}
 use Rattle.connections.specs.Connection.{without_pending}
 use Rattle.connections.specs.Segment.{five_tuple_of}
 use Rattle.connections.specs.Table.{at}
-use Rattle.log_connections.specs.Log.{HearsPending, KeepsOthers, had, none, taken}
+use Rattle.log_connections.specs.Log.{AnalyzesPending, KeepsOthers, had, none, taken}
 use Rattle.log_connections.proofs.OtherLemmas.{keeps_changed, keeps_then}
 use Rattle.log_connections.proofs.log.Log.analyze_one_acknowledged.Goals as goal
 
@@ -16,16 +16,16 @@ returns-in_err-analyze_pending-in-Some-Taken-clause-others g c =
     (keeps_changed e (without_pending s) (at e old.live) old))
     (rw c.between.ensures at c.analyze_pending.ensures.others)
 
-pub returns-in_ok-analyze_pending-in-Some-Taken-clause-heard :
-    goal.returns-in_ok-analyze_pending-in-Some-Taken-clause-heard
-returns-in_ok-analyze_pending-in-Some-Taken-clause-heard g c =
+pub returns-in_ok-analyze_pending-in-Some-Taken-clause-analysis :
+    goal.returns-in_ok-analyze_pending-in-Some-Taken-clause-analysis
+returns-in_ok-analyze_pending-in-Some-Taken-clause-analysis g c =
     let s = c.args.segment.now in
     taken c.in-Some-Taken.kept
     (sym c.take_pending.ensures.outcome ∙ c.in-Some-Taken.is ∙ ap Some c.in-Some-Taken.field-0-is)
     (subst
-    (λ t. HearsPending (five_tuple_of s) c.in-Some-Taken.kept t
+    (λ t. AnalyzesPending (five_tuple_of s) c.in-Some-Taken.kept t
     c.analyze_pending.new.self.connections) c.take_pending.ensures.left
-    (rw c.between.ensures at c.in_ok-analyze_pending-in-Some-Taken.ensures.heard))
+    (rw c.between.ensures at c.in_ok-analyze_pending-in-Some-Taken.ensures.analysis))
 
 pub returns-in_ok-analyze_pending-in-Some-Taken-clause-others :
     goal.returns-in_ok-analyze_pending-in-Some-Taken-clause-others
@@ -37,8 +37,8 @@ returns-in_ok-analyze_pending-in-Some-Taken-clause-others g c =
     (keeps_changed e (without_pending s) (at e old.live) old))
     (rw c.between.ensures at c.analyze_pending.ensures.others)
 
-pub returns-in-Some-Had-clause-heard : goal.returns-in-Some-Had-clause-heard
-returns-in-Some-Had-clause-heard g c =
+pub returns-in-Some-Had-clause-analysis : goal.returns-in-Some-Had-clause-analysis
+returns-in-Some-Had-clause-analysis g c =
     had
     (sym c.take_pending.ensures.outcome ∙ c.in-Some-Had.is ∙ ap Some c.in-Some-Had.field-0-is)
     c.take_pending.ensures.left
@@ -50,8 +50,8 @@ returns-in-Some-Had-clause-others g c =
     subst (λ t. KeepsOthers e old.live t.live) (sym c.take_pending.ensures.left)
     (keeps_changed e (without_pending s) (at e old.live) old)
 
-pub returns-in-None-clause-heard : goal.returns-in-None-clause-heard
-returns-in-None-clause-heard g c =
+pub returns-in-None-clause-analysis : goal.returns-in-None-clause-analysis
+returns-in-None-clause-analysis g c =
     none (sym c.take_pending.ensures.outcome ∙ c.in-None.is) c.take_pending.ensures.left
 
 pub returns-in-None-clause-others : goal.returns-in-None-clause-others

@@ -2,7 +2,7 @@ use Rattle.std.proofs.Common.{sym, ◌∙◌}
 use Rattle.connections.proofs.TableLemmas.{written_promoted}
 use Rattle.connections.specs.Segment.{five_tuple_of}
 use Rattle.connections.specs.Table.{others, promoting, with_other}
-use Rattle.log_connections.proofs.LogLemmas.{closes, heard_in_place, lent_unchanged, let_in_judged, none_judged, told_judged}
+use Rattle.log_connections.proofs.LogLemmas.{closes, received_in_place, lent_unchanged, let_in_judged, none_judged, acknowledging_judged}
 use Rattle.log_connections.proofs.OtherLemmas.{keeps_other, keeps_promoted}
 use Rattle.log_connections.proofs.log.Log.analyze_open.Goals as goal
 
@@ -25,7 +25,7 @@ returns-in-Some-2-clause-logged g c =
 
 pub returns-in-Some-2-clause-judged : goal.returns-in-Some-2-clause-judged
 returns-in-Some-2-clause-judged g c =
-    told_judged c.args.segment.now c.args.self.now.connections c.in-Some.connection.now
+    acknowledging_judged c.args.segment.now c.args.self.now.connections c.in-Some.connection.now
     c.in-Some-2.verdict (rw c.between-five_tuple.ensures at c.in-Some.ensures.value)
     (rw c.in-Some-2.is at c.in_ok-verdict.ensures.judged)
     (rw c.in-Some-2.is at c.in_ok-verdict.ensures.let_in)
@@ -45,7 +45,7 @@ returns-in_err-analyze-clause-others g c =
 pub returns-clause-logged : goal.returns-clause-logged
 returns-clause-logged g c =
     rw (c.promote.ensures.promoted, c.between-five_tuple.ensures)
-    (heard_in_place c.args.segment.now c.args.self.now.connections c.in-Some.connection.now
+    (received_in_place c.args.segment.now c.args.self.now.connections c.in-Some.connection.now
     c.accept_or_judge.new.self
     c.analyze.new.connection (rw c.between-five_tuple.ensures at c.in-Some.ensures.value)
     (rw c.in_default-2.is at c.in_ok-verdict.ensures.taken).1 c.in_ok-analyze.ensures)

@@ -3,7 +3,7 @@ use Rattle.connections.proofs.TableLemmas.{stands_first}
 use Rattle.connections.specs.Lends.{with_first}
 use Rattle.connections.specs.Segment.{five_tuple_of}
 use Rattle.connections.specs.Table.{others}
-use Rattle.log_connections.proofs.LogLemmas.{closes, heard_by_open, is_belonging}
+use Rattle.log_connections.proofs.LogLemmas.{closes, received_by_open, is_belonging}
 use Rattle.log_connections.proofs.OtherLemmas.{keeps_first}
 use Rattle.log_connections.proofs.log.Log.analyze_segment.Goals as goal
 
@@ -24,7 +24,7 @@ returns-in_err-analyze-clause-others g c =
 pub returns-in-Some-clause-logged : goal.returns-in-Some-clause-logged
 returns-in-Some-clause-logged g c =
     rw c.between.ensures
-    (heard_by_open c.args.segment.now c.args.self.now.connections c.in-Some.connection.now
+    (received_by_open c.args.segment.now c.args.self.now.connections c.in-Some.connection.now
     c.accept.new.self
     c.analyze.new.connection (rw c.between.ensures at c.in-Some.ensures.value)
     c.in_ok-accept.ensures.taken c.in_ok-analyze.ensures)

@@ -5,11 +5,11 @@ use Rattle.log_connections.proofs.log.Log.take_behind.Goals as goal
 
 pub returns-clause-taken : goal.returns-clause-taken
 returns-clause-taken g c =
-    rw c.if-not-tells.false
+    rw c.if-not-acknowledges.false
     (IfOk-weaker c.take_segment-2.result _ _
     (λ over takes. (
       c.analyze_acknowledged.new.self.connections,
-      c.in_ok-analyze_acknowledged.ensures.heard,
+      c.in_ok-analyze_acknowledged.ensures.analysis,
       takes,
     )) c.take_segment-2.ensures.taken)
 

@@ -7,9 +7,9 @@ use Rattle.log_connections.proofs.log.Log.take_segment.Goals as goal
 pub returns-clause-taken : goal.returns-clause-taken
 returns-clause-taken g c =
     IfOk-weaker c.end_analyzed.result _ _
-    (λ over ends. takes_in c.in_ok-heard.heard c.args.segment.now c.args.self.now.connections
+    (λ over ends. takes_in c.in_ok-analysis.analysis c.args.segment.now c.args.self.now.connections
     c.analyze_segment.new.self.connections c.end_analyzed.new.self.connections _
-    c.in_ok-heard.ensures.belongs c.in_ok-heard.ensures.logged c.in_ok-heard.ensures.closed ends)
+    c.in_ok-analysis.ensures.belongs c.in_ok-analysis.ensures.logged c.in_ok-analysis.ensures.closed ends)
     c.end_analyzed.ensures.ended
 
 pub returns-clause-others : goal.returns-clause-others

@@ -2,7 +2,7 @@ use Rattle.std.proofs.Common.{◌≡◌, ◌++◌, map}
 use Rattle.std.specs.Option.{option_map}
 use Rattle.layouts.specs.Items.{items_in}
 use Rattle.layouts.specs.Layout.{counted}
-use Rattle.tls_flow.specs.Bytes.{view_heard}
+use Rattle.tls_flow.specs.Bytes.{view_handshake_message}
 use Rattle.log_messages.specs.Certificates.{certificates_of, sent_from, sent_in, view_sent}
 use Rattle.log_messages.proofs.certificate_collector.CertificateCollector.add_message.Given as goal
 
@@ -14,4 +14,4 @@ invariant-loop-certificate l =
     × (map view_sent l.self.kept.items
     ++ sent_from l.direction l.place (items_in (counted 3) l.certificate-iterator.bytes.now)
     ≡ map view_sent l.initial.self.kept.items
-    ++ sent_in l.direction (certificates_of (option_map (λ m. view_heard m.now) l.fn.message)))
+    ++ sent_in l.direction (certificates_of (option_map (λ m. view_handshake_message m.now) l.fn.message)))

@@ -1,7 +1,7 @@
 use Rattle.std.proofs.Common.{rules, ◌≡◌, ◌-◌, OnOk, drop, length, true, false, subst, sym}
 use Rattle.layouts.specs.Bytes.{Bytes}
 use Rattle.tls_detection.specs.Front.{begins_tls}
-use Rattle.tls_analyzer.specs.Analyzers.{IsFirstHeard, IsNext, front, waiting}
+use Rattle.tls_analyzer.specs.Analyzers.{IsFirstRead, IsNext, front, waiting}
 use Rattle.tls_analyzer.proofs.FirstLemmas.{first_other, first_tls, front_is}
 use Rattle.tls_analyzer.proofs.analyzer.Analyzer.analyze_first.Goals as goal
 
@@ -53,7 +53,7 @@ returns g c =
     c.args.bytes.now c.as_slice-2.result.now c.saturating_sub-missing.result (search rules)
     (search rules) (search
     rules) count in
-    subst (λ u. IsFirstHeard c.args.self.now c.args.side w c.args.bytes.now u)
+    subst (λ u. IsFirstRead c.args.self.now c.args.side w c.args.bytes.now u)
     (sym c.set_side_state-2.ensures)
     (first_other c.args.self.now c.take_waiting-first.new.self c.follow-2.new.self c.args.side
     c.args.bytes.now (search

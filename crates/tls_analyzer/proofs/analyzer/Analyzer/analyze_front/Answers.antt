@@ -1,5 +1,5 @@
 use Rattle.std.proofs.Common.{rules, OnOk, subst, sym}
-use Rattle.tls_analyzer.specs.Analyzers.{IsFirstHeard, IsNext, waiting}
+use Rattle.tls_analyzer.specs.Analyzers.{IsFirstRead, IsNext, waiting}
 use Rattle.tls_analyzer.proofs.FirstLemmas.{other_at_once, tls_at_once}
 use Rattle.tls_analyzer.proofs.analyzer.Analyzer.analyze_front.Goals as goal
 
@@ -13,7 +13,7 @@ returns-then-begins_tls g c =
 pub returns : goal.returns
 returns g c =
     subst
-    (λ u. IsFirstHeard c.args.self.now c.args.side (waiting c.args.self.now c.args.side).items
+    (λ u. IsFirstRead c.args.self.now c.args.side (waiting c.args.self.now c.args.side).items
     c.args.bytes.now u)
     (sym c.set_side_state-2.ensures)
     (other_at_once c.args.self.now c.follow-2.new.self c.args.side c.args.bytes.now

@@ -1,6 +1,6 @@
 use Rattle.std.proofs.Common.{rules, subst, sym}
-use Rattle.tls_stream.specs.Readers.{ear}
-use Rattle.tls_stream.specs.Ears.{front_of}
+use Rattle.tls_stream.specs.Readers.{reader_of}
+use Rattle.tls_stream.specs.SideReaders.{front_of}
 use Rattle.tls_analyzer.specs.Analyzers.{IsNext, IsTaken}
 use Rattle.tls_analyzer.proofs.FollowLemmas.{next_clear, on_end, on_next, on_none, on_over}
 use Rattle.tls_analyzer.proofs.analyzer.Analyzer.follow.Goals as goal
@@ -14,7 +14,7 @@ loop-preserved g c =
     on_next c.args.self.now c.loop.self c.take_next.new.self c.args.side c.args.piece.now
     c.loop.counter
     c.loop.invariant (search rules)
-    (subst (λ b. IsTaken (front_of (ear c.loop.self.conversation_state.reader c.args.side))
+    (subst (λ b. IsTaken (front_of (reader_of c.loop.self.conversation_state.reader c.args.side))
     c.loop.self
     c.args.side b
     c.take_next.new.self)
@@ -45,7 +45,7 @@ returns-then-is_over-2 g c =
           c.loop.counter
           c.loop.invariant (search rules)
           (subst (λ b. IsTaken
-          (front_of (ear c.loop.self.conversation_state.reader c.args.side))
+          (front_of (reader_of c.loop.self.conversation_state.reader c.args.side))
           c.loop.self c.args.side b
           w.take_next.new.self)
           (search rules) w.in_ok-take_next.ensures.taken)))

@@ -1,5 +1,5 @@
 use Rattle.std.proofs.Common.{◌∙◌, ap, refl, subst}
-use Rattle.tls_stream.specs.Stream.{SaysTheSame, events, fed, joined_to}
+use Rattle.tls_stream.specs.Stream.{ReadsTheSame, events, fed, joined_to}
 use Rattle.tls_stream.specs.declared.stream.Stream.{Stream}
 use Rattle.tls_stream.proofs.stream.Stream.ready.Goals as goal
 
@@ -16,6 +16,6 @@ fragments-preserved c = λ s.
       kind = c.in-Joins.kind;
       held = h;
     }) s)) c.join.ensures
-    ∙ subst (λ (v : Stream). SaysTheSame (joined_to v c.in-Joins.kind c.in-Joins.len) v)
+    ∙ subst (λ (v : Stream). ReadsTheSame (joined_to v c.in-Joins.kind c.in-Joins.len) v)
     c.view.ensures c.in-Joins.ensures.1 s
     ∙ c.fragments.invariant s

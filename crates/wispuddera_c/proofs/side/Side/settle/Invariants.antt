@@ -1,12 +1,12 @@
--- what is said is what was said at the beginning, whatever follows
+-- the events are those at the beginning, whatever follows
 use Rattle.std.proofs.Common.{◌≡◌, length}
-use Rattle.tls_stream.specs.Stream.{SaysTheSame}
+use Rattle.tls_stream.specs.Stream.{ReadsTheSame}
 use Rattle.wispuddera_c.specs.Side.{IsWithin, held_in, stream_of}
 use Rattle.wispuddera_c.proofs.side.Side.settle.Given as goal
 
 abbrev pub invariant-fragments : goal.invariant-fragments
 invariant-fragments l = record {
-  same : SaysTheSame (stream_of l.known l.buffer l.self) (stream_of l.known l.fn.buffer l.fn.self);
+  same : ReadsTheSame (stream_of l.known l.buffer l.self) (stream_of l.known l.fn.buffer l.fn.self);
   within : IsWithin (length l.buffer) l.self;
   over : l.self.is_over ≡ l.fn.self.is_over;
 }

@@ -22,5 +22,5 @@ returns-in-Some-clause-some c =
           (sym (c.take_off-content.ensures.taken c.args.known)),
       c.event_at.ensures c.args.buffer.now (bytes_of (view_source c.in-Some.source))
           c.take_off-content.ensures.stands
-          (source_is d (view_event c.in-Some.event) (view_source c.in-Some.source) here).said,
+          (source_is d (view_event c.in-Some.event) (view_source c.in-Some.source) here).content,
     )
