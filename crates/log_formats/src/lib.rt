@@ -5,8 +5,7 @@
 //! formatted when it is written. [`Object`](objects::Object) builds a JSON object field by field,
 //! and [`TextCache`](text_cache::TextCache) caches fields that were written before.
 //!
-//! What it writes is only tested. Clauses cover how cipher suites without a name are written, and
-//! that a cached text is that of the same field and numbers, or certificate (`specs/Cached.antt`).
+//! What it writes is only tested: clauses cover how cipher suites without a name are written.
 #![tactic(auto)]
 
 pub mod cell;
