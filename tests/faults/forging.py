@@ -27,6 +27,8 @@ QUARTER = 2**30
 NEAR = 65536
 # A connection ends after this many seconds without packets.
 IDLE = 299 * 1_000_000
+# The kind and the length of the option of RFC 2385.
+SIGNATURE, SIGNATURE_LENGTH = 19, 18
 # The default maximum segment size, if an end sends no MSS option (RFC 9293, section 3.7.1).
 DEFAULT_SIZE = 536
 RIGHT, PARTIAL, WRONG, NONE = "right", "partial", "wrong", "none"
@@ -87,7 +89,8 @@ class Packet:
             length = 1 if rest[0] == 1 else rest[1] if len(rest) > 1 else 0
             if not 0 < length <= len(rest) or (length == 1 and rest[0] != 1):
                 break
-            found[rest[0]] = int.from_bytes(rest[2:6] if rest[0] == 8 else rest[2:length], "big")
+            if rest[0] != SIGNATURE or length == SIGNATURE_LENGTH:
+                found[rest[0]] = int.from_bytes(rest[2:6] if rest[0] == 8 else rest[2:length], "big")
             rest = rest[length:]
         return found
 
@@ -141,7 +144,7 @@ class End:
     recent: int = None  # The last timestamp as the other end has it (TS.Recent of RFC 7323).
     fin: int = None
     size: int = DEFAULT_SIZE
-    is_signed: bool = False  # Its SYN is (RFC 2385; RFC 5925).
+    is_signed: bool = False  # Its SYN is (RFC 2385).
     sums: str = None  # What its first checksum is.
     has_right_sums: bool = True  # All are.
     has_right_headers: bool = True
@@ -176,9 +179,7 @@ def sent(end: End, other: End, packet: Packet) -> End:
     behind = (packet.behind + bool(flags & FIN)) % ALL
     if flags & SYN:
         found = replace(found, first=packet.first, scale=options.get(3), has_clock=8 in options)
-        found = replace(
-            found, size=options.get(2, DEFAULT_SIZE), is_signed=19 in options or 29 in options
-        )
+        found = replace(found, size=options.get(2, DEFAULT_SIZE), is_signed=SIGNATURE in options)
     shift = 0 if flags & SYN or end.scale is None or other.scale is None else end.scale
     clock = options.get(8, end.clock)
     is_noted = other.acknowledged is None or ahead(packet.first, other.acknowledged) <= 0

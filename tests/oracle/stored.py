@@ -6,8 +6,8 @@ tests/oracle/write stored FIELD..
 The stored lines are those that the gate compares with tlslog's: crates/tlslog/stdout,
 captures/dtls/lines, and wanted.json of captures/certificates and captures/tunnels. Without FIELD
 all fields that tshark has are compared, except `gap`. `write` sets these fields in each line, at
-their places: so a new field comes into all lines. tshark can't read one of the certificates, so the
-chain of that line stays as it is.
+their places: so a new field comes into all lines. Two captures have a certificate that tshark or openssl
+can't read, so the chains of their lines stay as they are.
 """
 
 from __future__ import annotations
@@ -29,8 +29,8 @@ LINES = {
 }
 CERTIFICATES, TUNNELS = TOP / "captures/certificates", TOP / "captures/tunnels"
 NAMES = log_columns.names()
-# tshark doesn't know the second certificate for one.
-BROKEN = "broken.pcap"
+# A certificate of each of these can't be read by tshark or openssl.
+UNREAD = ("broken.pcap", "unread.pcap")
 OF_CHAIN = NAMES[NAMES.index("cert_count") : NAMES.index("ja3")]
 
 
@@ -73,7 +73,7 @@ def of_certificates(judge: Judge, file: Path) -> str:
     found = json.loads(file.read_text())
     for name, lines in found.items():
         right = {key(line): line for line in wanted.lines(file.parent / name)}
-        left_out = OF_CHAIN if name == BROKEN else ()
+        left_out = OF_CHAIN if name in UNREAD else ()
         lines["connections"] = [
             judge.line(name, line, right[key(line)], left_out) for line in lines["connections"]
         ]

@@ -58,11 +58,15 @@ LETTERS = {
     "Heartbeat Response": "b",
 }
 # Fields that are also logged if they are 0.
-ALWAYS = ["comp_method", "cert_count", "client_cert_count", *wanted_certificates.ALWAYS]
+ALWAYS = [
+    "comp_method", "cert_count", "client_cert_count", "ticket_lifetime_hint",
+    *wanted_certificates.ALWAYS,
+]
 # Fields that tshark doesn't have.
 UNTOLD = """
     orig_dropped_pkts resp_dropped_pkts orig_dropped_for resp_dropped_for orig_preamble_bytes
-    resp_preamble_bytes tunnels tunnel_ids ssl2_hello ended_early
+    resp_preamble_bytes tunnels tunnel_ids ssl2_hello ended_early ech_config_id ech_kdf ech_aead
+    ech_repeated cert_unread_fields
 """.split()
 ORDER = [name for name in log_columns.names() if name not in UNTOLD]
 TIMES = ("ts", "duration")
@@ -221,6 +225,7 @@ class Analyzer:
         self.closed, self.changed, self.has_done, self.is_13 = set(), [], False, False
         self.stop, self.history, self.sent = None, "", {True: Sent(), False: Sent()}
         self.own = {True: None, False: None}
+        self.finished_len, self.has_finished = None, False
 
     def source(self, row: Row) -> tuple[str | None, int]:
         return first(row, "ip.src", "ipv6.src"), int(first(row, f"{self.layer}.srcport"))
@@ -246,6 +251,7 @@ class Analyzer:
         if side not in self.changed or self.is_13:
             self.said |= wanted_hellos.of_messages(row, side)
             self.note_own(row, side)
+        self.note_finished(row, side)
         self.has_done |= SERVER_DONE in types
         self.messages += len(types)
         for kind in row["record.content_type"]:
@@ -301,6 +307,13 @@ class Analyzer:
         if kind == CHANGE:
             self.changed.append(side)
 
+    def note_finished(self, row: Row, side: bool) -> None:
+        """Whether the client of TLS 1.3 sends a record behind its hello that can hold its Finished
+        (RFC 8446, sections 4.4.4 and 5.2), which a ChangeCipherSpec and an alert can't."""
+        if side and self.finished_len and not row["handshake.type"]:
+            lengths = map(int, row["record.length"])
+            self.has_finished |= any(length >= self.finished_len for length in lengths)
+
     def note_server(self, row: Row) -> None:
         if first(row, "handshake.random").replace(":", "") == RETRY:
             self.said["retried"] = True
@@ -320,6 +333,9 @@ class Analyzer:
         is_13 = version in (0x304, 0xFEFC) or version >> 8 == 0x7F
         self.said["resumed"] = is_13 and PRE_SHARED_KEY in row["handshake.extension.type"]
         self.is_13 |= is_13
+        suite = int(first(row, "handshake.ciphersuite"), 16)
+        hash_len, tag_len = 48 if suite == 0x1302 else 32, 8 if suite == 0x1305 else 16
+        self.finished_len = 4 + hash_len + 1 + tag_len
 
     def note_alerts(self, row: Row, side: bool) -> None:
         # Where the bytes of an encrypted one happen to be a level and a name, tshark takes them for
@@ -328,7 +344,7 @@ class Analyzer:
             return
         for level, name in zip(row["alert_message.level"], row["alert_message.desc"]):
             self.said["last_alert"] = ALERTS[int(name)]
-            if level == "2" and not self.stop and not self.is_established():
+            if level == "2" and not self.stop and not self.is_complete():
                 self.stop = {
                     "message": "alert",
                     "sender": "client" if side else "server",
@@ -336,19 +352,19 @@ class Analyzer:
                 }
             self.messages += 1
 
-    def is_established(self) -> bool:
+    def is_complete(self) -> bool:
         """A ServerHello of TLS 1.3, or a ChangeCipherSpec of each side (RFC 5246, section 7.3)."""
         return self.is_13 or {*self.changed} == {True, False}
 
     def line(self) -> Line:
-        is_short = self.is_established() and not self.is_13 and not self.has_done
+        is_short = self.is_complete() and not self.is_13 and not self.has_done
         outcome = (
             "tls13"
             if self.is_13
             else "resumed"
             if is_short
             else "full"
-            if self.is_established()
+            if self.is_complete()
             else "broken_off"
             if self.stop
             else "waiting"
@@ -364,10 +380,10 @@ class Analyzer:
             "id.resp_p": self.ends[1][1],
             **self.said,
             **wanted_certificates.of_talk(
-                self.said.get("server_name"), self.own[False], self.own[True]
+                self.said.get("server_name"), self.own[False], self.own[True], self.begun
             ),
             "resumed": is_short or (self.is_13 and self.said["resumed"]),
-            "established": self.is_established(),
+            "established": self.is_complete() and (self.has_finished or not self.is_13),
             "outcome": outcome,
             "stop": self.stop,
             "ssl_history": self.history or None,

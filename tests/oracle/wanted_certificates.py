@@ -15,8 +15,14 @@ from tests.support.shapes import Line
 # Fields that are also logged if they are false or an empty name.
 ALWAYS = [
     "is_ca", "self_issued", "sni_matches_cert", "subject", "issuer", "client_subject",
-    "client_issuer",
+    "client_issuer", "validity_days",
 ]
+# Below these an RSA or DSA key, and one of a curve, has less than 112 bits of security (NIST SP
+# 800-57, part 1, table 2).
+STRONG_MODULUS, STRONG_CURVE = 2048, 224
+# MD2, MD4, MD5, SHA and SHA-1 in openssl's names of signatures and hashes (RFC 6151, RFC 9155).
+WEAK_HASH = re.compile("md[245]|sha1(?![0-9])|^shawith|withsha$", re.IGNORECASE)
+DAY = 86400
 KEY_TYPES = {
     "rsaEncryption": "rsa", "rsassaPss": "rsa", "id-ecPublicKey": "ecdsa", "dsaEncryption": "dsa",
     "ED25519": "ed25519", "ED448": "ed448",
@@ -43,6 +49,23 @@ def alternative_names(text: str) -> list[tuple[str, ...]]:
     )
 
 
+def iso(time: str) -> str | None:
+    """A time with T in the middle; None for one that openssl can't read."""
+    return None if time == "Bad time value" else time.replace(" ", "T")
+
+
+def hash_of(text: str, algorithm: str) -> str:
+    """The name that tells a signature's hash."""
+    if algorithm != "rsassaPss":
+        return algorithm
+    return found(r"Hash Algorithm: (\S+)", text) or ""
+
+
+def is_weak(kind: str, bits: int | None) -> bool:
+    limits = {"rsa": STRONG_MODULUS, "dsa": STRONG_MODULUS, "ecdsa": STRONG_CURVE}
+    return bits is not None and bits < limits.get(kind, 0)
+
+
 @functools.lru_cache(maxsize=None)
 def of_certificate(der: bytes) -> Line:
     """The fields of one certificate."""
@@ -52,21 +75,28 @@ def of_certificate(der: bytes) -> Line:
     text = openssl(der, "-text")
     key = found(r"Public Key Algorithm: (.*)$", text)
     names = alternative_names(text)
+    inner, outer = re.findall(r"Signature Algorithm: (.*)$", text, re.MULTILINE)
     said = {
         "subject": found(r"^subject=(.*)$", plain),
         "issuer": found(r"^issuer=(.*)$", plain),
         "serial": found(r"^serial=(.*)$", plain),
-        "not_before": found(r"^notBefore=(.*)$", plain).replace(" ", "T"),
-        "not_after": found(r"^notAfter=(.*)$", plain).replace(" ", "T"),
+        "not_before": iso(found(r"^notBefore=(.*)$", plain)),
+        "not_after": iso(found(r"^notAfter=(.*)$", plain)),
         "san_dns": [name for kind, name in names if kind == "DNS"],
         "san_ip": [str(ipaddress.ip_address(name)) for kind, name in names if kind == "IP Address"],
         "key_type": KEY_TYPES.get(key, "unknown"),
         "key_curve": found(r"ASN1 OID: (.*)$", text),
-        "sig_alg": found(r"Signature Algorithm: (.*)$", text),
+        "sig_alg": outer,
+        "tbs_sig_alg": inner if inner != outer else None,
+        "weak_signature": bool(WEAK_HASH.search(hash_of(text, outer))),
         "is_ca": bool(re.search(r"X509v3 Basic Constraints:.*\n\s+CA:TRUE", text)),
     }
     bits = found(r"Public-Key: \((\d+) bit\)", text)
     said["key_length"] = int(bits) if bits else None
+    said["weak_key"] = is_weak(said["key_type"], said["key_length"])
+    if said["not_before"] and said["not_after"]:
+        valid = seconds(said["not_after"]) - seconds(said["not_before"])
+        said["validity_days"] = valid // DAY if valid >= 0 else None
     said["self_issued"] = said["subject"] == said["issuer"]
     return said
 
@@ -81,12 +111,22 @@ def is_name_of(host: str, name: str) -> bool:
     return host == name
 
 
-def of_talk(host: str | None, server: bytes | None, client: bytes | None) -> Line:
+def of_time(der: bytes, at: float) -> Line:
+    """Whether a certificate had expired at a time, or wasn't valid yet."""
+    own = of_certificate(der)
+    begin, end = own["not_before"], own["not_after"]
+    return {
+        "expired_at_connection": bool(end) and seconds(end) < int(at),
+        "not_yet_valid": bool(begin) and int(at) < seconds(begin),
+    }
+
+
+def of_talk(host: str | None, server: bytes | None, client: bytes | None, at: float) -> Line:
     """The fields of a connection by its server's own certificate and its client's, each in DER or
-    None."""
+    None, and the time of its first packet."""
     said = {}
     if server:
-        said |= of_certificate(server)
+        said |= of_certificate(server) | of_time(server, at)
         if host:
             said["sni_matches_cert"] = any(is_name_of(host, name) for name in said["san_dns"])
     if client:
@@ -119,13 +159,28 @@ PURPOSES = {
 }
 
 
+# The policies that openssl has a name for (RFC 5280, section 4.2.1.4).
+POLICIES = {"X509v3 Any Policy": "2.5.29.32.0"}
+
+
 def listed(pattern: str, names: dict[str, str], text: str) -> list[str]:
     line = found(pattern, text)
     return [names.get(word, word) for word in line.strip().split(", ")] if line else []
 
 
-def of_line(der: bytes) -> Line:
-    """The fields of a line of `--certificates` that one certificate gives."""
+def others(kind: str, text: str) -> list[str]:
+    """The names of a kind in subjectAltName that `openssl x509 -ext` prints in its own form."""
+    names = found(r"X509v3 Subject Alternative Name: *\n\s+(.*)$", text)
+    return [name[len(kind) :] for name in (names or "").split(", ") if name.startswith(kind)]
+
+
+def directory(name: str) -> str:
+    """A directoryName, which openssl prints as /C=DE/CN=a name, by RFC 4514."""
+    return ",".join(reversed(name.strip("/").split("/")))
+
+
+def of_line(der: bytes, at: float) -> Line:
+    """The fields of a line of `--certificates` that one certificate gives at a time."""
     own, text = of_certificate(der), openssl(der, "-text")
     names = alternative_names(text)
     constraints = found(r"X509v3 Basic Constraints:.*\n\s+(.*)$", text)
@@ -137,6 +192,21 @@ def of_line(der: bytes) -> Line:
         "certificate.issuer": own["issuer"],
         "certificate.not_valid_before": seconds(own["not_before"]),
         "certificate.not_valid_after": seconds(own["not_after"]),
+        "fingerprint_sha1": found(
+            "Fingerprint=(.*)$", openssl(der, "-fingerprint", "-sha1")
+        ).replace(":", "").lower(),
+        "validity_days": own["validity_days"],
+        **of_time(der, at),
+        "certificate.tbs_sig_alg": own["tbs_sig_alg"],
+        "weak_signature": own["weak_signature"],
+        "weak_key": own["weak_key"],
+        "san.upn": others("othername: UPN::", text),
+        "san.directory": [directory(name) for name in others("DirName:", text)],
+        "aia.ocsp": re.findall(r"OCSP - \w+:(\S+)", text),
+        "aia.ca_issuers": re.findall(r"CA Issuers - \w+:(\S+)", text),
+        "policies": [
+            POLICIES.get(name, name) for name in re.findall("Policy: (.*)$", text, re.MULTILINE)
+        ],
         "certificate.key_alg": found(r"Public Key Algorithm: (.*)$", text),
         "certificate.sig_alg": own["sig_alg"],
         "certificate.key_type": own["key_type"],
@@ -155,7 +225,7 @@ def of_line(der: bytes) -> Line:
     }
     always = [
         "certificate.subject", "certificate.issuer", "basic_constraints.ca",
-        "basic_constraints.path_len", "self_issued",
+        "basic_constraints.path_len", "self_issued", "validity_days",
     ]
     return {
         field: value

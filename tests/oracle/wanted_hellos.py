@@ -14,6 +14,7 @@ FIELDS = """
     handshake.session_id handshake.comp_method handshake.extension.len
     handshake.extensions_supported_group handshake.extensions_ec_point_format handshake.sig_hash_alg
     handshake.certificate handshake.ja3 handshake.ja3_full handshake.ja3s handshake.ja3s_full
+    handshake.p handshake.session_ticket_lifetime_hint
 """.split()
 # Fields that tshark has under the names of TLS alone, also of DTLS.
 SHARED = ["tls.extension.psk_ke_mode", "tls.sct.sct_length"]
@@ -205,4 +206,9 @@ def of_messages(row: Row, side: bool) -> Line:
     for kind, field in marks.items():
         if kind in types:
             said[field] = True
+    lifetime, prime = first(row, "handshake.session_ticket_lifetime_hint"), first(row, "handshake.p")
+    if lifetime is not None:
+        said["ticket_lifetime_hint"] = int(lifetime)
+    if prime is not None:
+        said["dh_param_size"] = int(plain(prime), 16).bit_length()
     return said

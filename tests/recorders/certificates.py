@@ -2,13 +2,14 @@
 
 Both peers are OpenSSL's, in this process (Python's `ssl` over buffers); their bytes are put into
 segments of TCP. wanted.json has the expected lines: of connections by tshark's fields and what
-`openssl x509` prints of the certificates, of certificates by openssl alone. In `broken` a byte of
-the second certificate was changed after the handshake, so its lines are written here by hand. It
-needs `tshark` and `openssl`.
+`openssl x509` prints of the certificates, of certificates by openssl alone. In `broken`, `expired`
+and `unread` bytes of certificates were changed after the handshake: what tshark or openssl can't
+read then is written here by hand. It needs `tshark` and `openssl`.
 """
 
 from __future__ import annotations
 
+import hashlib
 import json
 import ssl
 import struct
@@ -18,7 +19,7 @@ from collections.abc import Iterable
 from pathlib import Path
 
 from tests.oracle import wanted, wanted_certificates
-from tests.support import packets
+from tests.support import log_columns, packets
 from tests.support.shapes import Line
 
 FOLDER = Path(__file__).resolve().parents[2] / "captures/certificates"
@@ -32,6 +33,23 @@ basicConstraints = CA:FALSE
 keyUsage = critical, digitalSignature, keyEncipherment
 extendedKeyUsage = serverAuth, clientAuth, 1.2.3.4
 """
+FACTS = """subjectAltName = DNS:facts.test,otherName:1.3.6.1.4.1.311.20.2.3;UTF8:user@example.test,otherName:1.2.3.4;UTF8:other,dirName:directory
+authorityInfoAccess = OCSP;URI:http://ocsp.example.test/,caIssuers;URI:http://example.test/issuer.der,OCSP;DNS:ocsp.test
+certificatePolicies = 2.23.140.1.2.1,@policy,2.5.29.32.0
+[policy]
+policyIdentifier = 1.2.3.4.5
+CPS.1 = "http://example.test/cps"
+[directory]
+C = DE
+CN = a directory
+"""
+# The content of the names that openssl doesn't print by its bytes (RFC 5280, section 4.2.1.6).
+OTHER_NAMES = [
+    "otherName:060A2B060104018237140203A0130C11" + b"user@example.test".hex().upper(),
+    "otherName:06032A0304A0070C05" + b"other".hex().upper(),
+    "directoryName:3023310B30090603550406130244453114301206035504030C0B"
+    + b"a directory".hex().upper(),
+]
 # The subject, key, extensions and issuer of each certificate.
 CERTIFICATES = {
     "root": (
@@ -53,6 +71,7 @@ CERTIFICATES = {
         "subjectAltName = DNS:other.test\n",
         "issuer",
     ),
+    "facts": ("/CN=facts.test", ["-newkey", "rsa:1024", "-sha1"], FACTS, "root"),
     "person": (
         "/O=Caf\u00e9/CN=a person",
         ["-newkey", "ed25519"],
@@ -68,10 +87,33 @@ CASES = {
     "client": (["curve", "issuer"], ["person"], "other.test"),
     "self_signed": (["root"], [], "root"),
     "broken": (["leaf", "issuer"], [], "example.test"),
+    "facts": (["facts", "root"], [], "facts.test"),
+    "expired": (["leaf", "issuer"], [], "example.test"),
+    "unread": (["leaf", "issuer"], [], "example.test"),
 }
 # The case in which the second certificate's SEQUENCE has the tag of a SET: what it is, by hand (RFC
 # 5280, section 4.1: "Tag").
 BROKEN, FAULT = "broken", "tag"
+# The case that begins when its certificates have expired, and the seconds since `BEGIN`. In it the
+# signed part of the first certificate names another algorithm: ecdsa-with-SHA384 (RFC 5758, section
+# 3.2).
+EXPIRED, LATER = "expired", 11 * 365 * 86400
+ALGORITHM, OTHER = bytes.fromhex("06082a8648ce3d040302"), bytes.fromhex("06082a8648ce3d040303")
+# The case in which the first certificate begins in month 13 (kind of error "Verify"), and the second
+# name in its subjectAltName doesn't fit in the list ("Complete").
+UNREAD, SECOND_NAME = "unread", b"\x82\x0b*.wild.test"
+# The capture before bytes were changed, and the cases whose fields aren't all read from the other.
+INTACT, BY_HAND = "intact.pcap", (BROKEN, UNREAD)
+UNREAD_FIELDS = {
+    "not_before": None, "validity_days": None, "not_yet_valid": None, "san_dns": ["example.test"],
+    "san_ip": None, "cert_error": ["0:verify"],
+    "cert_unread_fields": ["notBefore:verify", "subjectAltName@14:complete"],
+}
+UNREAD_OF_LINE = {
+    "certificate.not_valid_before": None, "validity_days": None, "not_yet_valid": None,
+    "san.dns": ["example.test"], "san.ip": None, "san.email": None, "san.uri": None,
+    "error": "verify", "unread_fields": UNREAD_FIELDS["cert_unread_fields"],
+}
 
 
 def run(*words: str) -> None:
@@ -153,8 +195,9 @@ def talk(work: Path, server: list[str], client: list[str], host: str) -> list[tu
 class Capture:
     """Builds the segments of one connection, with correct sequence numbers."""
 
-    def __init__(self) -> None:
-        self.time, self.sent, self.segments = BEGIN, {True: 1000, False: 2000}, []
+    def __init__(self, later: int) -> None:
+        self.time = BEGIN + later * 1_000_000
+        self.sent, self.segments = {True: 1000, False: 2000}, []
 
     def add(self, is_client: bool, flags: int, payload: bytes = b"") -> None:
         ends = (CLIENT, SERVER) if is_client else (SERVER, CLIENT)
@@ -196,30 +239,58 @@ def der(work: Path, name: str) -> bytes:
     return ssl.PEM_cert_to_DER_cert((work / f"{name}.pem").read_text())
 
 
-def bent(pieces: Iterable[tuple[bool, bytes]], work: Path) -> list[tuple[bool, bytes]]:
-    """Returns the pieces with another tag at the start of the second certificate."""
-    before = der(work, "issuer")
-    return [(is_client, piece.replace(before, b"\x31" + before[1:])) for is_client, piece in pieces]
+def bent(case: str, place: int, one: bytes) -> bytes:
+    """Returns a certificate of the server as it is in the capture."""
+    if (case, place) == (BROKEN, 1):
+        return b"\x31" + one[1:]
+    if (case, place) == (EXPIRED, 0):
+        return one.replace(ALGORITHM, OTHER, 1)
+    if (case, place) == (UNREAD, 0):
+        # (the first UTCTime: year, month, day)
+        at = one.index(b"\x17\x0d") + 4
+        front = one[:at] + b"13" + one[at + 2 :]
+        return front.replace(SECOND_NAME, b"\x82\x7f" + SECOND_NAME[2:], 1)
+    return one
 
 
-def detail(one: bytes, fault: str | None) -> Line:
-    """Returns the expected line of one certificate."""
-    line = {"fingerprint": wanted_certificates.fingerprint(one), "length": len(one)}
-    return line | ({"error": fault} if fault else wanted_certificates.of_line(one))
+def sent(
+    case: str, pieces: Iterable[tuple[bool, bytes]], chain: list[bytes]
+) -> Iterable[tuple[bool, bytes]]:
+    """Yields the pieces with the server's certificates as they are in the capture."""
+    for is_client, piece in pieces:
+        for place, one in enumerate(chain):
+            piece = piece.replace(one, bent(case, place, one))
+        yield is_client, piece
+
+
+def detail(case: str, place: int, one: bytes, at: float) -> Line:
+    """Returns the expected line of one certificate of the server that came at this time; `one` is
+    as it was sent."""
+    there = bent(case, place, one)
+    line = {"fingerprint": wanted_certificates.fingerprint(there), "length": len(there)}
+    line["fingerprint_sha1"] = hashlib.sha1(there).hexdigest()
+    if (case, place) == (BROKEN, 1):
+        return line | {"error": FAULT}
+    if (case, place) == (UNREAD, 0):
+        return without_none(wanted_certificates.of_line(one, at) | line | UNREAD_OF_LINE)
+    others = {"san.other": OTHER_NAMES} if (case, place) == ("facts", 0) else {}
+    return wanted_certificates.of_line(there, at) | line | others
+
+
+def without_none(line: Line) -> Line:
+    return {field: value for field, value in line.items() if value is not None}
 
 
 def wanted_of(work: Path, file: Path, case: str) -> dict[str, list[Line]]:
     server, client, host = CASES[case]
-    [connection] = wanted.lines(file) if case != BROKEN else [wanted_of_broken(work, file)]
+    [connection] = wanted.lines(file) if case not in BY_HAND else [wanted_by_hand(work, case)]
     times = time_of_messages(file)
     lines = []
     for is_client, chain in ((False, server), (True, client)):
         for place, name in enumerate(chain):
-            is_bent = case == BROKEN and place == 1
-            one = der(work, name)
-            one = b"\x31" + one[1:] if is_bent else one
+            at = times[is_client]
             line = {
-                "ts": times[is_client],
+                "ts": at,
                 **{
                     field: connection[field]
                     for field in connection
@@ -230,29 +301,21 @@ def wanted_of(work: Path, file: Path, case: str) -> dict[str, list[Line]]:
             line |= {
                 "side": "client" if is_client else "server",
                 "place": place,
-                **detail(one, FAULT if is_bent else None),
+                **detail("" if is_client else case, place, der(work, name), at),
             }
             line |= {"client_cert" if is_client else "host_cert": True} if place == 0 else {}
             lines.append(line)
     return {"connections": [connection], "certificates": sorted(lines, key=lambda line: line["ts"])}
 
 
-def wanted_of_broken(work: Path, file: Path) -> Line:
-    """Returns the line of a connection whose second certificate tshark can't parse: the line with
-    the intact certificate, except for the fields that the changed byte affects."""
-    [found] = wanted.lines(file)
-    chain = [der(work, name) for name in CASES[BROKEN][0]]
-    chain[1] = b"\x31" + chain[1][1:]
-    found |= {
-        "cert_count": len(chain),
-        "cert_lengths": [len(one) for one in chain],
-        "cert_chain_fps": [wanted_certificates.fingerprint(one) for one in chain],
-    }
-    found |= wanted_certificates.of_talk(CASES[BROKEN][2], chain[0], None)
-    found["cert_error"] = [f"1:{FAULT}"]
-    return {
-        field: found[field] for field in wanted.ORDER if wanted.is_told(field, found.get(field))
-    }
+def wanted_by_hand(work: Path, case: str) -> Line:
+    """Returns the line of a connection with a certificate that tshark or openssl can't read: the
+    line with the intact certificates, except for the fields that the changed bytes affect."""
+    [found] = wanted.lines(work / INTACT)
+    chain = [bent(case, place, der(work, name)) for place, name in enumerate(CASES[case][0])]
+    found["cert_chain_fps"] = [wanted_certificates.fingerprint(one) for one in chain]
+    found |= {"cert_error": [f"1:{FAULT}"]} if case == BROKEN else UNREAD_FIELDS
+    return without_none({field: found.get(field) for field in log_columns.names()})
 
 
 def time_of_messages(file: Path) -> dict[bool, float]:
@@ -293,8 +356,11 @@ def record(folder: Path, chosen: list[str]) -> bool:
         for case in chosen or CASES:
             server, client, host = CASES[case]
             pieces = talk(work, server, client, host)
+            later = LATER if case == EXPIRED else 0
+            Capture(later).write(work / INTACT, pieces)
             file = folder / f"{case}.pcap"
-            Capture().write(file, bent(pieces, work) if case == BROKEN else pieces)
+            chain = [der(work, name) for name in server]
+            Capture(later).write(file, sent(case, pieces, chain))
             lines[file.name] = wanted_of(work, file, case)
     text = ",\n".join(f" {json.dumps(name)}: {json.dumps(lines[name])}" for name in sorted(lines))
     stored.write_text(f"{{\n{text}\n}}\n")

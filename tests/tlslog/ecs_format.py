@@ -45,17 +45,20 @@ def certificate(line: Line | None) -> Line:
     of = lambda name: line.get(f"certificate.{name}")  # noqa: E731
     names = [name for kind in ("dns", "ip", "email", "uri") for name in line.get(f"san.{kind}", [])]
     exponent, serial = of("exponent"), of("serial")
-    is_read = "error" not in line
     subject, issuer = of("subject"), of("issuer")
     before, after = (
-        date(of(f"not_valid_{when}")) if is_read else None for when in ("before", "after")
+        date(time) if (time := of(f"not_valid_{when}")) is not None else None
+        for when in ("before", "after")
     )
     return {
         "subject": subject,
         "issuer": issuer,
         "not_before": before,
         "not_after": after,
-        "hash": {"sha256": line["fingerprint"].upper()},
+        "hash": {
+            "sha1": line["fingerprint_sha1"].upper(),
+            "sha256": line["fingerprint"].upper(),
+        },
         "x509": {
             "version_number": of("version"),
             "serial_number": serial and serial.upper(),

@@ -134,6 +134,55 @@ def counts(program: Program, captures: list[Stored]) -> None:
     print(f"tlslog: {len(captures)} captures, also damaged and on other links: their reports")
 
 
+def extension_at(hello: bytes, kind: int) -> int | None:
+    """Where the content of an extension begins in a record with a ClientHello (RFC 8446, section
+    4.1.2), which a ChangeCipherSpec may come before."""
+    at = 6 if hello[:1] == b"\x14" else 0
+    if hello[at : at + 1] != b"\x16" or hello[at + 5 : at + 6] != b"\x01":
+        return None
+    at += 5 + 4 + 2 + 32
+    at += 1 + hello[at]
+    at += 2 + int.from_bytes(hello[at : at + 2], "big")
+    at += 1 + hello[at] + 2
+    while at < len(hello):
+        if int.from_bytes(hello[at : at + 2], "big") == kind:
+            return at + 4
+        at += 4 + int.from_bytes(hello[at + 2 : at + 4], "big")
+    return None
+
+
+def encrypted_hellos(program: Program, _: object) -> None:
+    """The fields of encrypted_client_hello (RFC 9849, sections 5 and 6.1.5), which takes the place of
+    signature_algorithms in the hellos of a handshake with a retry."""
+    segments = packets.read((TLS[0] / "openssl_tls13_retry.pcap").read_bytes())
+    # The type outer; HKDF-SHA384, AES-256-GCM, a configuration, no key; the length of the payload.
+    outer, inner = bytes.fromhex("00 0002 0002 9b 0000"), bytes.fromhex("01 0002 0002 9b 0000")
+    facts = {"ech_config_id": 155, "ech_kdf": "0x0002", "ech_aead": "0x0002"}
+    for fronts, wanted in (
+        ([None, None], {}),
+        ([outer, None], {"ech_repeated": False}),
+        ([None, outer], {"ech": True} | facts),
+        ([outer, outer], {"ech": True, "ech_repeated": True} | facts),
+        ([outer, inner], {"ech": True, "ech_repeated": True}),
+    ):
+        left, frames = list(fronts), []
+        for s in segments:
+            at = extension_at(s.payload, 13)
+            if at is not None and (front := left.pop(0)):
+                length = int.from_bytes(s.payload[at - 2 : at], "big")
+                content = front + (length - len(front) - 2).to_bytes(2, "big")
+                there = b"\xfe\x0d" + s.payload[at - 2 : at] + content
+                behind = s.payload[at + len(content) :]
+                s = replace(s, payload=s.payload[: at - 4] + there + behind)
+            frames.append((s.time, s.frame()))
+        [line] = parsed(program.run(given=packets.pcap(frames))[1])
+        names = ("ech", "ech_config_id", "ech_kdf", "ech_aead", "ech_repeated")
+        had = {name: line[name] for name in names if name in line}
+        if left or had != wanted:
+            stop(f"encrypted hellos: {had}, wanted is {wanted}")
+    print("tlslog: hellos with encrypted_client_hello: as RFC 9849 has it")
+
+
 def with_wrong_checksum(s: packets.Segment) -> tuple[int, bytes] | None:
     """The packet with another last byte of its payload, if it has one."""
     frame = s.frame()

@@ -100,6 +100,10 @@ def others_stay(whole: str, text: str, report: str, has_connections: bool) -> bo
     return not has_connections or (lost <= int(ends[1]) and new <= 2 * int(ends[1]))
 
 
+# So many certificates a side has, and a connection at most so many lines of them.
+LISTED, MOST_LINES = 42_000, 65_536
+
+
 def bounded(program: Program, captures: list[Stored]) -> None:
     """Of connections with full buffers, the longest-idle ones end early, and the memory stays below
     the limit. The others, and those of a stored capture after them, have the lines that they have
@@ -154,6 +158,23 @@ def chains_bounded(program: Program, _: object) -> None:
         stop("chains with a limit: an event lacks its chain")
     ended = f"{early[1]} end early if these are kept, {early[0]} if not"
     print(f"tlslog: of {CHAINED} connections with long chains {ended}, in {LIMIT * 11 // 10} bytes")
+
+
+def lines_bounded(program: Program, _: object) -> None:
+    """A connection has at most 65,536 lines of certificates, and standard error counts the others;
+    without a limit of memory it has all."""
+    file = program.room / "listed.pcap"
+    subprocess.run([FAULTS / "many", "listed", str(LISTED), file], check=True)
+    for words, count in (([], MOST_LINES), (["--memory", "none"], 2 * LISTED)):
+        status, text, report = program.run(["--certificates", "--fields", "ts", *words, file])
+        wanted = [f"{file}: 1 connection gave more than 10000 lines, one of them {count}"]
+        if count < 2 * LISTED:
+            wanted.append(
+                f"{file}: left out: {2 * LISTED - count} lines of connections that had reached their limit"
+            )
+        if status or text.count("\n") != count or report.splitlines()[-len(wanted) :] != wanted:
+            stop(f"{text.count(chr(10))} lines of {2 * LISTED} certificates: {status}, {report}")
+    print(f"tlslog: of {2 * LISTED} certificates of a connection {MOST_LINES} have lines")
 
 
 def limit_memory() -> None:

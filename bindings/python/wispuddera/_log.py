@@ -114,6 +114,10 @@ class Connection:
     offers_ticket: Optional[bool] = None
     cookie: Optional[bool] = None
     ech: Optional[bool] = None
+    ech_config_id: Optional[int] = None
+    ech_kdf: Optional[str] = None
+    ech_aead: Optional[str] = None
+    ech_repeated: Optional[bool] = None
     delegated_credential: Optional[bool] = None
     ssl2_hello: Optional[bool] = None
     server_version: Optional[str] = None
@@ -121,8 +125,10 @@ class Connection:
     comp_method: Optional[int] = None
     ssl_server_exts: Optional[list[str]] = None
     server_key_share_group: Optional[str] = None
+    dh_param_size: Optional[int] = None
     scts: Optional[int] = None
     ticket_issued: Optional[bool] = None
+    ticket_lifetime_hint: Optional[int] = None
     ocsp_stapled: Optional[bool] = None
     cert_count: Optional[int] = None
     cert_lengths: Optional[list[int]] = None
@@ -144,7 +150,14 @@ class Connection:
     sig_alg: Optional[str] = None
     is_ca: Optional[bool] = None
     self_issued: Optional[bool] = None
+    validity_days: Optional[int] = None
+    weak_key: Optional[bool] = None
+    weak_signature: Optional[bool] = None
+    tbs_sig_alg: Optional[str] = None
+    cert_unread_fields: Optional[list[str]] = None
     sni_matches_cert: Optional[bool] = None
+    expired_at_connection: Optional[bool] = None
+    not_yet_valid: Optional[bool] = None
     validation_status: Optional[str] = None
     cert_error: Optional[list[str]] = None
     client_subject: Optional[str] = None

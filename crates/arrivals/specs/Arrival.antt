@@ -1,5 +1,5 @@
 -- What a packet brings to a connection.
-use Rattle.std.specs.Prelude.{ℕ, ◌+◌, ◌*◌, ◌^◌, ◌/◌, ◌%◌, ◌==◌, Bool, ◌&&◌, ◌||◌, Option, Some, None, is_some, if◌then◌else◌, true}
+use Rattle.std.specs.Prelude.{ℕ, ◌+◌, ◌*◌, ◌^◌, ◌/◌, ◌%◌, ◌==◌, Bool, ◌&&◌, Option, Some, None, is_some, length, if◌then◌else◌, true, false}
 use Rattle.std.specs.Net.Addr.{IsIpv4OfBits, IsIpv6OfBits}
 use Rattle.std.specs.declared.net.ip_addr.IpAddr.{IpAddr}
 use Rattle.std.specs.declared.net.ip_addr.IpAddr.TheVariants as ip
@@ -47,9 +47,14 @@ IsAddress (V4 n) (ip.V6 a) = ⊥
 IsAddress (V6 upper lower) (ip.V4 a) = ⊥
 IsAddress (V6 upper lower) (ip.V6 a) = IsIpv6OfBits a (upper * 2 ^ 64 + lower)
 
--- A segment is signed: by MD5 (RFC 2385, section 3) or by TCP-AO (RFC 5925, section 2.2).
+-- A segment is signed by MD5: the option's content is 16 bytes (RFC 2385, section 3). A host without
+-- TCP-AO ignores its option (RFC 9293, section 3.1).
+abbrev pub is_signature : Option Bytes → Bool
+is_signature None = false
+is_signature (Some content) = length content == 16
+
 abbrev pub is_signed : Bytes → Bool
-is_signed b = is_some (option_of 19 b) || is_some (option_of 29 b)
+is_signed b = is_signature (option_of 19 b)
 
 -- The options of a segment. Window scale, maximum segment size and SACK-Permitted count only in a
 -- SYN (RFC 7323, section 2.2; RFC 9293, section 3.7.1; RFC 2018, section 2).

@@ -66,7 +66,7 @@ nothing_counted = record {
   uneven = 0;
   other_end = 0;
   late = 0;
-  crowded = 0;
+  evicted = 0;
   cut_short = 0;
   in_too_many_tunnels = 0;
   stray_segments = 0;
@@ -114,8 +114,8 @@ with_refused (outcome.Refused r) c = with_refusal r c
 
 -- How many datagrams were dropped, late or for room, and how many are in reassembly.
 abbrev pub with_cut : ℕ → ℕ → ℕ → Counts → Counts
-with_cut late crowded waiting c =
-    record c { late = late; crowded = crowded; cut_short = waiting }
+with_cut late evicted waiting c =
+    record c { late = late; evicted = evicted; cut_short = waiting }
 
 -- How many connections that are neither TLS nor DTLS are reported.
 abbrev pub unexplained : Counts → ℕ

@@ -91,5 +91,5 @@ ReadsWhole p tunnels (Some d) old new a =
 -- Datagrams that were dropped, and those that are still in reassembly, are counted.
 abbrev pub counting_cut : ArrivalReader → ArrivalReader
 counting_cut r = record r {
-  counts = with_cut r.fragments.late r.fragments.crowded (length r.fragments.waiting) r.counts;
+  counts = with_cut r.fragments.late r.fragments.evicted (length r.fragments.waiting) r.counts;
 }

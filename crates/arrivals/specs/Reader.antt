@@ -27,7 +27,7 @@ use Rattle.arrivals.specs.declared.reader.ArrivalReader.{ArrivalReader}
 
 -- Nothing was read.
 pub record IsNew (r : ArrivalReader) : Type 0 where
-  pub fragments : r.fragments ≡ record { waiting = []; late = 0; crowded = 0 }
+  pub fragments : r.fragments ≡ record { waiting = []; late = 0; evicted = 0 }
   pub cut : r.is_cut ≡ false
   pub checksums : r.checksums ≡ Auto
   pub part : r.part ≡ None

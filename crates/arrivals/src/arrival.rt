@@ -3,7 +3,7 @@ ghost use Rattle.std.specs.Prelude.{◌≡◌, false, IfSome, Some};
 ghost use Rattle.capture.specs.Checksum.{checksum_of as checksum_in};
 ghost use Rattle.capture.specs.Ip.{view_address, view_datagram};
 ghost use Rattle.capture.specs.Options.{timestamp as timestamp_in};
-ghost use Rattle.arrivals.specs.Arrival.{IsAddress, counted_as, datagram_in, five_tuple_in, is_signed, options_in, segment_in, source_of, time_of};
+ghost use Rattle.arrivals.specs.Arrival.{IsAddress, counted_as, datagram_in, five_tuple_in, is_signed as is_signed_by, options_in, segment_in, source_of, time_of};
 ghost use Rattle.arrivals.specs.Reader.{IsEnd};
 
 use capture::{
@@ -24,10 +24,10 @@ const PADDING: u8 = 1;
 
 const TIMESTAMPS: u8 = 8;
 
-/// The kinds of the options that sign a segment (RFC 2385, section 3; RFC 5925, section 2.2).
+/// The kind of the option that signs a segment, and the length of its content (RFC 2385, section 3).
 const MD5_SIGNATURE: u8 = 19;
 
-const AUTHENTICATION: u8 = 29;
+const SIGNATURE_LEN: usize = 16;
 
 /// Which checksums count.
 #[derive(Clone, Copy, Debug, PartialEq, Eq)]
@@ -107,7 +107,7 @@ pub(crate) fn end(address_there: Address, port: u16) -> End
 /// appendix A). Most segments have it.
 fn clock_alone(options: &[u8]) -> Option<u32>
     ensures clock { IfSome result (λ clock. timestamp_in options.now ≡ Some clock) }
-    ensures alone { IfSome result (λ clock. is_signed options.now ≡ false) }
+    ensures alone { IfSome result (λ clock. is_signed_by options.now ≡ false) }
 {
     match options {
         [PADDING, PADDING, TIMESTAMPS, 10, a, b, c, d, _, _, _, _] => {
@@ -117,14 +117,24 @@ fn clock_alone(options: &[u8]) -> Option<u32>
     }
 }
 
+/// Returns whether a segment is signed. An option of another length is no signature, and a host
+/// without TCP-AO ignores its option (RFC 9293, section 3.1).
+fn is_signed(options: &[u8]) -> bool
+    ensures { result ≡ is_signed_by options.now }
+{
+    match option_of(options, MD5_SIGNATURE) {
+        Some(content) => content.len() == SIGNATURE_LEN,
+        None => false,
+    }
+}
+
 /// Returns the options of a segment, each by a search. Those that only a SYN may have are looked up
 /// only in a SYN (RFC 9293, section 3.7.1; RFC 7323, section 2.2; RFC 2018, section 2).
 fn options_one_by_one(options: &[u8], is_syn: bool) -> Options
     ensures { result ≡ options_in is_syn options.now }
 {
     let clock = timestamp(options);
-    let is_signed = option_of(options, MD5_SIGNATURE).is_some()
-        || option_of(options, AUTHENTICATION).is_some();
+    let is_signed = is_signed(options);
     if !is_syn {
         return Options {
             scale: None,

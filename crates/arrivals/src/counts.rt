@@ -43,7 +43,7 @@ pub struct Counts {
     /// Datagrams that were dropped with fragments missing for 30 seconds.
     pub late: u64,
     /// Datagrams that were dropped with fragments missing, since there was no more room.
-    pub crowded: u64,
+    pub evicted: u64,
     /// Datagrams with fragments missing at the end of the capture.
     pub cut_short: u64,
     /// Packets in more nested tunnels than are followed.
@@ -139,7 +139,7 @@ impl Counts {
             uneven: 0,
             other_end: 0,
             late: 0,
-            crowded: 0,
+            evicted: 0,
             cut_short: 0,
             in_too_many_tunnels: 0,
             stray_segments: 0,
@@ -198,7 +198,7 @@ impl Counts {
     fn left_out(&self) -> [LeftOut; 15]
         ensures { map (λ row. row.0) result ≡ self.now.unread ∷ self.now.other_protocols
             ∷ self.now.damaged ∷ self.now.other_parts ∷ self.now.too_long ∷ self.now.uneven
-            ∷ self.now.other_end ∷ self.now.late ∷ self.now.crowded ∷ self.now.cut_short
+            ∷ self.now.other_end ∷ self.now.late ∷ self.now.evicted ∷ self.now.cut_short
             ∷ self.now.in_too_many_tunnels ∷ self.now.stray_segments ∷ self.now.gaps
             ∷ self.now.ended_early ∷ unexplained_in self.now ∷ [] }
     {
@@ -228,7 +228,7 @@ impl Counts {
             ),
             (self.late, "datagram", "that were incomplete for 30 seconds"),
             (
-                self.crowded,
+                self.evicted,
                 "datagram",
                 "that were incomplete, with no room for them",
             ),

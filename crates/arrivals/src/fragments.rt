@@ -164,7 +164,7 @@ impl ArrivalReader {
         ensures { self.new ≡ counting_cut self.old }
     {
         self.counts.late = self.fragments.late();
-        self.counts.crowded = self.fragments.crowded();
+        self.counts.evicted = self.fragments.evicted();
         self.counts.cut_short = self.fragments.len() as u64;
     }
 }

@@ -2,7 +2,7 @@
 use Rattle.std.specs.Prelude.{◌≡◌, ◌⊎◌, ℕ, ◌+◌, ◌==◌, Bool, true, false, ◌&&◌, ◌||◌, not, nat_lt, is_some, IfSome, Option, Some, None, if◌then◌else◌, [], ◌∷◌, ◌++◌, length, ⊤}
 use Rattle.std.specs.Option.{option_map}
 use Rattle.connections.specs.FiveTuple.{is_end}
-use Rattle.connections.specs.Segment.{acknowledges, answers, begins, begins_stream, bytes_alone, data_of_syn, first_in, first_of, has_data, header_of, IsWithoutData}
+use Rattle.connections.specs.Segment.{acknowledges, answers, begins, begins_stream, bytes_alone, data_of_syn, ends, first_in, first_of, has_data, header_of, IsWithoutData}
 use Rattle.connections.specs.Numbers.{ahead_of}
 use Rattle.connections.specs.Waiting.{are_some, end_of_kept, has_room, is_any_syn, is_behind_fin_in, is_belied_by, is_data_of_syn_to, is_of_syn, is_unsent_by, keeping, kept_of, kept_syn, syn_in, taken_out, taken_syn, with_counted, with_pending, without, without_syn, without_taken, Kept}
 use Rattle.connections.specs.Hosts.{damaged_before, has_fin_of, host_after, is_wrong, later, may_be_damaged, silent_host, with_checksum, with_taken}
@@ -307,10 +307,10 @@ module _ {T : Type 0} where
   dropped_from Responder r c = record c { responder_dropped = with_dropped r c.responder_dropped }
 
   -- A dropped SYN with numbers far from the connection's is kept, since another connection may
-  -- begin with it (RFC 9293, section 3.10.7.4, fourth). It replaces the one that was kept before,
-  -- which counts as dropped.
+  -- begin with it (RFC 9293, section 3.10.7.4, fourth), unless it has FIN. It replaces the one that
+  -- was kept before, which counts as dropped.
   abbrev pub keeps_syn : DropReason → Segment → Connection T → Bool
-  keeps_syn r s c = begins s && (not (is_for_checksum r) && is_apart s c)
+  keeps_syn r s c = begins s && (not (ends s) && (not (is_for_checksum r) && is_apart s c))
 
   abbrev pub counting_syn : Option Kept → DropReason → Connection T → Connection T
   counting_syn None r c = c

@@ -1,6 +1,6 @@
 -- The TCP state of one end of a connection, by what it sent and the other end took (RFC 9293,
 -- section 3.3.1; RFC 7323).
-use Rattle.std.specs.Prelude.{ℕ, ◌+◌, ◌*◌, ◌%◌, ◌^◌, Bool, true, false, ◌&&◌, ◌||◌, not, nat_lt, is_some, if◌then◌else◌, Option, Some, None, max, min}
+use Rattle.std.specs.Prelude.{ℕ, ◌+◌, ◌*◌, ◌%◌, ◌^◌, ◌==◌, Bool, true, false, ◌&&◌, ◌||◌, not, nat_lt, is_some, if◌then◌else◌, Option, Some, None, max, min}
 use Rattle.connections.specs.Segment.{acknowledges, begins, behind_of, end_with_fin, ends, first_of}
 use Rattle.connections.specs.Numbers.{advance, is_behind}
 use Rattle.connections.specs.Traffic.{plus_up_to}
@@ -45,9 +45,11 @@ abbrev pub is_ahead : ℕ → Option ℕ → Bool
 is_ahead n None = false
 is_ahead n (Some m) = is_behind n m
 
--- A timestamp is older than another by more than `least`.
+-- A timestamp is older than the recent one by more than `least`. With a recent timestamp of 0 none
+-- is: hosts that send 0 in their SYNs send valid ones afterwards.
 abbrev pub is_clock_behind : ℕ → Option ℕ → Option ℕ → Bool
-is_clock_behind least (Some recent) (Some clock) = nat_lt least (advance recent clock)
+is_clock_behind least (Some recent) (Some clock) =
+    not (recent == 0) && nat_lt least (advance recent clock)
 is_clock_behind least (Some recent) None = false
 is_clock_behind least None c = false
 

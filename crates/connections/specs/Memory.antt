@@ -49,8 +49,8 @@ module _ {T : Type 0} where
   IsAccounted t = t.held ≡ total t.live
 
   -- The accounted memory exceeds a limit.
-  abbrev pub is_crowded : ℕ → Table T → Bool
-  is_crowded limit t = nat_lt (open_part limit) t.held
+  abbrev pub is_over_limit : ℕ → Table T → Bool
+  is_over_limit limit t = nat_lt (open_part limit) t.held
       || nat_lt (closed_count limit) (length t.closed)
 
   -- The most memory that is accounted for a connection whose attachment takes at most M, by what

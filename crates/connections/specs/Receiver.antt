@@ -110,11 +110,11 @@ is_behind_fin None s = false
 is_behind_fin (Some fin) s = if has_data s then not (is_behind fin (first_of s)) else ends s
     && is_behind (behind_of s) fin
 
--- The acknowledgement is below the receiver's SYN, or more than a window below the sender's earlier
--- ones (RFC 5961, section 5.2).
+-- The acknowledgement is below the receiver's SYN, or below the sender's earlier ones by more than
+-- the largest window that the sender offered: SND.UNA - MAX.SND.WND (RFC 5961, section 5.2).
 abbrev pub is_stale : Host → Host → Segment → Bool
 is_stale x y s = is_ahead_by 0 y.first s.acknowledgment
-    || is_ahead_by (max x.widest 65535) x.acknowledged s.acknowledgment
+    || is_ahead_by x.widest x.acknowledged s.acknowledgment
 
 -- The segment acknowledges bytes that the receiver isn't known to have sent.
 abbrev pub is_of_unsent : Host → Segment → Bool
@@ -140,9 +140,10 @@ judge_open x y f s =
     else if is_beyond (edge_of x y) s then (if has_data s then Waiting Window else Dropped Window)
     else judge_data x y f s
 
--- An RST resets a connection only with the number that its receiver expects next (RFC 5961, section
--- 3.2), or, if both accept selective acknowledgements, with the one behind all that came. If its
--- sender sent nothing else, it has to answer what the other end sent.
+-- An RST resets a connection only if its sequence number, whatever its other flags, is the one that
+-- its receiver expects next (RFC 5961, section 3.2), or, if both accept selective acknowledgements,
+-- the one behind all that came. If its sender sent nothing else, it has to answer what the other end
+-- sent.
 abbrev pub is_answer_to : Option ℕ → Segment → Bool
 is_answer_to None s = true
 is_answer_to (Some next) s = acknowledges s && s.acknowledgment == next
@@ -150,11 +151,17 @@ is_answer_to (Some next) s = acknowledges s && s.acknowledgment == next
 abbrev pub is_reset_of : Option ℕ → Host → Host → Front → Segment → Bool
 is_reset_of None x y f s = is_answer_to y.next s
 is_reset_of (Some next) x y f s =
-    first_of s == later y.acknowledged (number_or next f.reached)
-    || (x.offers.selects && y.offers.selects && first_of s == next)
+    s.sequence == later y.acknowledged (number_or next f.reached)
+    || (x.offers.selects && y.offers.selects && s.sequence == next)
 
 abbrev pub is_reset_taken : Host → Host → Front → Segment → Bool
 is_reset_taken x y f s = is_reset_of x.next x y f s
+
+-- A host checks the signature before it looks at the RST flag (RFC 2385, section 2).
+abbrev pub judge_reset : Host → Host → Front → Segment → Judgement
+judge_reset x y f s =
+    if is_signed_apart x s then Dropped Signature
+    else if is_reset_taken x y f s then Taken else Dropped Reset
 
 -- A sender's first SYN. It asks for the connection, maybe simultaneously with the other end (RFC
 -- 9293, section 3.5), or it answers the other's SYN. After the opening, or after other segments of
@@ -185,13 +192,14 @@ abbrev pub judge_syn_by : Option ℕ → Host → Host → Segment → Judgement
 judge_syn_by None x y s = judge_first_syn x y s
 judge_syn_by (Some first) x y s = if first_of s == first then judge_syn_again x y s else Dropped Syn
 
+-- A SYN doesn't end what it begins: with FIN, hosts drop it.
 abbrev pub judge_syn : Host → Host → Segment → Judgement
-judge_syn x y s = judge_syn_by x.first x y s
+judge_syn x y s = if ends s then Dropped Syn else judge_syn_by x.first x y s
 
 -- What the receiver y does with a segment of the sender x, by how far the stream of x came.
 abbrev pub judge : Host → Host → Front → Segment → Judgement
 judge x y f s =
     if is_damaged x y s.checksum (length s.payload.now) then Dropped reason.Checksum
-    else if breaks s then (if is_reset_taken x y f s then Taken else Dropped Reset)
+    else if breaks s then judge_reset x y f s
     else if begins s then judge_syn x y s
     else judge_open x y f s

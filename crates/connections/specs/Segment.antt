@@ -45,10 +45,12 @@ is_refused Right = false
 is_refused Partial = false
 is_refused Wrong = false
 
--- A connection may begin with it: it is a SYN or a SYN-ACK, or has data that its receiver may take.
+-- A connection may begin with it: it is a SYN or a SYN-ACK without FIN, or has data that its
+-- receiver may take.
 abbrev pub begins_one : Segment → Bool
 begins_one s = not (breaks s)
-    && (not (is_refused s.checksum) && ((begins s || acknowledges s) && begins_stream s))
+    && (not (begins s && ends s)
+    && (not (is_refused s.checksum) && ((begins s || acknowledges s) && begins_stream s)))
 
 -- The segment without its data.
 abbrev pub header_of : Segment → Header

@@ -112,7 +112,7 @@ impl Host {
     }
 
     /// Returns the timestamp behind a segment: the latest of a segment that doesn't begin beyond
-    /// the receiver's acknowledgement (RFC 7323, section 4.3).
+    /// the receiver's acknowledgement (RFC 7323, section 4.3). Any is later than one of 0.
     fn clock_behind(&self, receiver: &Host, segment: &Segment<'_>) -> Option<u32>
         ensures { result ≡ clock_behind_of self.now receiver.now segment.now }
     {
@@ -124,7 +124,7 @@ impl Host {
             None => false,
         };
         let is_old = match self.clock {
-            Some(recent) => is_behind(recent, clock),
+            Some(recent) => recent != 0 && is_behind(recent, clock),
             None => false,
         };
         if is_early || is_old {

@@ -3,7 +3,7 @@ ghost use Rattle.std.specs.Prelude.{◌≡◌, ◌<◌, ◌≤◌, ◌^◌, IfSo
 ghost use Rattle.connections.specs.Connection.{held_by};
 ghost use Rattle.std.specs.Option.{option_map};
 ghost use Rattle.connections.specs.Table.{at, others};
-ghost use Rattle.connections.specs.Memory.{closed_count, closed_part, is_crowded as crowded, most_of, most_weight, open_part, total, FitsClosed, IsAccounted, IsSettled, IsTakenOut};
+ghost use Rattle.connections.specs.Memory.{closed_count, closed_part, is_over_limit as over_limit, most_of, most_weight, open_part, total, FitsClosed, IsAccounted, IsSettled, IsTakenOut};
 
 use crate::by_five_tuple::ByFiveTuple;
 use crate::connection::{Attachment, CONNECTION_COST, Connection};
@@ -44,7 +44,7 @@ fn count_of_closed(limit: usize) -> usize
 }
 
 /// Forgets the connections that were closed first, until the others fit in a limit.
-fn forget_crowded(closed: &mut ByFiveTuple<u64>, limit: usize)
+fn evict_closed(closed: &mut ByFiveTuple<u64>, limit: usize)
     ensures fits { FitsClosed limit closed.old.entries closed.new.entries }
     ensures cap { closed.new.cap ≡ closed.old.cap }
 {
@@ -132,8 +132,8 @@ impl<T: Attachment> Connections<T> {
 
     /// Returns whether the accounted memory exceeds `limit`, in bytes. Closed connections may take
     /// an eighth of it.
-    pub fn is_crowded(&self, limit: usize) -> bool
-        ensures { result ≡ crowded limit self.now }
+    pub fn is_over_limit(&self, limit: usize) -> bool
+        ensures { result ≡ over_limit limit self.now }
     {
         self.held > part_of_open(limit) || self.closed.len() > count_of_closed(limit)
     }
@@ -142,9 +142,9 @@ impl<T: Attachment> Connections<T> {
     /// `limit`. Closed connections that exceed theirs are forgotten, the first closed first.
     ///
     /// Call it until it returns `None`. Then the open connections are within the limit.
-    pub fn take_crowded(&mut self, limit: usize) -> Option<Box<Connection<T>>>
+    pub fn take_evicted(&mut self, limit: usize) -> Option<Box<Connection<T>>>
         ensures taken { IfSome result (λ b. IsTakenOut self.old self.new b.value) }
-        ensures crowded { IfSome result (λ b. open_part limit < self.old.held) }
+        ensures evicted { IfSome result (λ b. open_part limit < self.old.held) }
         ensures none { IfNone result
             ((self.new.live ≡ self.old.live) × (self.new.held ≡ self.old.held)) }
         ensures within { IfNone result
@@ -152,7 +152,7 @@ impl<T: Attachment> Connections<T> {
         ensures closed { FitsClosed limit self.old.closed self.new.closed }
         ensures accounted { IsAccounted self.old → IsAccounted self.new }
     {
-        forget_crowded(&mut self.closed, limit);
+        evict_closed(&mut self.closed, limit);
         if self.held <= part_of_open(limit) {
             return None;
         }

@@ -1,6 +1,6 @@
 //! What the receiver of a segment does with it (RFC 9293, section 3.10.7.4; RFC 5961; RFC 7323).
 ghost use Rattle.std.specs.Prelude.{◌≡◌};
-ghost use Rattle.connections.specs.Receiver.{answers_to as answers_to_sent, awaited as awaited_by, edge_of as edge_for, has_old_clock as has_old_clock_at, is_ahead_by as is_ahead_of_by, is_behind_fin as is_behind_fin_at, is_beyond as is_beyond_edge, is_damaged as is_damaged_at, is_far_before as is_far_before_known, is_known as is_known_to, is_of_unsent as is_of_unsent_by, is_past_edge as is_past_edge_of, is_reset_taken, is_signed_apart as is_signed_apart_by, is_stale as is_stale_at, judge as judged, judge_data as judged_data, judge_first_syn as judged_first_syn, judge_open as judged_open, judge_syn as judged_syn, judge_syn_again as judged_syn_again};
+ghost use Rattle.connections.specs.Receiver.{answers_to as answers_to_sent, awaited as awaited_by, edge_of as edge_for, has_old_clock as has_old_clock_at, is_ahead_by as is_ahead_of_by, is_behind_fin as is_behind_fin_at, is_beyond as is_beyond_edge, is_damaged as is_damaged_at, is_far_before as is_far_before_known, is_known as is_known_to, is_of_unsent as is_of_unsent_by, is_past_edge as is_past_edge_of, is_reset_taken, judge_reset as judged_reset, is_signed_apart as is_signed_apart_by, is_stale as is_stale_at, judge as judged, judge_data as judged_data, judge_first_syn as judged_first_syn, judge_open as judged_open, judge_syn as judged_syn, judge_syn_again as judged_syn_again};
 ghost use Rattle.std.specs.Prelude.{length};
 
 use crate::host::{Host, later};
@@ -30,7 +30,7 @@ pub enum DropReason {
     Clock,
     /// It is signed, and its sender's SYN wasn't (RFC 2385, section 2).
     Signature,
-    /// A SYN in the middle of a connection (RFC 5961, section 4.2).
+    /// A SYN in the middle of a connection (RFC 5961, section 4.2), or one with FIN.
     Syn,
     /// An RST with a number other than the next (RFC 5961, section 3.2).
     Reset,
@@ -89,7 +89,8 @@ fn is_signed_apart(sender: &Host, segment: &Segment<'_>) -> bool
     segment.options.is_signed && sender.first.is_some() && !sender.offers.is_signed
 }
 
-/// Returns whether both ends use timestamps, and the segment's is older than one that was taken.
+/// Returns whether both ends use timestamps, and the segment's is older than the last that was
+/// taken, if that isn't 0.
 fn has_old_clock(sender: &Host, receiver: &Host, segment: &Segment<'_>) -> bool
     ensures { result ≡ has_old_clock_at sender.now receiver.now segment.now }
 {
@@ -97,7 +98,7 @@ fn has_old_clock(sender: &Host, receiver: &Host, segment: &Segment<'_>) -> bool
         return false;
     }
     match (sender.clock, segment.options.clock) {
-        (Some(recent), Some(clock)) => advance(recent, clock) > 1,
+        (Some(recent), Some(clock)) => recent != 0 && advance(recent, clock) > 1,
         _ => false,
     }
 }
@@ -176,13 +177,14 @@ pub(crate) fn is_behind_fin(sender: &Host, segment: &Segment<'_>) -> bool
     }
 }
 
-/// Returns whether the segment acknowledges much less than its sender did before.
+/// Returns whether the segment acknowledges less than its sender did before, by more than the
+/// largest window that the sender offered (RFC 5961, section 5.2).
 fn is_stale(sender: &Host, receiver: &Host, segment: &Segment<'_>) -> bool
     ensures { result ≡ is_stale_at sender.now receiver.now segment.now }
 {
     let number = segment.acknowledgment;
     is_ahead_by(0, receiver.first, number)
-        || is_ahead_by(sender.widest.max(MAX_WINDOW), sender.acknowledged, number)
+        || is_ahead_by(sender.widest, sender.acknowledged, number)
 }
 
 /// Returns whether the segment acknowledges what its receiver isn't known to have sent.
@@ -247,8 +249,9 @@ fn judge_open(sender: &Host, receiver: &Host, front: Front, segment: &Segment<'_
     judge_data(sender, receiver, front, segment)
 }
 
-/// Returns whether the receiver takes an RST: it has the next number. If both sides agreed on
-/// selective acknowledgements, the number behind all that came is taken too.
+/// Returns whether the receiver takes an RST: it has the next sequence number, in which a SYN flag
+/// doesn't count. If both sides agreed on selective acknowledgements, the number behind all that
+/// came is taken too.
 fn takes_reset(sender: &Host, receiver: &Host, front: Front, segment: &Segment<'_>) -> bool
     ensures { result ≡ is_reset_taken sender.now receiver.now front segment.now }
 {
@@ -260,7 +263,22 @@ fn takes_reset(sender: &Host, receiver: &Host, front: Front, segment: &Segment<'
     };
     let reached = front.reached.unwrap_or(next);
     let selects = sender.offers.selects && receiver.offers.selects;
-    segment.first() == later(receiver.acknowledged, reached) || (selects && segment.first() == next)
+    let number = segment.sequence;
+    number == later(receiver.acknowledged, reached) || (selects && number == next)
+}
+
+/// Returns what the receiver does with an RST.
+fn judge_reset(sender: &Host, receiver: &Host, front: Front, segment: &Segment<'_>) -> Judgement
+    ensures { result ≡ judged_reset sender.now receiver.now front segment.now }
+{
+    if is_signed_apart(sender, segment) {
+        return Judgement::Dropped(DropReason::Signature);
+    }
+    if takes_reset(sender, receiver, front, segment) {
+        Judgement::Taken
+    } else {
+        Judgement::Dropped(DropReason::Reset)
+    }
 }
 
 /// Returns whether a SYN-ACK acknowledges what the receiver sent.
@@ -301,10 +319,13 @@ fn judge_syn_again(sender: &Host, receiver: &Host, segment: &Segment<'_>) -> Jud
     Judgement::Again
 }
 
-/// Returns what the receiver does with a SYN.
+/// Returns what the receiver does with a SYN. It drops one with FIN.
 fn judge_syn(sender: &Host, receiver: &Host, segment: &Segment<'_>) -> Judgement
     ensures { result ≡ judged_syn sender.now receiver.now segment.now }
 {
+    if segment.ends() {
+        return Judgement::Dropped(DropReason::Syn);
+    }
     match sender.first {
         None => judge_first_syn(sender, receiver, segment),
         Some(first) if segment.first() == first => judge_syn_again(sender, receiver, segment),
@@ -325,11 +346,7 @@ pub fn judge(sender: &Host, receiver: &Host, front: Front, segment: &Segment<'_>
         return Judgement::Dropped(DropReason::Checksum);
     }
     if segment.breaks() {
-        return if takes_reset(sender, receiver, front, segment) {
-            Judgement::Taken
-        } else {
-            Judgement::Dropped(DropReason::Reset)
-        };
+        return judge_reset(sender, receiver, front, segment);
     }
     if segment.begins() {
         return judge_syn(sender, receiver, segment);

@@ -44,7 +44,7 @@ pub struct Options {
     pub size: Option<u16>,
     /// Whether the sender accepts selective acknowledgements (RFC 2018, section 2).
     pub selects: bool,
-    /// Whether the segment is signed (RFC 2385; RFC 5925).
+    /// Whether the segment is signed (RFC 2385).
     pub is_signed: bool,
 }
 
@@ -205,12 +205,13 @@ impl<'a> Segment<'a> {
         self.begins() || self.payload.len() > 1
     }
 
-    /// Returns whether a connection may begin with it: it is a SYN or a SYN-ACK, or has data that
-    /// its receiver may take.
+    /// Returns whether a connection may begin with it: it is a SYN or a SYN-ACK without FIN, or has
+    /// data that its receiver may take.
     pub(crate) fn begins_one(&self) -> bool
         ensures { result ≡ begins_one self.now }
     {
         !self.breaks()
+            && !(self.begins() && self.ends())
             && self.checksum != Checksum::Refused
             && (self.begins() || self.acknowledges())
             && self.begins_stream()

@@ -10,11 +10,14 @@ use std::alloc::{AllocError, Global};
 
 impl<T: Attachment> Connection<T> {
     /// Returns whether a dropped segment is kept, since another connection may begin with it: a SYN
-    /// whose numbers are far from this connection's.
+    /// without FIN whose numbers are far from this connection's.
     fn keeps_syn(&self, segment: &Segment<'_>, reason: DropReason) -> bool
         ensures { result ≡ keeps_syn reason segment.now self.now }
     {
-        segment.begins() && reason != DropReason::Checksum && self.is_apart(segment)
+        segment.begins()
+            && !segment.ends()
+            && reason != DropReason::Checksum
+            && self.is_apart(segment)
     }
 
     /// Removes the SYN that was kept before one of the same kind, and counts it as dropped.

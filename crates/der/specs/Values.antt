@@ -17,10 +17,14 @@ abbrev pub or_false : Option Bool → Bool
 or_false (Some b) = b
 or_false None = false
 
--- BOOLEAN DEFAULT FALSE. An explicit FALSE is accepted; DER forbids it (X.690, section 11.5), but
--- certificates have it.
+-- BOOLEAN in BER: one byte, 0 for FALSE and any other for TRUE (X.690, section 8.2.2).
+unfoldable pub ber_boolean : Layout Bool
+ber_boolean = mapped (λ n. not (n == 0)) (number 1)
+
+-- BOOLEAN DEFAULT FALSE. An explicit FALSE and BER's TRUE are accepted; DER forbids them (X.690,
+-- sections 11.1 and 11.5), but certificates have them.
 unfoldable pub default_false : Layout Bool
-default_false = mapped or_false (optional 1 boolean)
+default_false = mapped or_false (optional 1 ber_boolean)
 
 -- No fewer bytes encode it: the first nine bits aren't all the same (X.690, section 8.3.2).
 abbrev pub is_shortest : Bytes → Bool

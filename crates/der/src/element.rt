@@ -6,7 +6,7 @@ ghost use Rattle.std.specs.Option.{option_map};
 ghost use Rattle.layouts.specs.Bytes.{Bytes};
 ghost use Rattle.layouts.specs.Answers.{Gives};
 ghost use Rattle.layouts.specs.Items.{items_in};
-ghost use Rattle.layouts.specs.Layout.{complete, rest as rest_layout};
+ghost use Rattle.layouts.specs.Layout.{complete, list as list_layout, rest as rest_layout};
 ghost use Rattle.der.specs.Element.{whole as whole_layout, tagged as tagged_layout, optional as optional_layout, optional_element as optional_element_layout};
 ghost use Rattle.der.specs.Element.{Element as PlainElement, view_element, element, element_bytes as element_bytes_layout, items_of};
 
@@ -172,5 +172,26 @@ impl<'a, T: InPlace<'a>> InPlace<'a> for ItemsOf<'a, T> {
         let items = Items::new(i);
         let (i, _) = rest(i)?;
         Ok((i, items))
+    }
+}
+
+/// The items of a content that consists of items only, parsed again while iterating (SEQUENCE OF,
+/// SET OF).
+///
+/// As a content of [`tagged`] it refuses with kind `LengthValue` if an item can't be parsed.
+pub struct ListOf<'a, T>(PhantomData<Items<'a, T>>);
+
+impl<'a, T: InPlace<'a>> InPlace<'a> for ListOf<'a, T> {
+    type Read = Items<'a, T>;
+
+    ghost Value = { List T.InPlace.Value };
+
+    ghost view = { λ v. items_in T.InPlace.layout v.bytes.now };
+
+    ghost layout = { list_layout T.InPlace.layout };
+
+    fn read(i: &'a [u8]) -> IResult<&'a [u8], Items<'a, T>> {
+        let items = Items::new(i);
+        Ok((items.rest(), items))
     }
 }

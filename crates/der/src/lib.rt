@@ -17,8 +17,10 @@ pub mod tag;
 mod time;
 mod value;
 
-pub use element::{AllBytes, Element, ItemsOf, element_bytes, optional, optional_element, tagged};
+pub use element::{
+    AllBytes, Element, ItemsOf, ListOf, element_bytes, optional, optional_element, tagged,
+};
 pub use identifier::{ArcNumber, Arcs, ObjectIdentifier, object_identifier};
 pub use length::der_length;
 pub use time::{GeneralizedTime, UtcTime};
-pub use value::{BitString, Boolean, Integer, default_false};
+pub use value::{BerBoolean, BitString, Boolean, Integer, default_false};

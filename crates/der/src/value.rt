@@ -4,7 +4,7 @@
 ghost use Rattle.std.specs.Prelude.{◌≡◌, ◌+◌, ◌*◌, ◌^◌, ◌≤◌, Bool, length, nat_lt};
 ghost use Rattle.layouts.specs.Bytes.{Bytes};
 ghost use Rattle.layouts.specs.Answers.{Gives};
-ghost use Rattle.der.specs.Values.{boolean, default_false as default_false_layout, integer, is_shortest as is_shortest_of, BitString as PlainBitString, view_bit_string, bit_string, is_padding as is_padding_of, bit_of};
+ghost use Rattle.der.specs.Values.{ber_boolean, boolean, default_false as default_false_layout, integer, is_shortest as is_shortest_of, BitString as PlainBitString, view_bit_string, bit_string, is_padding as is_padding_of, bit_of};
 
 use crate::element::optional;
 use crate::tag;
@@ -35,15 +35,37 @@ impl<'a> InPlace<'a> for Boolean {
     }
 }
 
+/// The content of a BOOLEAN in BER: TRUE is any byte but 0 (X.690, section 8.2.2).
+///
+/// `Incomplete` with count 1 if it is empty.
+pub struct BerBoolean;
+
+impl<'a> InPlace<'a> for BerBoolean {
+    type Read = bool;
+
+    ghost Value = { Bool };
+
+    ghost view = { λ v. v };
+
+    ghost layout = { ber_boolean };
+
+    #[tactic(auto, using(layouts::proofs::OneAnswerLemmas::read_allowed), unfolding(crate::specs::Values::ber_boolean))]
+    fn read(i: &'a [u8]) -> IResult<&'a [u8], bool> {
+        let (i, n) = number1(i)?;
+        Ok((i, n != 0))
+    }
+}
+
 /// Parses a BOOLEAN DEFAULT FALSE: `false` if no BOOLEAN is next.
 ///
-/// An explicit FALSE is accepted; DER forbids it (X.690, section 11.5), but certificates have it.
-/// It refuses what [`crate::tagged`] and [`Boolean`] do.
+/// An explicit FALSE and BER's other bytes for TRUE are accepted: DER forbids them (X.690, sections
+/// 11.1 and 11.5), but certificates have them. It refuses what [`crate::tagged`] and [`BerBoolean`]
+/// do.
 #[tactic(auto, using(layouts::proofs::OneAnswerLemmas::read_allowed), unfolding(crate::specs::Values::default_false))]
 pub fn default_false(i: &[u8]) -> IResult<&[u8], bool>
     ensures { Gives (λ v. v) default_false_layout i.now result }
 {
-    let (i, value) = optional::<Boolean>(i, tag::BOOLEAN)?;
+    let (i, value) = optional::<BerBoolean>(i, tag::BOOLEAN)?;
     match value {
         Some(value) => Ok((i, value)),
         None => Ok((i, false)),

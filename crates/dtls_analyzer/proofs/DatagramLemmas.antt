@@ -90,6 +90,7 @@ client_reads k t b q r receives same is =
       handshake = ap (λ (x : Observed). x.handshake) emitted;
       history = ap (λ (x : Observed). x.history) emitted;
       is_dtls = is.is_dtls;
+      longest = is.longest;
     }
 
 pub server_reads : (k : Analyzer) (t : DatagramAnalyzer) (b : Account) (q : DatagramSide)
@@ -111,6 +112,7 @@ server_reads k t b q r receives same is =
       handshake = ap (λ (x : Observed). x.handshake) emitted;
       history = ap (λ (x : Observed). x.history) emitted;
       is_dtls = is.is_dtls;
+      longest = is.longest;
     }
 
 -- The answer of a call, for either side.
@@ -177,6 +179,7 @@ client_begins k t s f q at begins is =
       handshake = is.handshake;
       history = is.history;
       is_dtls = is.is_dtls;
+      longest = is.longest;
     })
 
 pub server_begins : (k : Analyzer) (t : DatagramAnalyzer) (s : Side) (f : Fragment)
@@ -194,4 +197,5 @@ server_begins k t s f q at begins is =
       handshake = is.handshake;
       history = is.history;
       is_dtls = is.is_dtls;
+      longest = is.longest;
     })

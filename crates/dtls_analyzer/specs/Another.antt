@@ -14,7 +14,7 @@ use Rattle.tls_flow.specs.declared.state.Outcome.{Outcome}
 use Rattle.tls_flow.specs.declared.state.Outcome.TheVariants as outcome
 use Rattle.dtls_analyzer.specs.DatagramRecords.{is_known}
 use Rattle.dtls_analyzer.specs.Datagrams.{Analyzer, first_fragment}
-use Rattle.tls_observer.specs.Ends.{is_established}
+use Rattle.tls_observer.specs.Ends.{is_complete}
 
 abbrev pub random_in : Answer ClientHello → Option Bytes
 random_in (Ok x) = Some x.0.hello.random
@@ -47,7 +47,7 @@ is_broken_off _ = false
 
 -- The handshake ended, with success or by an alert.
 abbrev pub has_ended : Outcome → Bool
-has_ended o = is_established o || is_broken_off o
+has_ended o = is_complete o || is_broken_off o
 
 -- A hello isn't this association's, retransmitted: its random differs.
 abbrev pub is_other : Option hello.ClientHello → Bytes → Bool

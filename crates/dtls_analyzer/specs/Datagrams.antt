@@ -1,6 +1,6 @@
 -- The state of a datagram analyzer, record by record (RFC 6347, RFC 9147). What a peer would drop
 -- changes nothing.
-use Rattle.std.specs.Prelude.{◌≡◌, ℕ, zero, suc, Bool, true, false, not, ◌&&◌, ◌||◌, ◌==◌, nat_lt, is_some, if◌then◌else◌, Option, Some, None, Ok, Err, List, [], ◌∷◌, length}
+use Rattle.std.specs.Prelude.{◌≡◌, ℕ, zero, suc, max, Bool, true, false, not, ◌&&◌, ◌||◌, ◌==◌, nat_lt, is_some, if◌then◌else◌, Option, Some, None, Ok, Err, List, [], ◌∷◌, length}
 use Rattle.std.specs.Str.{bytes_eq}
 use Rattle.layouts.specs.Bytes.{Bytes}
 use Rattle.layouts.specs.Meaning.{Answer}
@@ -19,10 +19,11 @@ use Rattle.tls_flow.specs.declared.symbol.Direction.TheVariants.{ToServer, FromS
 use Rattle.dtls_stream.specs.FlowEvents.{event_in_datagram_with, kind_in_datagram, message_in_datagram}
 use Rattle.tls_flow.specs.Bytes.{HandshakeMessage}
 use Rattle.tls_flow.specs.declared.symbol.Kind.{Kind}
+use Rattle.tls_flow.specs.declared.symbol.Kind.TheVariants as kind
 use Rattle.tls_flow.specs.declared.state.Outcome.{Outcome}
-use Rattle.tls_summary.specs.HandshakeSummary.{HandshakeSummary, nothing, of_alert, of_datagrams, view_summary}
+use Rattle.tls_summary.specs.HandshakeSummary.{HandshakeSummary, is_stray, nothing, of_alert, of_datagrams, view_summary}
 use Rattle.raw_records.specs.Ciphertext.{Ciphertext, ciphertext}
-use Rattle.tls_observer.specs.Ends.{is_13}
+use Rattle.tls_observer.specs.Ends.{has_finished, is_13}
 use Rattle.tls_stream.specs.Events.{default_limit}
 use Rattle.tls_summary.specs.Fields.{client_session_id, connection_id_length, offers_ticket, server_session_id}
 use Rattle.dtls_analyzer.specs.DatagramRecords.{is_known}
@@ -68,6 +69,25 @@ followed_with s f e k = followed_by f (event_in_datagram_with s e k)
 
 abbrev pub followed : Side → Flow → Event → Flow
 followed s f e = followed_with s f e (kind_in_datagram e)
+
+-- The flow after an event of this side, given the summary before it. A hello that doesn't belong to
+-- the handshake is no step: so the handshake goes on if the question for a second hello was lost.
+abbrev pub advanced_with : Side → Flow → HandshakeSummary → Event → Kind → Flow
+advanced_with s f h e k = if is_stray s k h then f else followed_with s f e k
+
+abbrev pub advanced : Side → Flow → HandshakeSummary → Event → Flow
+advanced s f h e = advanced_with s f h e (kind_in_datagram e)
+
+-- A HelloVerifyRequest (RFC 6347, section 4.2.1) or a HelloRetryRequest answers a hello that wasn't
+-- captured. It is dropped: the handshake begins with the hello that it asks for.
+abbrev pub is_question : Kind → Bool
+is_question kind.HelloVerifyRequest = true
+is_question kind.HelloRetryRequest = true
+is_question k = false
+
+abbrev pub asks_unseen : Side → HandshakeSummary → Event → Bool
+asks_unseen ToServer h e = false
+asks_unseen FromServer h e = not (is_some h.client) && is_question (kind_in_datagram e)
 
 -- What both sides have sent, and how far one of them has come: whether it has sent its
 -- ChangeCipherSpec, and whether it has sent an encrypted record.
@@ -117,7 +137,7 @@ awaits_change s t = not t.has_changed && is_some t.handshake.server
 
 abbrev pub with_event : Side → Observed → Event → Observed
 with_event s t e = record {
-  flow = followed s t.flow e;
+  flow = advanced s t.flow t.handshake e;
   handshake = noted_in_datagram s t.handshake e;
   history = with_letter s t.history (letter_in_datagram e);
   has_changed = t.has_changed || is_change e;
@@ -126,7 +146,9 @@ with_event s t e = record {
 
 -- An event of the side.
 abbrev pub observed : Side → Observed → Event → Observed
-observed s t e = if is_change e && not (awaits_change s t) then t else with_event s t e
+observed s t e =
+    if (is_change e && not (awaits_change s t)) || asks_unseen s t.handshake e then t
+    else with_event s t e
 
 -- Events of the side, in order.
 abbrev pub observed_all : Side → Observed → List Event → Observed
@@ -155,6 +177,8 @@ pub record Analyzer : Type 0 where
   pub history : List ℕ
   -- whether a datagram began with a record of DTLS of epoch 0
   pub is_dtls : Bool
+  -- the length of the client's longest encrypted record of DTLS 1.3, without early data
+  pub longest : ℕ
 
 abbrev pub no_side_progress : SideProgress
 no_side_progress =
@@ -177,6 +201,7 @@ nothing_observed = record {
       nothing;
   history = [];
   is_dtls = false;
+  longest = 0;
 }
 
 abbrev pub side_progress : Analyzer → Side → SideProgress
@@ -293,24 +318,40 @@ abbrev pub record_received : Analyzer → Side → RawRecord → Analyzer
 record_received k s r =
     record_received_in (record k { is_dtls = k.is_dtls || r.header.epoch == 0 }) s r
 
--- The bytes are an encrypted record of DTLS 1.3 (RFC 9147, section 4).
-abbrev pub is_sealed_record : Answer Ciphertext → Bool
-is_sealed_record (Ok x) = true
-is_sealed_record (Err e) = false
+-- The encrypted record of DTLS 1.3 that the bytes begin with (RFC 9147, section 4).
+abbrev pub sealed_record : Answer Ciphertext → Option Ciphertext
+sealed_record (Ok x) = Some x.0
+sealed_record (Err e) = None
 
 -- If a record in the form of DTLS 1.3 comes next, and DTLS 1.3 was negotiated, the side is
 -- encrypted. A record that comes before its peer knows that is dropped.
-abbrev pub is_sealed_next : Analyzer → Side → Bytes → Bool
-is_sealed_next k s b =
-    is_13 (outcome_at k.flow.state)
-    && is_sealed_record (reading (ciphertext (connection_id_length s k.handshake)) b)
+abbrev pub sealed_next : Analyzer → Side → Bytes → Option Ciphertext
+sealed_next k s b = if is_13 (outcome_at k.flow.state) then
+    sealed_record (reading (ciphertext (connection_id_length s k.handshake)) b) else None
 
 abbrev pub sealed : SideProgress → SideProgress
 sealed p = record p { is_encrypted = true }
 
+-- The client's longest encrypted record. Early data has the epoch 1 (RFC 9147, section 6.1), and
+-- isn't counted.
+abbrev pub longest_with : Side → Ciphertext → ℕ → ℕ
+longest_with ToServer c n =
+    if c.header.epoch_bits == 1 then n else max n (length c.encrypted_record)
+longest_with FromServer c n = n
+
+abbrev pub sealed_with : Option Ciphertext → Analyzer → Side → Analyzer
+sealed_with None k s = k
+sealed_with (Some c) k s =
+    with_side_progress (record k { longest = longest_with s c k.longest }) s
+    (sealed (side_progress k s))
+
 abbrev pub sealed_by : Analyzer → Side → Bytes → Analyzer
-sealed_by k s b = if is_sealed_next k s b then with_side_progress k s (sealed (side_progress k s))
-    else k
+sealed_by k s b = sealed_with (sealed_next k s b) k s
+
+-- The client has sent a record that can hold its Finished. So can an ACK of three or more records
+-- (RFC 9147, section 7), which can't be told from one.
+abbrev pub has_finished_by : Analyzer → Bool
+has_finished_by k = has_finished 12 k.handshake k.longest
 
 abbrev pub next_received : Answer RawRecord → Analyzer → Side → Bytes
     → (Analyzer → Bytes → Analyzer) → Analyzer
@@ -351,6 +392,7 @@ pub record IsKnown (k : Analyzer) (t : DatagramAnalyzer) : Type 0 where
   pub handshake : view_summary t.account.handshake ≡ k.handshake
   pub history : t.account.history.items ≡ k.history
   pub is_dtls : t.is_dtls ≡ k.is_dtls
+  pub longest : t.longest ≡ k.longest
 
 abbrev pub datagram_side_of : DatagramAnalyzer → Side → DatagramSide
 datagram_side_of t ToServer = t.client

@@ -1,3 +1,4 @@
 pub mod Datagrams
 pub mod Another
 pub mod DatagramRecords
+pub mod Senders

@@ -3,10 +3,11 @@ ghost use Rattle.std.specs.Prelude.{◌≡◌, OnOk};
 ghost use Rattle.std.specs.Option.{option_map};
 ghost use Rattle.tls_flow.specs.Bytes.{view_handshake_message};
 ghost use Rattle.dtls_stream.specs.Messages.{view_event, view_events};
+ghost use Rattle.dtls_stream.specs.FlowEvents.{kind_in_datagram};
 ghost use Rattle.tls_summary.specs.HandshakeSummary.{view_summary};
 ghost use Rattle.tls_observer.specs.History.{letter_in_datagram, with_letter};
 ghost use Rattle.tls_flow.specs.Table.{is_failed as is_failure, is_waiting as is_still};
-ghost use Rattle.dtls_analyzer.specs.Datagrams.{awaits_change as awaits, behind_change as stands_behind_change, followed, followed_with, has_come_to_change as comes_to_change, is_change as changes, is_sealed as seals, may_resume as takes_session, noted_in_datagram, noted_in_datagram_with, observed, observed_all, with_event, observed_of};
+ghost use Rattle.dtls_analyzer.specs.Datagrams.{advanced, advanced_with, asks_unseen as asks_unseen_by, is_question as asks_again, awaits_change as awaits, behind_change as stands_behind_change, followed, followed_with, has_come_to_change as comes_to_change, is_change as changes, is_sealed as seals, may_resume as takes_session, noted_in_datagram, noted_in_datagram_with, observed, observed_all, with_event, observed_of};
 
 use dtls_stream::{Event, datagram_message, dtls_event_with};
 use std::alloc::{AllocError, Global};
@@ -80,6 +81,49 @@ fn follow(flow: &mut Flow, event: &Event<'_>, kind: Kind, side: Direction)
     }
 }
 
+/// Follows an event as [`follow`] does, unless the summary before it shows that it is a hello that
+/// doesn't belong to the handshake.
+fn advance(
+    flow: &mut Flow,
+    handshake: &HandshakeSummary,
+    event: &Event<'_>,
+    kind: Kind,
+    side: Direction,
+)
+    ensures { flow.new ≡ advanced_with side flow.old (view_summary handshake.now)
+        (view_event event.now) kind }
+{
+    if !handshake.is_stray(side, kind) {
+        follow(flow, event, kind, side);
+    }
+}
+
+/// The kind of an event's handshake message.
+fn kind_of(event: &Event<'_>) -> Kind
+    ensures { result ≡ kind_in_datagram (view_event event.now) }
+{
+    let message = datagram_message(event);
+    let kind = Kind::of_datagrams(message.as_ref());
+    kind
+}
+
+/// Whether a message asks for another ClientHello.
+fn is_question(kind: Kind) -> bool
+    ensures { result ≡ asks_again kind }
+{
+    matches!(kind, Kind::HelloVerifyRequest | Kind::HelloRetryRequest)
+}
+
+/// Whether a message of the server asks for another ClientHello when the first one wasn't captured.
+fn asks_unseen(handshake: &HandshakeSummary, side: Direction, event: &Event<'_>) -> bool
+    ensures { result ≡ asks_unseen_by side (view_summary handshake.now) (view_event event.now) }
+{
+    if matches!(side, Direction::ToServer) || handshake.client.is_some() {
+        return false;
+    }
+    is_question(kind_of(event))
+}
+
 /// Whether the handshake hasn't ended yet.
 fn is_waiting(outcome: Outcome) -> bool
     ensures { result ≡ is_still outcome }
@@ -149,7 +193,8 @@ impl Account {
         observer: &mut W,
     ) -> Result<(), AllocError>
         ensures flow { OnOk result
-            (self.new.flow ≡ followed side self.old.flow (view_event event.now)) }
+            (self.new.flow ≡ advanced side self.old.flow (view_summary self.old.handshake)
+            (view_event event.now)) }
         ensures handshake { OnOk result
             (view_summary self.new.handshake ≡ noted_in_datagram side
             (view_summary self.old.handshake) (view_event event.now)) }
@@ -159,6 +204,7 @@ impl Account {
     {
         let message = datagram_message(event);
         let kind = Kind::of_datagrams(message.as_ref());
+        advance(&mut self.flow, &self.handshake, event, kind, side);
         let known = observer.certificate_cache();
         note(
             &mut self.handshake,
@@ -168,7 +214,6 @@ impl Account {
             message.as_ref(),
             known,
         )?;
-        follow(&mut self.flow, event, kind, side);
         add_letter(&mut self.history, side, datagram_letter(event, kind))?;
         observer.on_datagram_event(side, event, message.as_ref())?;
         Ok(())
@@ -194,7 +239,8 @@ impl Account {
     }
 
     /// Adds an event of a side. A ChangeCipherSpec is dropped if the handshake hasn't reached it,
-    /// or if it is a retransmission (RFC 6347, section 4.2.4).
+    /// or if it is a retransmission (RFC 6347, section 4.2.4). So is a HelloVerifyRequest or a
+    /// HelloRetryRequest before any ClientHello.
     fn add<W: Observer>(
         &mut self,
         alloc: Global,
@@ -208,6 +254,9 @@ impl Account {
             (view_event event.now)) }
     {
         if is_change(event) && !self.awaits_change(side, progress) {
+            return Ok(());
+        }
+        if asks_unseen(&self.handshake, side, event) {
             return Ok(());
         }
         self.observe(alloc, side, progress, event, observer)

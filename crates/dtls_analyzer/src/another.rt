@@ -17,7 +17,7 @@ use layouts::InPlace;
 use raw_records::{DTLSRawRecord, read_record};
 use tls_base::TlsHandshakeType;
 use tls_flow::Outcome;
-use tls_observer::ends::is_established;
+use tls_observer::ends::is_complete;
 use tls_summary::HandshakeSummary;
 
 /// Whether this is a whole ClientHello, and the first message of its sender.
@@ -69,7 +69,7 @@ fn first_random(datagram: &[u8]) -> Option<&[u8]>
 pub(crate) fn has_ended(outcome: Outcome) -> bool
     ensures { result ≡ ended outcome }
 {
-    is_established(outcome) || matches!(outcome, Outcome::BrokenOff)
+    is_complete(outcome) || matches!(outcome, Outcome::BrokenOff)
 }
 
 /// Whether a random differs from that of the association's ClientHello.

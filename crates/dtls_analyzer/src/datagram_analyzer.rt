@@ -1,12 +1,14 @@
 //! The analyzer of a DTLS conversation.
 ghost use Rattle.std.specs.Prelude.{◌≡◌, IfOk, OnOk};
+ghost use Rattle.std.specs.Option.{option_map};
+ghost use Rattle.raw_records.specs.Ciphertext.{view_ciphertext};
 ghost use Rattle.raw_records.specs.RawDtlsRecord.{view_raw_record};
 ghost use Rattle.dtls_stream.specs.Fragments.{view_fragment};
 ghost use Rattle.tls_stream.specs.Conversations.{views};
 ghost use Rattle.tls_summary.specs.HandshakeSummary.{view_summary};
 ghost use Rattle.tls_flow.specs.Table.{outcome_at};
 ghost use Rattle.dtls_analyzer.specs.Another.{begins_another as another_begins};
-ghost use Rattle.dtls_analyzer.specs.Datagrams.{IsKnown, Analyzer, begun, first_fragment as first, received, received_all, is_late as is_late_in, is_over as is_over_in, is_sealed_next as sealed_next, record_received, sealed_by, datagram_side_of, side_progress, taken, takes as is_taken, nothing_observed, with_side_progress};
+ghost use Rattle.dtls_analyzer.specs.Datagrams.{IsKnown, Analyzer, begun, first_fragment as first, received, received_all, is_late as is_late_in, is_over as is_over_in, has_finished_by, longest_with as longest_by, sealed_next, record_received, sealed_by, datagram_side_of, side_progress, taken, takes as is_taken, nothing_observed, with_side_progress};
 ghost use Rattle.tls_observer.specs.Ends.{is_13 as is_13_by, is_established as established_by, is_resumed as resumed_by};
 
 use crate::account::Account;
@@ -14,11 +16,22 @@ use crate::another::{has_ended, has_other_hello};
 use crate::datagram_records::is_known;
 use crate::datagram_side::{DatagramSide, first_fragment, is_hello};
 use dtls_stream::Fragment;
-use raw_records::{DTLSRawRecord, parse_dtls13_ciphertext, read_record};
+use raw_records::{DTLSCiphertext, DTLSRawRecord, parse_dtls13_ciphertext, read_record};
 use std::alloc::{AllocError, Global};
 use tls_flow::{Direction, Flow, Outcome, Stop};
 use tls_observer::{NoObserver, Observer, ends, of_handshake};
 use tls_summary::HandshakeSummary;
+
+/// The length of the client's longest encrypted record, with this one of a side. Early data has the
+/// epoch 1 (RFC 9147, section 6.1), and isn't counted.
+fn longest_with(side: Direction, record: &DTLSCiphertext<'_>, longest: usize) -> usize
+    ensures { result ≡ longest_by side (view_ciphertext record.now) longest }
+{
+    if matches!(side, Direction::FromServer) || record.header.epoch_bits == 1 {
+        return longest;
+    }
+    longest.max(record.encrypted_record.len())
+}
 
 /// Analyzes both sides of a DTLS conversation (RFC 6347, RFC 9147), datagram by datagram: whether
 /// they speak DTLS, and what they send in the clear. What a peer would drop changes nothing.
@@ -28,6 +41,8 @@ pub struct DatagramAnalyzer {
     server: DatagramSide,
     account: Account,
     is_dtls: bool,
+    // The length of the client's longest encrypted record of DTLS 1.3, without early data.
+    longest: usize,
 }
 
 impl DatagramAnalyzer {
@@ -44,6 +59,7 @@ impl DatagramAnalyzer {
                 history: Vec::new(alloc),
             },
             is_dtls: false,
+            longest: 0,
         }
     }
 
@@ -91,12 +107,25 @@ impl DatagramAnalyzer {
         self.account.flow.stop()
     }
 
-    /// Whether the visible part of the handshake is complete.
+    /// Whether the client of DTLS 1.3 can have sent its Finished.
+    fn has_finished(&self) -> bool
+        ensures { (k : Analyzer) → IsKnown k self.now → result ≡ has_finished_by k }
+    {
+        ends::has_finished(
+            ends::DATAGRAM_MESSAGE_HEADER,
+            &self.account.handshake,
+            self.longest,
+        )
+    }
+
+    /// Whether the handshake is complete. DTLS 1.3 ends it with the client's Finished, which is
+    /// encrypted: there the client has sent an encrypted record, not of epoch 1, that can hold a
+    /// Finished (RFC 9147, sections 5.2 and 6.1). An ACK of three records can too.
     pub fn is_established(&self) -> bool
         ensures { (k : Analyzer) → IsKnown k self.now
-            → result ≡ established_by (outcome_at k.flow.state) }
+            → result ≡ established_by (outcome_at k.flow.state) (has_finished_by k) }
     {
-        ends::is_established(self.outcome())
+        ends::is_established(self.outcome(), self.has_finished())
     }
 
     /// Whether a session was resumed.
@@ -234,15 +263,19 @@ impl DatagramAnalyzer {
         ends::is_13(self.outcome())
     }
 
-    /// Whether the next bytes are an encrypted record of DTLS 1.3, and DTLS 1.3 was negotiated.
-    fn is_sealed_next(&self, side: Direction, bytes: &[u8]) -> bool
-        ensures { (k : Analyzer) → IsKnown k self.now → result ≡ sealed_next k side bytes.now }
+    /// The encrypted record of DTLS 1.3 that comes next, if DTLS 1.3 was negotiated.
+    fn next_sealed<'a>(&self, side: Direction, bytes: &'a [u8]) -> Option<DTLSCiphertext<'a>>
+        ensures { (k : Analyzer) → IsKnown k self.now
+            → option_map view_ciphertext result ≡ sealed_next k side bytes.now }
     {
-        self.is_13()
-            && parse_dtls13_ciphertext(
-                bytes,
-                self.account.handshake.connection_id_len(side),
-            ).is_ok()
+        if !self.is_13() {
+            return None;
+        }
+        let len = self.account.handshake.connection_id_len(side);
+        match parse_dtls13_ciphertext(bytes, len) {
+            Ok((_, record)) => Some(record),
+            Err(_) => None,
+        }
     }
 
     /// Marks the side as encrypted if the next bytes are an encrypted record of DTLS 1.3.
@@ -250,9 +283,10 @@ impl DatagramAnalyzer {
         ensures { (k : Analyzer) → IsKnown k self.old
             → IsKnown (sealed_by k side bytes.now) self.new }
     {
-        if !self.is_sealed_next(side, bytes) {
+        let Some(record) = self.next_sealed(side, bytes) else {
             return;
-        }
+        };
+        self.longest = longest_with(side, &record, self.longest);
         match side {
             Direction::ToServer => self.client.progress.is_encrypted = true,
             Direction::FromServer => self.server.progress.is_encrypted = true,

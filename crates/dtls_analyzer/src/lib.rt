@@ -15,6 +15,8 @@ mod another;
 mod datagram_analyzer;
 mod datagram_records;
 mod datagram_side;
+mod sender;
 
 pub use datagram_analyzer::{DatagramAnalyzer, analyzer_of};
 pub use datagram_records::DatagramRecordCounter;
+pub use sender::hello_direction;

@@ -9,7 +9,7 @@ use Rattle.lru.specs.LruCache.{LruCache, last_entry, put_entries}
 use Rattle.capture.specs.declared.fragment.IpFragment.{IpFragment}
 use Rattle.ip_fragments.specs.Key.{are_keys, key_of}
 use Rattle.ip_fragments.specs.Waiting.{Waiting, IsWith, begun, end_of, is_other_end, is_whole}
-use Rattle.ip_fragments.specs.Table.{AddsAt, Becomes, BeginsAt, HandsOut, Table, at, counted, crowded_in, dropped, dropped_of, found_or_begun, is_late, is_over, its, kept, late_in, left_of, others, put_at, weight, with_other}
+use Rattle.ip_fragments.specs.Table.{AddsAt, Becomes, BeginsAt, HandsOut, Table, at, counted, evicted_in, dropped, dropped_of, found_or_begun, is_late, is_over, its, kept, late_in, left_of, others, put_at, weight, with_other}
 use Rattle.ip_fragments.specs.declared.fragments.FragmentOutcome.{FragmentOutcome}
 use Rattle.ip_fragments.specs.declared.fragments.FragmentOutcome.TheVariants as outcome
 use Rattle.ip_fragments.specs.declared.fragments.Step.{Step}
@@ -196,8 +196,8 @@ module _ (time n : ℕ) (d : Table) where
   pub none_late : d ≡ [] → n < 2 ^ 64 → n ≡ counted n (late_in time d)
   none_late e low = subst (λ l. n ≡ counted n (late_in time l)) (sym e) (none_counted n low)
 
-  pub none_crowded : d ≡ [] → n < 2 ^ 64 → n ≡ counted n (crowded_in time d)
-  none_crowded e low = subst (λ l. n ≡ counted n (crowded_in time l)) (sym e) (none_counted n low)
+  pub none_evicted : d ≡ [] → n < 2 ^ 64 → n ≡ counted n (evicted_in time d)
+  none_evicted e low = subst (λ l. n ≡ counted n (evicted_in time l)) (sym e) (none_counted n low)
 
 module _ (time more n m : ℕ) (b : Bool) (t : Table) (k : Key) (w : Waiting) where
   pub late_step : b ≡ is_late time w → Some (k, w) ≡ last_entry t
@@ -210,15 +210,15 @@ module _ (time more n m : ℕ) (b : Bool) (t : Table) (k : Key) (w : Waiting) wh
       ∙ counted_more n b k w (λ p. is_late time p.1) d (sym is)
       ∙ sym (ap (λ l. counted n (late_in time l)) (dropped_one time more t k w h o))
 
-  pub crowded_step : b ≡ is_late time w → Some (k, w) ≡ last_entry t
+  pub evicted_step : b ≡ is_late time w → Some (k, w) ≡ last_entry t
       → is_over time more (weight t) w ≡ true → m ≡ counted n (cond (not b) 1 0)
-      → counted m (crowded_in time (dropped time more (take (length t - 1) t)))
-      ≡ counted n (crowded_in time (dropped time more t))
-  crowded_step is h o e =
+      → counted m (evicted_in time (dropped time more (take (length t - 1) t)))
+      ≡ counted n (evicted_in time (dropped time more t))
+  evicted_step is h o e =
       let d = dropped time more (take (length t - 1) t) in
-      ap (λ x. counted x (crowded_in time d)) e
+      ap (λ x. counted x (evicted_in time d)) e
       ∙ counted_more n (not b) k w (λ p. not (is_late time p.1)) d (ap not (sym is))
-      ∙ sym (ap (λ l. counted n (crowded_in time l)) (dropped_one time more t k w h o))
+      ∙ sym (ap (λ l. counted n (evicted_in time l)) (dropped_one time more t k w h o))
 
 -- A fact that needs no error also holds on one.
 pub on_err : {A E P : Type 0} → (r : Result A E) → P → OnErr r P

@@ -44,7 +44,7 @@ weight (e ∷ t) = e.1.weight + weight t
 pub record Reassembly : Type 0 where
   pub waiting : Table
   pub late : ℕ
-  pub crowded : ℕ
+  pub evicted : ℕ
 
 -- A datagram has waited too long for fragments after its first (RFC 791, section 3.2; RFC 8200,
 -- section 4.5).
@@ -80,8 +80,8 @@ dropped time more t = dropped_of time more (weight t) (reverse t)
 abbrev pub late_in : ℕ → Table → ℕ
 late_in time t = length (filter (λ e. is_late time e.1) t)
 
-abbrev pub crowded_in : ℕ → Table → ℕ
-crowded_in time t = length (filter (λ e. not (is_late time e.1)) t)
+abbrev pub evicted_in : ℕ → Table → ℕ
+evicted_in time t = length (filter (λ e. not (is_late time e.1)) t)
 
 -- A count in 64 bits, which doesn't go past the highest.
 abbrev pub counted : ℕ → ℕ → ℕ
@@ -92,7 +92,7 @@ abbrev pub forgetting : ℕ → ℕ → Reassembly → Reassembly
 forgetting time more r = record {
   waiting = kept time more r.waiting;
   late = counted r.late (late_in time (dropped time more r.waiting));
-  crowded = counted r.crowded (crowded_in time (dropped time more r.waiting));
+  evicted = counted r.evicted (evicted_in time (dropped time more r.waiting));
 }
 
 -- What a fragment does to a datagram in the table, or without one.
@@ -151,7 +151,7 @@ pub record Takes (time : ℕ) (f : IpFragment) (o : FragmentOutcome) (r s : Reas
   pub even : is_uneven f ≡ false
   pub becomes : Becomes time f o (forgetting time (weight_of f) r).waiting s.waiting
   pub late : s.late ≡ (forgetting time (weight_of f) r).late
-  pub crowded : s.crowded ≡ (forgetting time (weight_of f) r).crowded
+  pub evicted : s.evicted ≡ (forgetting time (weight_of f) r).evicted
 
 -- What a fragment does to the table and the counts.
 abbrev pub Adds : ℕ → IpFragment → FragmentOutcome → Reassembly → Reassembly → Type 0

@@ -2,7 +2,7 @@
 ghost use Rattle.std.specs.Prelude.{◌≡◌, ◌≤◌, ◌<◌, ◌+◌, ◌-◌, ◌^◌, ◌==◌, if◌then◌else◌, [], ◌∷◌, length, IfOk, OnErr, OnOk, IfSome, true, false, Some, None};
 ghost use Rattle.ip_fragments.specs.Waiting.{is_other_end, is_whole as is_whole_datagram, weight_of as weight_of_fragment, Waiting};
 ghost use Rattle.ip_fragments.specs.Key.{key_of};
-ghost use Rattle.ip_fragments.specs.Table.{at, counted, crowded_in, dropped, forgetting, is_late as is_late_datagram, is_over as is_over_datagram, its, kept, late_in, others, weight, Adds, AddsAt, Becomes, BeginsAt, HandsOut, LeavesOut};
+ghost use Rattle.ip_fragments.specs.Table.{at, counted, evicted_in, dropped, forgetting, is_late as is_late_datagram, is_over as is_over_datagram, its, kept, late_in, others, weight, Adds, AddsAt, Becomes, BeginsAt, HandsOut, LeavesOut};
 
 use crate::key::Key;
 use crate::waiting::{ReassembledDatagram, Waiting, weight_of};
@@ -70,7 +70,7 @@ pub struct FragmentTable {
     waiting: LruCache<Key, Waiting, RandomState>,
     held: usize,
     late: u64,
-    crowded: u64,
+    evicted: u64,
 }
 
 impl Model for FragmentTable {
@@ -82,7 +82,7 @@ impl Model for FragmentTable {
     ghost view = { λ f. record {
       waiting = f.waiting.entries;
       late = f.late;
-      crowded = f.crowded;
+      evicted = f.evicted;
     } };
 
     ghost invariant = { λ f. (f.waiting.cap ≡ 2 ^ 64 - 1) × (f.held ≡ weight f.waiting.entries)
@@ -124,7 +124,7 @@ fn add_at(
 struct Left {
     held: usize,
     late: u64,
-    crowded: u64,
+    evicted: u64,
 }
 
 /// Returns whether a datagram has waited too long.
@@ -169,27 +169,27 @@ fn forget_over(
     ensures kept { waiting.new.entries ≡ kept time more waiting.old.entries }
     ensures late { result.late
         ≡ counted before.late (late_in time (dropped time more waiting.old.entries)) }
-    ensures crowded { result.crowded
-        ≡ counted before.crowded (crowded_in time (dropped time more waiting.old.entries)) }
+    ensures evicted { result.evicted
+        ≡ counted before.evicted (evicted_in time (dropped time more waiting.old.entries)) }
     ensures held { result.held ≡ weight waiting.new.entries }
     ensures room { result.held + more ≤ 33554432 }
     ensures cap { waiting.new.cap ≡ waiting.old.cap }
 {
-    let (mut sum, mut late, mut crowded) = (before.held, before.late, before.crowded);
+    let (mut sum, mut late, mut evicted) = (before.held, before.late, before.evicted);
     while let Some((_, oldest)) = waiting.peek_lru() {
         if !is_over(time, more, sum, oldest) {
             break;
         }
         let too_late = is_late(time, oldest);
         late = count_if(too_late, late);
-        crowded = count_if(!too_late, crowded);
+        evicted = count_if(!too_late, evicted);
         sum -= oldest.weight();
         waiting.pop_lru();
     }
     Left {
         held: sum,
         late,
-        crowded,
+        evicted,
     }
 }
 
@@ -224,14 +224,14 @@ impl FragmentTable {
     /// Returns an empty table. `keys` keys its hashes, so that nobody without the keys can choose
     /// datagrams whose hashes collide.
     pub fn new(alloc: Global, keys: RandomState) -> Result<FragmentTable, AllocError>
-        ensures { IfOk result (λ f. f ≡ record { waiting = []; late = 0; crowded = 0 }) }
+        ensures { IfOk result (λ f. f ≡ record { waiting = []; late = 0; evicted = 0 }) }
     {
         Ok(FragmentTable {
             alloc,
             waiting: LruCache::unbounded_with_hasher(alloc, keys)?,
             held: 0,
             late: 0,
-            crowded: 0,
+            evicted: 0,
         })
     }
 
@@ -267,10 +267,10 @@ impl FragmentTable {
     }
 
     /// Returns how many datagrams were dropped because all exceeded [`HELD_LIMIT`].
-    pub fn crowded(&self) -> u64
-        ensures { result ≡ self.now.crowded }
+    pub fn evicted(&self) -> u64
+        ensures { result ≡ self.now.evicted }
     {
-        self.crowded
+        self.evicted
     }
 
     /// Drops the oldest datagrams that have waited too long, and further ones until there is room
@@ -283,12 +283,12 @@ impl FragmentTable {
         let before = Left {
             held: self.held,
             late: self.late,
-            crowded: self.crowded,
+            evicted: self.evicted,
         };
         let left = forget_over(&mut self.waiting, before, time, more);
         self.held = left.held;
         self.late = left.late;
-        self.crowded = left.crowded;
+        self.evicted = left.evicted;
     }
 
     /// Adds the first fragment of a datagram.
@@ -304,7 +304,7 @@ impl FragmentTable {
         ensures begins { IfOk result
             (λ o. BeginsAt time key fragment.now o self.old.waiting self.new.waiting) }
         ensures late { self.new.late ≡ self.old.late }
-        ensures crowded { self.new.crowded ≡ self.old.crowded }
+        ensures evicted { self.new.evicted ≡ self.old.evicted }
         ensures err { OnErr result (self.new ≡ self.old) }
     {
         let mut waiting = Waiting::new(self.alloc, time);
@@ -342,7 +342,7 @@ impl FragmentTable {
         ensures becomes { IfOk result
             (λ o. Becomes time fragment.now o self.old.waiting self.new.waiting) }
         ensures late { self.new.late ≡ self.old.late }
-        ensures crowded { self.new.crowded ≡ self.old.crowded }
+        ensures evicted { self.new.evicted ≡ self.old.evicted }
         ensures err { OnErr result (self.new ≡ self.old) }
         ensures agrees { OnErr result
             (is_other_end fragment.now (its time fragment.now self.old.waiting) ≡ false) }

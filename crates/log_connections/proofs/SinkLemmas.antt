@@ -7,7 +7,7 @@ use Rattle.connections.specs.Memory.{IsAccounted, IsTakenOut, open_part, total}
 use Rattle.connections.specs.Table.{IsOver, NoneIsOver, Table, WasLast}
 use Rattle.connections.specs.declared.five_tuple.FiveTuple.{FiveTuple}
 use Rattle.connections.specs.declared.connection.Connection.{Connection}
-use Rattle.log_connections.specs.Sink.{Adds, EndsAs, EndsCrowded, EndsIdle, EndsLast, AnalyzesLast, IsCrowded, IsCutOff, IsEnded, IsLastEnded, PassesAllButLast, PassesEnded, Receives, at_originator, at_responder, cut_off, marked_early, none, one, wholly}
+use Rattle.log_connections.specs.Sink.{Adds, EndsAs, Evicts, EndsIdle, EndsLast, AnalyzesLast, IsOverLimit, IsCutOff, IsEnded, IsLastEnded, PassesAllButLast, PassesEnded, Receives, at_originator, at_responder, cut_off, marked_early, none, one, wholly}
 use Rattle.log_connections.specs.declared.analysis.TlsAnalysis.{TlsAnalysis}
 
 module _ {X : Type 0} where
@@ -142,29 +142,29 @@ module _ {K B : Type 0} (value : B → Connection (TlsAnalysis K)) (t u : Table 
     },
   )
 
-  pub ends_crowded : (limit : ℕ) (taken ended : Option B)
+  pub ends_evicted : (limit : ℕ) (taken ended : Option B)
       → IfSome taken (λ b. IsTakenOut t u (value b)) → IfSome taken (λ b. open_part limit < t.held)
       → IfNone taken ((u.live ≡ t.live) × (u.held ≡ t.held))
       → IfNone taken (IsAccounted t → total u.live ≤ open_part limit)
       → EndsAs (option_map value taken) (option_map value ended)
-      → EndsCrowded limit t u (option_map value ended)
-  ends_crowded limit None None some crowded same within ends = (same.0, within)
-  ends_crowded limit None (Some d) some crowded same within ends = absurd ends
-  ends_crowded limit (Some b) None some crowded same within ends = absurd ends
-  ends_crowded limit (Some b) (Some d) some crowded same within ends = (
+      → Evicts limit t u (option_map value ended)
+  ends_evicted limit None None some evicted same within ends = (same.0, within)
+  ends_evicted limit None (Some d) some evicted same within ends = absurd ends
+  ends_evicted limit (Some b) None some evicted same within ends = absurd ends
+  ends_evicted limit (Some b) (Some d) some evicted same within ends = (
     value b,
     record {
       five_tuple = some.last.five_tuple;
       stood = some.last.stood;
       ended = ends;
     },
-    crowded,
+    evicted,
   )
 
 module _ {K : Type 0} where
   -- It ended because there was more than the limit allows.
-  pub crowded_by : (t u : Table (TlsAnalysis K)) (m n : ℕ) (c : Connection (TlsAnalysis K)) → m ≡ n
-      → (IsAccounted t → IsAccounted u) → open_part m < u.held → IsCrowded t n u.live c
-  crowded_by t u m n c same accounted over h =
+  pub evicted_by : (t u : Table (TlsAnalysis K)) (m n : ℕ) (c : Connection (TlsAnalysis K)) → m ≡ n
+      → (IsAccounted t → IsAccounted u) → open_part m < u.held → IsOverLimit t n u.live c
+  evicted_by t u m n c same accounted over h =
       subst (λ p. open_part p < total u.live) same
       (subst (λ k. open_part m < k) (accounted h) over)

@@ -15,6 +15,8 @@ use Rattle.tls_summary.specs.HandshakeSummary.{HandshakeSummary, view_summary}
 use Rattle.dtls_analyzer.specs.Another.{begins_another}
 use Rattle.dtls_analyzer.specs.Datagrams.{IsKnown, side_progress}
 use Rattle.dtls_analyzer.specs.Datagrams as datagrams
+use Rattle.tls_analyzer.specs.Analyzers.{has_finished_by}
+use Rattle.tls_analyzer.specs.Following.{known_of}
 use Rattle.tls_observer.specs.Ends.{is_established, is_resumed}
 use Rattle.log_connections.specs.declared.analysis.TlsAnalysis.{TlsAnalysis}
 use Rattle.log_connections.specs.declared.analysis.TransportAnalyzer.{TransportAnalyzer}
@@ -42,8 +44,10 @@ HasStop s (transport.Datagrams t) = (k : datagrams.Analyzer) → IsKnown k t →
 abbrev pub IsEstablishedBy : Bool → TransportAnalyzer → Type 0
 IsEstablishedBy b (transport.Stream x f) =
     b ≡ is_established (outcome_at x.conversation_state.flow.state)
+    (has_finished_by (known_of x.conversation_state))
 IsEstablishedBy b (transport.Datagrams t) =
-    (k : datagrams.Analyzer) → IsKnown k t → b ≡ is_established (outcome_at k.flow.state)
+    (k : datagrams.Analyzer) → IsKnown k t
+    → b ≡ is_established (outcome_at k.flow.state) (datagrams.has_finished_by k)
 
 -- A session was resumed, or not.
 abbrev pub IsResumedBy : Bool → TransportAnalyzer → Type 0

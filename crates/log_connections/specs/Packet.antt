@@ -12,7 +12,7 @@ use Rattle.connections.specs.declared.connection.Connection.{Connection}
 use Rattle.packets.specs.Section.{Packet}
 use Rattle.log_connections.specs.Log.{Accepts, KeepsOthers, Refuses, uncounted, with_disagreeing}
 use Rattle.log_connections.specs.Reading.{Content, Holds, HoldsInside, InFragments, NeedsMemory, Nothing, Whole}
-use Rattle.log_connections.specs.Sink.{Adds, EndsAfterRefusal, IsCrowded, IsIdle, IsOfMemory, IsOfSink, PassesAllButLast, PassesEnded, StopsAfterRefusal}
+use Rattle.log_connections.specs.Sink.{Adds, EndsAfterRefusal, IsOverLimit, IsIdle, IsOfMemory, IsOfSink, PassesAllButLast, PassesEnded, StopsAfterRefusal}
 use Rattle.log_connections.specs.declared.analysis.TlsAnalysis.{TlsAnalysis}
 use Rattle.log_connections.specs.declared.sink.LogError.{LogError}
 
@@ -83,7 +83,7 @@ module _ {K : Type 0} (M : K → ℕ) where
     pub idle : PassesEnded (IsIdle (time_of a)) old.live awake.live before first
     pub none_idle : NoneIsOver (time_of a) awake.live
     pub arrives : Arrives a awake full first second
-    pub crowded : PassesEnded (IsCrowded full limit) full.live new.live second after
+    pub evicted : PassesEnded (IsOverLimit full limit) full.live new.live second after
     pub within : IsAccounted full → total new.live ≤ open_part limit
 
   -- The sink refused one of the connections that timed out, or of those that exceed the limit, or
@@ -98,15 +98,15 @@ module _ {K : Type 0} (M : K → ℕ) where
         → PassesEnded (IsIdle (time_of a)) old.live awake.live before first
         → NoneIsOver (time_of a) awake.live → StopsArriving a error awake new first after
         → Stops a limit error old new before after
-    at_crowded :
+    at_eviction :
         (awake full : Table (TlsAnalysis K))
         (first second : Option (List (Connection (TlsAnalysis K))))
         → PassesEnded (IsIdle (time_of a)) old.live awake.live before first
         → NoneIsOver (time_of a) awake.live → Arrives a awake full first second → IsOfSink error
-        → PassesAllButLast (IsCrowded full limit) full.live new.live second after
+        → PassesAllButLast (IsOverLimit full limit) full.live new.live second after
         → Stops a limit error old new before after
 
-  -- The same for the arrival in a reassembled datagram. Bytes that differed in its fragments are
+  -- An arrival in a reassembled datagram is processed. Bytes that differed in its fragments are
   -- counted in the arrival's connection, before or after.
   pub record ProcessesInside (a : Arrival) (n limit : ℕ) (old new : Table (TlsAnalysis K))
       (before after : Option (List (Connection (TlsAnalysis K)))) : Type 0 where

@@ -119,11 +119,11 @@ module _ {K : Type 0} where
 
   -- The longest-idle connection ended if the open ones exceed their part of the memory limit; else
   -- none ended, and they are within it.
-  abbrev pub EndsCrowded : ℕ → Table (TlsAnalysis K) → Table (TlsAnalysis K)
+  abbrev pub Evicts : ℕ → Table (TlsAnalysis K) → Table (TlsAnalysis K)
       → Option (Connection (TlsAnalysis K)) → Type 0
-  EndsCrowded limit t u None = (u.live ≡ t.live)
+  Evicts limit t u None = (u.live ≡ t.live)
       × (IsAccounted t → total u.live ≤ open_part limit)
-  EndsCrowded limit t u (Some c') =
+  Evicts limit t u (Some c') =
       (c : Connection (TlsAnalysis K)) × IsLastEnded t.live u.live c c'
       × (open_part limit < t.held)
 
@@ -179,9 +179,9 @@ module _ {K : Type 0} where
 
   -- The open connections exceeded their part of the memory limit, if the memory was accounted at
   -- first.
-  abbrev pub IsCrowded : Table (TlsAnalysis K) → ℕ → List (FiveTuple × Connection (TlsAnalysis K))
+  abbrev pub IsOverLimit : Table (TlsAnalysis K) → ℕ → List (FiveTuple × Connection (TlsAnalysis K))
       → Connection (TlsAnalysis K) → Type 0
-  IsCrowded t limit xs c = IsAccounted t → open_part limit < total xs
+  IsOverLimit t limit xs c = IsAccounted t → open_part limit < total xs
 
   -- Memory was refused for the connection of a five-tuple. It ended early, and the longest-idle one
   -- of the others. There was at least one.

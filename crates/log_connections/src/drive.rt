@@ -10,7 +10,7 @@ ghost use Rattle.log_connections.specs.Found.{IsCounted};
 ghost use Rattle.log_connections.specs.Log.{uncounted};
 ghost use Rattle.log_connections.specs.Packet.{Arrives, Handles, HandlesBy, HandlesInside, IsLent, Processes, Stops, StopsArriving, StopsBy, StopsHandling, noted_if};
 ghost use Rattle.log_connections.specs.Reading.{HoldsFragment, HoldsInside, HoldsWhole};
-ghost use Rattle.log_connections.specs.Sink.{Adds, EndsAfterRefusal, EndsRefused, IsCrowded, IsIdle, IsOfSink, IsOpen, PassesAllButLast, PassesEnded, Receives, StaysSound, StopsAfterRefusal, StopsRefused, as_list};
+ghost use Rattle.log_connections.specs.Sink.{Adds, EndsAfterRefusal, EndsRefused, IsOverLimit, IsIdle, IsOfSink, IsOpen, PassesAllButLast, PassesEnded, Receives, StaysSound, StopsAfterRefusal, StopsRefused, as_list};
 
 use crate::analysis::{PieceCollector, TlsAnalysis};
 use crate::found::add_connection;
@@ -190,7 +190,7 @@ impl<K: PieceCollector> Log<K> {
     {
         self.end_idle(arrival.time(), sink)?;
         self.process_arrival(arrival, sink)?;
-        self.end_crowded(arrival.time(), sink)
+        self.evict(arrival.time(), sink)
     }
 
     /// Adds a segment or datagram to its connection. Passes the connection that is over by it to
@@ -285,13 +285,13 @@ impl<K: PieceCollector> Log<K> {
     }
 
     /// Ends the longest-idle connections until the rest fit the memory limit.
-    fn end_crowded<S: Sink<K>>(&mut self, time: u64, sink: &mut S) -> Result<(), LogError<S::Error>>
+    fn evict<S: Sink<K>>(&mut self, time: u64, sink: &mut S) -> Result<(), LogError<S::Error>>
         ensures ended { OnOk result
-            (PassesEnded (IsCrowded self.old.connections self.old.memory)
+            (PassesEnded (IsOverLimit self.old.connections self.old.memory)
             self.old.connections.live self.new.connections.live
             (S.received sink.old) (S.received sink.new)) }
         ensures stopped { OnErr result
-            (PassesAllButLast (IsCrowded self.old.connections self.old.memory)
+            (PassesAllButLast (IsOverLimit self.old.connections self.old.memory)
             self.old.connections.live self.new.connections.live
             (S.received sink.old) (S.received sink.new)) }
         ensures failed { IfErr result (λ error. IsOfSink error) }
@@ -301,7 +301,7 @@ impl<K: PieceCollector> Log<K> {
             → total self.new.connections.live ≤ open_part self.old.memory) }
         ensures sound { StaysSound (S.is_sound sink.old) (S.is_sound sink.new) result }
     {
-        while let Some(over) = self.take_crowded() {
+        while let Some(over) = self.take_evicted() {
             self.end_connection(over, time, sink)?;
         }
         Ok(())

@@ -5,7 +5,7 @@ ghost use Rattle.arrivals.specs.Arrival.{five_tuple_in};
 ghost use Rattle.connections.specs.Memory.{IsAccounted};
 ghost use Rattle.connections.specs.Table.{at, others};
 ghost use Rattle.log_connections.specs.Log.{uncounted};
-ghost use Rattle.log_connections.specs.Sink.{AreEarly, EndsAs, EndsCrowded, EndsLast, marked_early};
+ghost use Rattle.log_connections.specs.Sink.{AreEarly, EndsAs, Evicts, EndsLast, marked_early};
 
 use crate::analysis::{PieceCollector, TlsAnalysis};
 use crate::log::Log;
@@ -56,8 +56,8 @@ impl<K: PieceCollector> Log<K> {
     }
 
     /// Removes and returns the longest-idle connection if all exceed the memory limit.
-    pub(crate) fn take_crowded(&mut self) -> Option<Box<Connection<TlsAnalysis<K>>>>
-        ensures crowded { EndsCrowded self.old.memory self.old.connections self.new.connections
+    pub(crate) fn take_evicted(&mut self) -> Option<Box<Connection<TlsAnalysis<K>>>>
+        ensures evicted { Evicts self.old.memory self.old.connections self.new.connections
             (option_map (λ b. b.value) result) }
         ensures early { AreEarly (option_map (λ b. b.value) result) }
         ensures fewer { IfSome result (λ _.
@@ -66,10 +66,10 @@ impl<K: PieceCollector> Log<K> {
         ensures memory { self.new.memory ≡ self.old.memory }
         ensures reader { uncounted self.new.arrivals ≡ uncounted self.old.arrivals }
     {
-        if !self.connections.is_crowded(self.memory) {
+        if !self.connections.is_over_limit(self.memory) {
             return None;
         }
-        let taken = self.connections.take_crowded(self.memory);
+        let taken = self.connections.take_evicted(self.memory);
         self.end_early(taken)
     }
 

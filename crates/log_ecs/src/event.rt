@@ -2,7 +2,7 @@
 //! sends them.
 use crate::nested::{Nested, Path};
 use connections::{Protocol, Side};
-use log_fields::columns::CertificateField;
+use log_certificates::CertificateField;
 use log_fields::connection::cell_of;
 use log_fields::context::FieldContext;
 use log_fields::fields::{
@@ -16,6 +16,7 @@ use log_formats::lists::{Texts, some_texts};
 use log_formats::objects::{LINE_LEN, json_bytes};
 use log_formats::text::{name_cell, name_or_number, some_name, some_text};
 use log_formats::versions::ecs_version;
+use sha1::Sha1;
 use std::alloc::{AllocError, Global};
 use std::net::IpAddr;
 use tls_flow::Outcome;
@@ -39,6 +40,8 @@ enum Value {
     Number(CertificateField),
     /// The names in the certificate's subjectAltName.
     AlternativeNames,
+    /// The certificate's SHA-1.
+    Sha1,
     /// The certificate's SHA-256.
     Sha256,
     /// A text that is the same in each event.
@@ -182,7 +185,7 @@ const SERVER: Rows = &[
     ("not_after", Value::Certificate(CertificateField::NotAfter)),
 ];
 
-const HASH: Rows = &[("sha256", Value::Sha256)];
+const HASH: Rows = &[("sha1", Value::Sha1), ("sha256", Value::Sha256)];
 
 const X509: Rows = &[
     (
@@ -348,6 +351,19 @@ fn alternative_names_cell<'a>(
     }
 }
 
+/// Returns the SHA-1 of the owner's certificate, in upper case.
+fn sha1_cell<'a>(context: &FieldContext<'_>, owner: Owner) -> Result<Option<Cell<'a>>, AllocError> {
+    let own = match owner {
+        Owner::Nobody => None,
+        Owner::Client => context.handshake.client_certificate.as_deref(),
+        Owner::Server => context.handshake.server_certificate.as_deref(),
+    };
+    match own {
+        Some(bytes) => some_text(hex::encode_upper(context.alloc, &Sha1::digest(bytes))),
+        None => Ok(None),
+    }
+}
+
 /// Returns the SHA-256 of the owner's certificate, in upper case.
 fn sha256_cell<'a>(
     context: &mut FieldContext<'_>,
@@ -470,6 +486,7 @@ fn value_cell<'a>(
         Value::Uppercase(field) => uppercase_cell(context, owner, field),
         Value::Number(field) => number_cell(context, owner, field),
         Value::AlternativeNames => alternative_names_cell(context, owner),
+        Value::Sha1 => sha1_cell(context, owner),
         Value::Sha256 => sha256_cell(context, owner),
         Value::Sum(count) => sum_cell(context, count),
         Value::Version => Ok(version_cell(context)),

@@ -1,36 +1,7 @@
 //! The fields of a message's line and of a certificate's.
 use crate::fields::Identity;
+use log_certificates::CertificateField;
 use log_formats::column::{Column, Type};
-
-/// A field of a certificate (RFC 5280, section 4.1).
-#[derive(Clone, Copy)]
-pub enum CertificateField {
-    Version,
-    Serial,
-    Subject,
-    Issuer,
-    NotBefore,
-    NotAfter,
-    ValidFrom,
-    ValidUntil,
-    KeyAlgorithm,
-    KeyType,
-    KeyLength,
-    Exponent,
-    Curve,
-    SignatureAlgorithm,
-    DnsNames,
-    Uris,
-    Emails,
-    Addresses,
-    OtherNames,
-    IsCa,
-    MayBeCa,
-    PathLength,
-    SelfIssued,
-    KeyUsage,
-    Purposes,
-}
 
 /// A field of a message's line.
 pub enum MessageField {
@@ -48,8 +19,11 @@ pub enum CertificateLineField {
     Side,
     Place,
     Fingerprint,
+    Sha1,
     Length,
     Certificate(CertificateField),
+    Expired,
+    NotYetValid,
     IsServers,
     IsClients,
     Fault,
@@ -124,15 +98,17 @@ pub static CERTIFICATE_FIELDS: &[Column<CertificateLineField>] = columns! {
     /// its position in its chain, from 0
     /// RFC: 5246, 7.4.2
     "place": Count = CertificateLineField::Place;
-    /// the SHA-256 of its bytes, as in `cert_chain_fps`
+    /// the SHA-256 of its bytes, as in `cert_chain_fps`, and their SHA-1
     /// Zeek: `fingerprint`
     "fingerprint": Text = CertificateLineField::Fingerprint;
+    /// as above
+    "fingerprint_sha1": Text = CertificateLineField::Sha1;
     /// its length in bytes
     "length": Count = CertificateLineField::Length;
     /// 1, 2, 3
     /// RFC: 5280, 4.1.2.1
     /// Zeek: the same
-    /// absent: it isn't read (as for all up to `self_issued`)
+    /// absent: it isn't read (as for all up to `policies`)
     "certificate.version": Count = CertificateLineField::Certificate(CertificateField::Version);
     /// as `serial`, `subject`, `issuer` above
     /// RFC: 5280, 4.1.2
@@ -150,6 +126,19 @@ pub static CERTIFICATE_FIELDS: &[Column<CertificateLineField>] = columns! {
     /// as above
     "certificate.not_valid_after": Time =
         CertificateLineField::Certificate(CertificateField::ValidUntil);
+    /// as in a connection's line
+    "validity_days": Count = CertificateLineField::Certificate(CertificateField::ValidityDays);
+    /// as above
+    "expired_at_connection": Mark = CertificateLineField::Expired;
+    /// as above
+    "not_yet_valid": Mark = CertificateLineField::NotYetValid;
+    /// as above
+    "weak_key": Mark = CertificateLineField::Certificate(CertificateField::WeakKey);
+    /// as above
+    "weak_signature": Mark = CertificateLineField::Certificate(CertificateField::WeakSignature);
+    /// as above
+    "certificate.tbs_sig_alg": Text =
+        CertificateLineField::Certificate(CertificateField::InnerSignatureAlgorithm);
     /// the algorithms of its key and of its signature, by OpenSSL's long names, or dotted
     /// RFC: 5280, 4.1.1.2
     /// Zeek: the same
@@ -185,6 +174,11 @@ pub static CERTIFICATE_FIELDS: &[Column<CertificateLineField>] = columns! {
     /// those of other kinds there
     /// absent: there are none
     "san.other": Texts = CertificateLineField::Certificate(CertificateField::OtherNames);
+    /// userPrincipalNames, directoryNames
+    /// absent: none
+    "san.upn": Texts = CertificateLineField::Certificate(CertificateField::UserNames);
+    /// as above
+    "san.directory": Texts = CertificateLineField::Certificate(CertificateField::DirectoryNames);
     /// whether it may sign others
     /// RFC: 5280, 4.2.1.9
     /// Zeek: the same
@@ -195,7 +189,7 @@ pub static CERTIFICATE_FIELDS: &[Column<CertificateLineField>] = columns! {
     /// absent: no limit
     "basic_constraints.path_len": Count =
         CertificateLineField::Certificate(CertificateField::PathLength);
-    /// what its key may be used for, by the names of bits and purposes
+    /// what its key may be used for, by the names of bits and purposes; empty if none is named
     /// RFC: 5280, 4.2.1.3, 4.2.1.12
     /// absent: it has no such extension
     "key_usage": Texts = CertificateLineField::Certificate(CertificateField::KeyUsage);
@@ -204,14 +198,37 @@ pub static CERTIFICATE_FIELDS: &[Column<CertificateLineField>] = columns! {
     /// whether its subject is its issuer, byte for byte
     /// RFC: 5280, 3.2
     "self_issued": Mark = CertificateLineField::Certificate(CertificateField::SelfIssued);
+    /// OCSP responders, issuer's certificates, policies
+    /// RFC: 5280, 4.2.2.1, 4.2.1.4
+    /// absent: none
+    "aia.ocsp": Texts = CertificateLineField::Certificate(CertificateField::OcspResponders);
+    /// as above
+    "aia.ca_issuers": Texts = CertificateLineField::Certificate(CertificateField::CaIssuers);
+    /// as above
+    "policies": Texts = CertificateLineField::Certificate(CertificateField::Policies);
     /// `true`: it is the server's own, the client's own
     /// Zeek: the same
     /// absent: it is another
     "host_cert": Mark = CertificateLineField::IsServers;
     /// as above
     "client_cert": Mark = CertificateLineField::IsClients;
-    /// why it isn't read, as in `cert_error`
+    /// which rule it breaks, as in `cert_error`
     /// RFC: 5280, 4.1
-    /// absent: it is read
+    /// absent: none
     "error": Text = CertificateLineField::Fault;
+    /// as `cert_unread_fields`
+    /// absent: all is read
+    "unread_fields": Texts = CertificateLineField::Certificate(CertificateField::UnreadFields);
 };
+
+/// Returns [`MESSAGE_FIELDS`]. Call it instead of naming the table: the proof of a function that
+/// names it reads all of its rows.
+pub fn message_fields() -> &'static [Column<MessageField>] {
+    MESSAGE_FIELDS
+}
+
+/// Returns [`CERTIFICATE_FIELDS`]. Call it instead of naming the table: the proof of a function
+/// that names it reads all of its rows.
+pub fn certificate_fields() -> &'static [Column<CertificateLineField>] {
+    CERTIFICATE_FIELDS
+}

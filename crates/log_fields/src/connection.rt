@@ -1,6 +1,4 @@
 //! The values of a connection's fields.
-use crate::certificates::certificate_cell;
-use crate::columns::CertificateField;
 use crate::context::{FieldContext, Moment, SideContext};
 use crate::fields::{
     Encapsulation, Field, Identity, Lifecycle, Negotiation, SideTraffic, fields, rows,
@@ -11,6 +9,7 @@ use crate::names::{REASONS, kind_name, outcome_name, reason_name, tunnel_name};
 use crate::summary::Summary;
 use connection_ids::{community_id, uid};
 use connections::{Dropped, End, Protocol};
+use log_certificates::{CertificateField, ReadCertificate, certificate_cell};
 use log_formats::cell::{Cell, KeptCell, Row, Seconds, StopCell, TakesCell};
 use log_formats::lists::{Numbers, Texts, some_numbers, some_texts};
 use log_formats::text::{
@@ -21,7 +20,6 @@ use std::alloc::{AllocError, Global};
 use tls_base::TlsAlertDescription;
 use tls_flow::{Direction, Stop};
 use tunnels::Tunnel;
-use x509::Certificate;
 
 /// Converts nanoseconds to microseconds, the precision of times in lines.
 pub fn microseconds(nanoseconds: u64) -> u64 {
@@ -218,7 +216,7 @@ fn compute_encapsulation<'a, T: TakesCell<'a>>(
 /// Returns a field of a certificate, if there is one.
 fn own_cell<'a>(
     alloc: Global,
-    certificate: Option<&Certificate<'_>>,
+    certificate: Option<&ReadCertificate<'_>>,
     field: &CertificateField,
 ) -> Result<Option<Cell<'a>>, AllocError> {
     match certificate {

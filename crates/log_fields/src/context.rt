@@ -1,13 +1,12 @@
 //! What the fields of a connection's line are computed from.
-use crate::certificates::certificate_of;
 use crate::summary::{Party, Summary};
 use connections::{Protocol, Side};
+use log_certificates::{ReadCertificate, certificate_of};
 use log_formats::suites::Suites;
 use std::alloc::Global;
 use std::cell::RefCell;
 use tls_fingerprints::DigestCache;
 use tls_summary::HandshakeSummary;
-use x509::Certificate;
 
 /// A connection at its first packet, or when a message or certificate was completed.
 #[derive(Clone, Copy)]
@@ -43,8 +42,8 @@ pub struct KeptTexts {
 pub enum OwnCertificate<'a> {
     /// The bytes, if it was sent.
     Unparsed(Option<&'a [u8]>),
-    /// The certificate, if it was sent and can be parsed.
-    Parsed(Option<Certificate<'a>>),
+    /// The certificate, if it was sent and any of its fields can be read.
+    Parsed(Option<ReadCertificate<'a>>),
 }
 
 impl<'a> OwnCertificate<'a> {
@@ -53,8 +52,8 @@ impl<'a> OwnCertificate<'a> {
         OwnCertificate::Unparsed(bytes)
     }
 
-    /// Returns the certificate, if it was sent and can be parsed.
-    pub fn certificate(&mut self) -> Option<&Certificate<'a>> {
+    /// Returns the certificate, if it was sent and any of its fields can be read.
+    pub fn certificate(&mut self) -> Option<&ReadCertificate<'a>> {
         if let OwnCertificate::Unparsed(bytes) = self {
             *self = OwnCertificate::Parsed(certificate_of(*bytes));
         }

@@ -1,6 +1,6 @@
 //! The fields of a connection's line: their names, types and texts, and what computes them.
-use crate::columns::CertificateField;
 use connections::Side;
+use log_certificates::CertificateField;
 use log_formats::column::{Column, Type};
 
 /// A connection's identifiers, addresses and ports, and its times.
@@ -62,6 +62,10 @@ pub enum Offer {
     Ticket,
     Cookie,
     EncryptedClientHello,
+    EchConfigId,
+    EchKdf,
+    EchAead,
+    EchRepeated,
     DelegatedCredentials,
     Ssl2Hello,
 }
@@ -74,8 +78,10 @@ pub enum Answer {
     Compression,
     ExtensionTypes,
     KeyShareGroup,
+    DhBits,
     Timestamps,
     Ticket,
+    TicketLifetime,
     Status,
 }
 
@@ -90,6 +96,8 @@ pub enum Chain {
     ClientLengths,
     ClientFingerprints,
     NameMatches,
+    Expired,
+    NotYetValid,
     Validation,
     ServerFaults,
     ClientFaults,
@@ -147,7 +155,7 @@ pub enum Field {
 /// The rows are in blocks, each behind the enum that has the variants of its rows. A row has the
 /// field's name, or those of both sides; its type; its variant; and the closure that computes it.
 /// The closure's argument depends on the group, and its names are those of the file with the
-/// group's function. The fields of certificates are computed in certificates.rt. The comment before
+/// group's function. `log_certificates` computes the fields of certificates. The comment before
 /// each row is its text, as [`columns`](crate::columns) explains.
 macro_rules! rows {
     ($then:ident $($words:tt)*) => {
@@ -233,8 +241,8 @@ macro_rules! rows {
                 /// RFC: 5246, 7.3; 8446, 2.2
                 /// Zeek: `resumed`
                 "resumed": Mark = Resumed => |context| Some(Cell::Mark(context.summary.is_resumed));
-                /// `true`: the readable part of the handshake is complete; in TLS 1.3 that is with
-                /// the ServerHello
+                /// `true`: the readable part of the handshake is complete; in TLS 1.3 the client also
+                /// sent a record that can hold its Finished
                 /// Zeek: `established`, which in TLS 1.3 waits for data
                 "established": Mark =
                     Established => |context| Some(Cell::Mark(context.summary.is_established));
@@ -455,6 +463,18 @@ macro_rules! rows {
                 "ech": Mark =
                     EncryptedClientHello => |context|
                     some_mark(context.handshake.offers_encrypted_client_hello());
+                /// its configuration's number, HPKE's KDF and AEAD
+                /// RFC: 9849, 5; 9180, 7
+                /// absent: not the outer form
+                "ech_config_id": Count = EchConfigId => |context| ech_config_id(context.handshake);
+                /// as above
+                "ech_kdf": Text = EchKdf => |context| ech_kdf(context.handshake);
+                /// as above
+                "ech_aead": Text = EchAead => |context| ech_aead(context.handshake);
+                /// whether the ClientHello after a retry repeats it
+                /// RFC: 9849, 6.1.5
+                /// absent: it wasn't there; no retry
+                "ech_repeated": Mark = EchRepeated => |context| ech_repeated(context.handshake);
                 /// `true`: it has the extension delegated_credential
                 /// RFC: 9345, 4.1.1
                 /// absent: it doesn't
@@ -495,15 +515,25 @@ macro_rules! rows {
                 /// absent: it has none
                 "server_key_share_group": Text =
                     KeyShareGroup => |context| some_group(context.handshake.server_key_share());
+                /// bits of the prime in ServerKeyExchange
+                /// RFC: 5246, 7.4.3
+                /// Zeek: the same, rounded up
+                /// absent: no such exchange
+                "dh_param_size": Count = DhBits => |context| some_number(context.handshake.dh_bits);
                 /// the number of signed certificate timestamps in the ServerHello
                 /// RFC: 6962, 3.3.1
                 /// absent: none; TLS 1.3
                 "scts": Count = Timestamps => |context| timestamps(context.handshake);
                 /// `true`: the server sent a NewSessionTicket
                 /// RFC: 5077, 3.3
-                /// Zeek: `ticket_lifetime_hint`
                 /// absent: it didn't; TLS 1.3
                 "ticket_issued": Mark = Ticket => |context| some_mark(context.handshake.has_ticket);
+                /// its lifetime in seconds; 0 if unspecified
+                /// RFC: as above
+                /// Zeek: the same
+                /// absent: as above
+                "ticket_lifetime_hint": Count = TicketLifetime =>
+                    |context| some_number(context.handshake.ticket_lifetime_hint);
                 /// `true`: the server sent a CertificateStatus
                 /// RFC: 6066, 8
                 /// absent: it didn't; TLS 1.3
@@ -548,7 +578,7 @@ macro_rules! rows {
                 /// certificates say", below)
                 /// RFC: 5280, 4.1.2.6, 4.1.2.4
                 /// Zeek: the same, of the script for x509.log
-                /// absent: none is read (as for the next eleven)
+                /// absent: it isn't read (as for all up to `self_issued`)
                 "subject": Text = Subject;
                 /// as above
                 "issuer": Text = Issuer;
@@ -590,6 +620,22 @@ macro_rules! rows {
                 /// whether its subject is its issuer, byte for byte
                 /// RFC: 5280, 3.2
                 "self_issued": Mark = SelfIssued;
+                /// whole days from `not_before` to `not_after`
+                /// absent: one isn't read; it ends first
+                "validity_days": Count = ValidityDays;
+                /// `true`: its key has less than 112 bits of security; its signature's hash is MD2,
+                /// MD4, MD5, SHA or SHA-1
+                /// absent: it isn't so
+                "weak_key": Mark = WeakKey;
+                /// as above
+                "weak_signature": Mark = WeakSignature;
+                /// the algorithm in its signed part
+                /// absent: its signature's
+                "tbs_sig_alg": Text = InnerSignatureAlgorithm;
+                /// what isn't read, by RFC 5280's names, as `notBefore:verify`; in a list also after
+                /// how many bytes, as `subjectAltName@12:tag`
+                /// absent: all is read
+                "cert_unread_fields": Texts = UnreadFields;
             }
             Chain {
                 /// whether the host that the client asked for is one of its DNS names ("What
@@ -600,15 +646,20 @@ macro_rules! rows {
                 "sni_matches_cert": Mark =
                     NameMatches => |context|
                         Ok(match_cell(context.handshake, context.server.certificate()));
+                /// `true`: `not_after` is before `ts`, `not_before` after it
+                /// absent: it isn't so
+                "expired_at_connection": Mark = Expired => |context| Ok(expired_cell(context));
+                /// as above
+                "not_yet_valid": Mark = NotYetValid => |context| Ok(not_yet_valid_cell(context));
                 /// whether the server's chain is valid: `tlslog` validates no certificate, so this
                 /// is unset, for readers of Zeek's logs
                 /// Zeek: the same
                 /// absent: always
                 "validation_status": Text = Validation => |_context| Ok(None);
-                /// the server's certificates that aren't read, each by its place in the chain (the
+                /// the server's certificates that break a rule, each by its place in the chain (the
                 /// server's own has 0) and why, as `0:verify`
                 /// RFC: 5280, 4.1
-                /// absent: all are read
+                /// absent: none does
                 "cert_error": Texts =
                     ServerFaults => |context| faults_cell(context.alloc, server_chain(context));
             }

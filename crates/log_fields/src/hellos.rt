@@ -1,15 +1,14 @@
 //! The fields of hellos and of certificate chains.
-use crate::certificates::fault_name;
 use crate::context::FieldContext;
 use crate::fields::{Answer, Chain, Offer, rows};
+use crate::names::fault_name;
+use log_certificates::{ReadCertificate, has_expired, is_not_yet_valid};
 use log_formats::cell::{Cell, TakesCell};
 use log_formats::lists::{Numbers, Texts, some_numbers, some_texts};
 use log_formats::suites::Suites;
 use log_formats::text::{Text, add_text, some_digits, some_group, some_mark, some_version};
 use std::alloc::{AllocError, Global};
 use tls_summary::{CertificateSummary, HandshakeSummary};
-use x509::Certificate;
-use x509_text::matches_host;
 
 /// Returns the server names of types other than host_name, each behind the number of its type, such
 /// as `1:name`.
@@ -41,6 +40,34 @@ pub fn compute_offer<'a, T: TakesCell<'a>>(
     rows!(computes [Offer context field to take])
 }
 
+/// Returns the server's configuration in encrypted_client_hello.
+fn ech_config_id<'a>(handshake: &HandshakeSummary) -> Option<Cell<'a>> {
+    let hello = handshake.client_encrypted_hello()?;
+    Some(Cell::Number(u64::from(hello.config_id)))
+}
+
+/// Returns the key derivation function of encrypted_client_hello.
+fn ech_kdf<'a>(handshake: &HandshakeSummary) -> Option<Cell<'a>> {
+    let hello = handshake.client_encrypted_hello()?;
+    Some(Cell::Text(Text::Code(hello.kdf)))
+}
+
+/// Returns the encryption of encrypted_client_hello.
+fn ech_aead<'a>(handshake: &HandshakeSummary) -> Option<Cell<'a>> {
+    let hello = handshake.client_encrypted_hello()?;
+    Some(Cell::Text(Text::Code(hello.aead)))
+}
+
+/// Returns whether the hello after a retry has encrypted_client_hello as the first one had.
+fn ech_repeated<'a>(handshake: &HandshakeSummary) -> Option<Cell<'a>> {
+    Some(Cell::Mark(handshake.repeats_encrypted_client_hello()?))
+}
+
+/// Returns a number of 32 bits, if there is one.
+fn some_number<'a>(number: Option<u32>) -> Option<Cell<'a>> {
+    Some(Cell::Number(u64::from(number?)))
+}
+
 /// Returns the code of the compression method that the server chose.
 fn compression<'a>(handshake: &HandshakeSummary) -> Option<Cell<'a>> {
     match handshake.server_compression() {
@@ -51,10 +78,7 @@ fn compression<'a>(handshake: &HandshakeSummary) -> Option<Cell<'a>> {
 
 /// Returns the number of signed certificate timestamps in the ServerHello.
 fn timestamps<'a>(handshake: &HandshakeSummary) -> Option<Cell<'a>> {
-    let mut count = 0u64;
-    for _one in handshake.server_timestamps() {
-        count = count.saturating_add(1);
-    }
+    let count = handshake.server_timestamp_count();
     if count == 0 {
         return None;
     }
@@ -140,12 +164,22 @@ fn faults_cell<'a>(
 /// 9525, section 6.3); `None` without such a host or certificate.
 fn match_cell<'a>(
     handshake: &HandshakeSummary,
-    certificate: Option<&Certificate<'_>>,
+    certificate: Option<&ReadCertificate<'_>>,
 ) -> Option<Cell<'a>> {
-    match (handshake.server_name(), certificate) {
-        (Some(host), Some(certificate)) => Some(Cell::Mark(matches_host(certificate, host))),
-        _ => None,
-    }
+    let host = handshake.server_name()?;
+    Some(Cell::Mark(certificate?.matches(host)?))
+}
+
+/// Returns true if the server's certificate had expired at the connection's first packet.
+fn expired_cell<'a>(context: &mut FieldContext<'_>) -> Option<Cell<'a>> {
+    let time = context.summary.first_time;
+    some_mark(has_expired(context.server.certificate()?, time))
+}
+
+/// Returns true if the server's certificate wasn't valid yet at the connection's first packet.
+fn not_yet_valid_cell<'a>(context: &mut FieldContext<'_>) -> Option<Cell<'a>> {
+    let time = context.summary.first_time;
+    some_mark(is_not_yet_valid(context.server.certificate()?, time))
 }
 
 /// Passes a field of [`Chain`] to `to`. An empty chain has no lengths and no fingerprints.

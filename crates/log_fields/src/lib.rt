@@ -8,7 +8,6 @@
 //! This crate has no clauses, only tests.
 #![tactic(auto)]
 
-pub mod certificates;
 pub mod columns;
 pub mod connection;
 pub mod context;

@@ -1,6 +1,8 @@
 //! The names that are printed.
 use connections::DropReason;
+use log_certificates::error_name;
 use tls_flow::{Direction, Kind, Outcome};
+use tls_summary::CertificateFault;
 use tunnels::TunnelKind;
 
 /// Returns the name of a handshake's outcome.
@@ -46,6 +48,15 @@ pub fn kind_name(kind: Kind) -> &'static str {
         Kind::Heartbeat => "heartbeat",
         Kind::Unknown => "unknown",
         Kind::Other => "other",
+    }
+}
+
+/// Returns the name of the reason why a certificate can't be parsed.
+pub fn fault_name(fault: CertificateFault) -> &'static str {
+    match fault {
+        CertificateFault::Incomplete => "incomplete",
+        CertificateFault::Trailing => "trailing",
+        CertificateFault::Broken(kind) => error_name(kind),
     }
 }
 

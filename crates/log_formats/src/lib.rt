@@ -5,7 +5,8 @@
 //! formatted when it is written. [`Object`](objects::Object) builds a JSON object field by field,
 //! and [`TextCache`](text_cache::TextCache) caches fields that were written before.
 //!
-//! What it writes is only tested: clauses cover how cipher suites without a name are written.
+//! What it writes is only tested. Clauses cover how cipher suites without a name are written, and
+//! that a cached text is that of the same field and numbers, or certificate (`specs/Cached.antt`).
 #![tactic(auto)]
 
 pub mod cell;

@@ -19,8 +19,8 @@ pub enum LineFormat {
 }
 
 /// The formats, handed to the macro that is named, with what else is passed. A row has the name,
-/// its variant, and whether it has fields of its own and is for connections only. The lines
-/// themselves are written by style.rt, where each match has an arm for each format.
+/// its variant, and whether it has fields of its own and is for connections only. `log_writer`
+/// writes the lines themselves, where each match has an arm for each format.
 macro_rules! formats {
     ($then:ident $($given:tt)*) => {
         $then! {

@@ -1,5 +1,5 @@
 //! The line of a message.
-use log_fields::columns::{MESSAGE_FIELDS, MessageField};
+use log_fields::columns::{MessageField, message_fields};
 use log_fields::connection::identity_cell;
 use log_fields::context::Moment;
 use log_fields::names::sender_name;
@@ -38,7 +38,7 @@ fn message_cell(
 }
 
 /// Returns the line of a message that was completed at this moment, with the fields at these places
-/// of [`MESSAGE_FIELDS`].
+/// of [`message_fields`].
 pub fn message_row(
     alloc: Global,
     places: &[usize],
@@ -53,7 +53,7 @@ pub fn message_row(
     };
     let mut cells = Vec::with_capacity(alloc, places.len())?;
     for place in places {
-        if let Some((name, _, field)) = MESSAGE_FIELDS.get(*place) {
+        if let Some((name, _, field)) = message_fields().get(*place) {
             let cell = message_cell(moment, &sent, field)?;
             cells.push((*name, cell))?;
         }

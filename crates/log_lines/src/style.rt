@@ -4,9 +4,8 @@ ghost use Rattle.log_lines.specs.Style.{has_chains as has_chains_in, kind_of};
 
 use crate::certificate_line::certificate_row;
 use crate::format::LineFormat;
-use crate::json_line::json_line;
 use crate::message_line::message_row;
-use log_fields::columns::{CERTIFICATE_FIELDS, MESSAGE_FIELDS};
+use log_fields::columns::{certificate_fields, message_fields};
 use log_fields::connection::row_of;
 use log_fields::context::FieldContext;
 use log_fields::fields::fields;
@@ -41,9 +40,9 @@ pub enum LineKind {
 pub enum Lines {
     /// Each connection, at its end: places in [`fields`].
     Connections(Vec<usize>),
-    /// Each message, when it is complete: places in [`MESSAGE_FIELDS`].
+    /// Each message, when it is complete: places in [`message_fields`].
     Messages(Vec<usize>),
-    /// Each certificate, when it is complete: places in [`CERTIFICATE_FIELDS`].
+    /// Each certificate, when it is complete: places in [`certificate_fields`].
     Certificates(Vec<usize>),
 }
 
@@ -115,11 +114,11 @@ impl Display for StyleError<'_> {
             }
             StyleError::UnknownMessageField(name) => {
                 write!(f, "a message has no field {name}")?;
-                write_nearest(MESSAGE_FIELDS, name, f)
+                write_nearest(message_fields(), name, f)
             }
             StyleError::UnknownCertificateField(name) => {
                 write!(f, "a certificate has no field {name}")?;
-                write_nearest(CERTIFICATE_FIELDS, name, f)
+                write_nearest(certificate_fields(), name, f)
             }
             StyleError::TwoKinds => {
                 f.write_str("--messages and --certificates can't be combined")
@@ -182,12 +181,12 @@ impl Lines {
     {
         match kind {
             LineKind::Connections => Ok(Lines::Connections(places_of(alloc, fields(), names)?)),
-            LineKind::Messages => match places_of(alloc, MESSAGE_FIELDS, names) {
+            LineKind::Messages => match places_of(alloc, message_fields(), names) {
                 Ok(places) => Ok(Lines::Messages(places)),
                 Err(StyleError::UnknownField(name)) => Err(StyleError::UnknownMessageField(name)),
                 Err(e) => Err(e),
             },
-            LineKind::Certificates => match places_of(alloc, CERTIFICATE_FIELDS, names) {
+            LineKind::Certificates => match places_of(alloc, certificate_fields(), names) {
                 Ok(places) => Ok(Lines::Certificates(places)),
                 Err(StyleError::UnknownField(name)) => Err(StyleError::UnknownCertificateField(
                     name,
@@ -196,25 +195,43 @@ impl Lines {
             },
         }
     }
-}
 
-/// Returns the header of a Zeek log.
-fn zeek_header(alloc: Global, lines: &Lines, opened: i64) -> Result<String, AllocError> {
-    match lines {
-        Lines::Connections(places) => {
-            zeek::header(alloc, "ssl", opened, fields(), places.as_slice())
+    /// Returns the header of a Zeek log, whose start is `opened`, in seconds since 1970-01-01 00:00
+    /// UTC. It lacks the last line break.
+    pub fn zeek_header(&self, alloc: Global, opened: i64) -> Result<String, AllocError> {
+        match self {
+            Lines::Connections(places) => {
+                zeek::header(alloc, "ssl", opened, fields(), places.as_slice())
+            }
+            Lines::Messages(places) => {
+                zeek::header(
+                    alloc,
+                    "tls_messages",
+                    opened,
+                    message_fields(),
+                    places.as_slice(),
+                )
+            }
+            Lines::Certificates(places) => {
+                zeek::header(
+                    alloc,
+                    "x509",
+                    opened,
+                    certificate_fields(),
+                    places.as_slice(),
+                )
+            }
         }
-        Lines::Messages(places) => {
-            zeek::header(
-                alloc,
-                "tls_messages",
-                opened,
-                MESSAGE_FIELDS,
-                places.as_slice(),
-            )
-        }
-        Lines::Certificates(places) => {
-            zeek::header(alloc, "x509", opened, CERTIFICATE_FIELDS, places.as_slice())
+    }
+
+    /// Returns the line of names before comma-separated values, without its line break.
+    pub fn csv_header(&self, alloc: Global) -> Result<Vec<u8>, AllocError> {
+        match self {
+            Lines::Connections(places) => comma::header(alloc, fields(), places.as_slice()),
+            Lines::Messages(places) => comma::header(alloc, message_fields(), places.as_slice()),
+            Lines::Certificates(places) => {
+                comma::header(alloc, certificate_fields(), places.as_slice())
+            }
         }
     }
 }
@@ -223,22 +240,13 @@ fn zeek_header(alloc: Global, lines: &Lines, opened: i64) -> Result<String, Allo
 fn zeek_line(alloc: Global, lines: &Lines, row: &Row<'_>) -> Result<String, AllocError> {
     match lines {
         Lines::Connections(places) => zeek::line(alloc, fields(), places.as_slice(), row),
-        Lines::Messages(places) => zeek::line(alloc, MESSAGE_FIELDS, places.as_slice(), row),
+        Lines::Messages(places) => zeek::line(alloc, message_fields(), places.as_slice(), row),
         Lines::Certificates(places) => zeek::line(
             alloc,
-            CERTIFICATE_FIELDS,
+            certificate_fields(),
             places.as_slice(),
             row,
         ),
-    }
-}
-
-/// Returns the line of names before comma-separated values.
-fn csv_header(alloc: Global, lines: &Lines) -> Result<Vec<u8>, AllocError> {
-    match lines {
-        Lines::Connections(places) => comma::header(alloc, fields(), places.as_slice()),
-        Lines::Messages(places) => comma::header(alloc, MESSAGE_FIELDS, places.as_slice()),
-        Lines::Certificates(places) => comma::header(alloc, CERTIFICATE_FIELDS, places.as_slice()),
     }
 }
 
@@ -282,36 +290,8 @@ impl Style {
         self.format == LineFormat::Suricata
     }
 
-    /// Returns what comes before all lines, without its last line break, if there is something.
-    /// `opened` is the log's start, in seconds since 1970-01-01 00:00 UTC.
-    pub fn header(&self, alloc: Global, opened: i64) -> Result<Option<Vec<u8>>, AllocError> {
-        match self.format {
-            LineFormat::Json | LineFormat::Suricata | LineFormat::Ecs => Ok(None),
-            LineFormat::Text => Ok(Some(log_text::header(alloc)?)),
-            LineFormat::Csv => Ok(Some(csv_header(alloc, &self.lines)?)),
-            LineFormat::Zeek => Ok(Some(zeek_header(alloc, &self.lines, opened)?.into_bytes())),
-        }
-    }
-
-    /// Returns what comes behind all lines, without its last line break, if there is something.
-    /// `closed` is the log's end, in seconds since 1970-01-01 00:00 UTC.
-    pub fn footer(&self, alloc: Global, closed: i64) -> Result<Option<Vec<u8>>, AllocError> {
-        match self.format {
-            LineFormat::Zeek => Ok(Some(zeek::footer(alloc, closed)?.into_bytes())),
-            LineFormat::Json
-            | LineFormat::Csv
-            | LineFormat::Text
-            | LineFormat::Suricata
-            | LineFormat::Ecs => Ok(None),
-        }
-    }
-
     /// Returns a connection with this style's names and caches.
-    pub(crate) fn context<'a>(
-        &'a self,
-        alloc: Global,
-        summary: &'a Summary<'a>,
-    ) -> FieldContext<'a> {
+    pub fn context<'a>(&'a self, alloc: Global, summary: &'a Summary<'a>) -> FieldContext<'a> {
         FieldContext::new(alloc, &self.suites, &self.digests, summary)
     }
 
@@ -326,28 +306,20 @@ impl Style {
     }
 
     /// Returns the line of a connection, with the fields at these places of [`fields`], without its
-    /// line break. A JSON line reuses the memory of `room`.
-    pub fn connection_line(
+    /// line break: comma-separated values, as Zeek writes them, or a JSON object in any other
+    /// format.
+    pub fn row_line(
         &self,
         alloc: Global,
         places: &[usize],
         summary: &Summary<'_>,
-        room: Vec<u8>,
     ) -> Result<Vec<u8>, AllocError> {
-        match self.format {
-            LineFormat::Text => log_text::line(self.context(alloc, summary)),
-            LineFormat::Suricata => log_suricata::line(self.context(alloc, summary)),
-            LineFormat::Ecs => log_ecs::line(self.context(alloc, summary)),
-            LineFormat::Json => json_line(alloc, self, places, summary, room),
-            LineFormat::Csv | LineFormat::Zeek => {
-                let row = row_of(&mut self.context(alloc, summary), places)?;
-                self.line(alloc, &row)
-            }
-        }
+        let row = row_of(&mut self.context(alloc, summary), places)?;
+        self.line(alloc, &row)
     }
 
     /// Returns the line of a message that was completed at this time, with the fields at these
-    /// places of [`MESSAGE_FIELDS`], without its line break.
+    /// places of [`message_fields`], without its line break.
     pub fn message_line(
         &self,
         alloc: Global,
@@ -361,7 +333,7 @@ impl Style {
     }
 
     /// Returns the line of a certificate that was completed at this time, with the fields at these
-    /// places of [`CERTIFICATE_FIELDS`], without its line break.
+    /// places of [`certificate_fields`], without its line break.
     pub fn certificate_line(
         &self,
         alloc: Global,

@@ -50,21 +50,43 @@ pub record KeepsLast (d : Direction) (chain : Option (List Bytes)) (old new : Ce
   pub its : kept_of d new ≡ latest chain (kept_of d old)
   pub others : list_of (opposite d) new ≡ list_of (opposite d) old
 
--- A certificate, its sender, and how many are before it in its chain.
+-- A certificate, its sender, how many are before it in its chain, and how many both sides sent
+-- before it.
 pub record Sent : Type 0 where
   pub direction : Direction
   pub place : ℕ
+  pub number : ℕ
   pub bytes : Bytes
 
 abbrev pub view_sent : SentCertificate → Sent
-view_sent c = record { direction = c.direction; place = c.place; bytes = c.bytes.items }
+view_sent c = record {
+  direction = c.direction;
+  place = c.place;
+  number = c.number;
+  bytes = c.bytes.items;
+}
 
--- The certificates of a chain, numbered from n on. The number saturates.
-abbrev pub sent_from : Direction → ℕ → List Bytes → List Sent
-sent_from d n [] = []
-sent_from d n (c ∷ cs) = record { direction = d; place = n; bytes = c }
-    ∷ sent_from d (min (n + 1) (2 ^ 64 - 1)) cs
+-- One more certificate. A count saturates.
+abbrev pub next_count : ℕ → ℕ
+next_count n = min (n + 1) (2 ^ 64 - 1)
 
-abbrev pub sent_in : Direction → Option (List Bytes) → List Sent
-sent_in d None = []
-sent_in d (Some chain) = sent_from d 0 chain
+-- The certificates of a chain, the first at this place, and behind so many of both sides.
+abbrev pub sent_from : Direction → ℕ → ℕ → List Bytes → List Sent
+sent_from d place number [] = []
+sent_from d place number (c ∷ cs) =
+    record { direction = d; place = place; number = number; bytes = c }
+    ∷ sent_from d (next_count place) (next_count number) cs
+
+-- The certificates of a message, behind so many of both sides.
+abbrev pub sent_in : Direction → ℕ → Option (List Bytes) → List Sent
+sent_in d number None = []
+sent_in d number (Some chain) = sent_from d 0 number chain
+
+-- How many both sides have sent, with those of a chain.
+abbrev pub counted_from : ℕ → List Bytes → ℕ
+counted_from n [] = n
+counted_from n (c ∷ cs) = counted_from (next_count n) cs
+
+abbrev pub counted_behind : ℕ → Option (List Bytes) → ℕ
+counted_behind n None = n
+counted_behind n (Some chain) = counted_from n chain

@@ -25,17 +25,19 @@ is_by_number Number = true
 abbrev pub writes_numbers : MessageCollector → Bool
 writes_numbers m = is_by_number m.kept.suite_text
 
--- A message's sender, how many messages its sender sent before it, and the content type of its
--- record (RFC 8446, section 5.1). What is printed of it isn't defined.
+-- A message's sender, how many messages its sender and both sides sent before it, and the content
+-- type of its record (RFC 8446, section 5.1). What is printed of it isn't defined.
 pub record Place : Type 0 where
   pub direction : Direction
   pub before : ℕ
+  pub number : ℕ
   pub content_type : ℕ
 
 abbrev pub place_of : SentMessage → Place
 place_of m = record {
   direction = m.direction;
   before = m.place;
+  number = m.number;
   content_type = m.message.content_type.0;
 }
 
@@ -46,6 +48,10 @@ places_in m = map place_of m.messages.items
 abbrev pub count_of : Direction → CollectedMessages → ℕ
 count_of ToServer m = m.client_count
 count_of FromServer m = m.server_count
+
+-- How many messages both sides have sent. The count saturates.
+abbrev pub sent_by_both : CollectedMessages → ℕ
+sent_by_both m = min (m.client_count + m.server_count) (2 ^ 64 - 1)
 
 abbrev pub counting : Direction → ℕ → ℕ → ℕ → Direction → ℕ
 counting ToServer n client server ToServer = n
@@ -83,7 +89,12 @@ type_in_datagram (datagram.Fault f) is_read = None
 -- The message is kept behind the others, and its sender's count grows.
 pub record KeepsNext (d : Direction) (n : ℕ) (old new : CollectedMessages) : Type 0 where
   pub kept : places_in new ≡ places_in old
-      ++ record { direction = d; before = count_of d old; content_type = n } ∷ []
+      ++ record {
+        direction = d;
+        before = count_of d old;
+        number = sent_by_both old;
+        content_type = n;
+      } ∷ []
   pub client : count_of ToServer new
       ≡ counting d (one_more (count_of d old)) old.client_count old.server_count ToServer
   pub server : count_of FromServer new

@@ -2,7 +2,7 @@
 ghost use Rattle.std.specs.Prelude.{◌≡◌, ◌++◌, [], map, OnOk};
 ghost use Rattle.std.specs.Option.{option_map};
 ghost use Rattle.tls_flow.specs.Bytes.{view_handshake_message};
-ghost use Rattle.log_messages.specs.Certificates.{certificates_of, sent_in, view_sent};
+ghost use Rattle.log_messages.specs.Certificates.{certificates_of, counted_behind, sent_in, view_sent};
 
 use std::alloc::{AllocError, Global};
 use std::mem;
@@ -17,6 +17,8 @@ pub struct SentCertificate {
     pub direction: Direction,
     /// The number of certificates before it in its chain: 0 for its sender's own.
     pub place: u64,
+    /// The number of certificates that both sides sent before it.
+    pub number: u64,
     /// Its DER.
     pub bytes: Vec<u8>,
 }
@@ -26,16 +28,20 @@ pub struct SentCertificate {
 pub struct CertificateCollector {
     alloc: Global,
     kept: Vec<SentCertificate>,
+    // How many certificates both sides have sent.
+    count: u64,
 }
 
 impl CertificateCollector {
     /// Returns one that keeps nothing yet.
     pub fn new(alloc: Global) -> CertificateCollector
-        ensures { result.kept.items ≡ [] }
+        ensures none { result.kept.items ≡ [] }
+        ensures unsent { result.count ≡ 0 }
     {
         CertificateCollector {
             alloc,
             kept: Vec::new(alloc),
+            count: 0,
         }
     }
 
@@ -47,8 +53,10 @@ impl CertificateCollector {
         direction: Direction,
         message: Option<&HandshakeMessage<'_>>,
     ) -> Result<(), AllocError>
-        ensures { OnOk result (map view_sent self.new.kept.items ≡ map view_sent self.old.kept.items
-            ++ sent_in direction
+        ensures kept { OnOk result (map view_sent self.new.kept.items
+            ≡ map view_sent self.old.kept.items ++ sent_in direction self.old.count
+            (certificates_of (option_map (λ m. view_handshake_message m.now) message.entry))) }
+        ensures counted { OnOk result (self.new.count ≡ counted_behind self.old.count
             (certificates_of (option_map (λ m. view_handshake_message m.now) message.entry))) }
     {
         let Some(message) = message else {
@@ -67,11 +75,20 @@ impl CertificateCollector {
             self.kept.push(SentCertificate {
                 direction,
                 place,
+                number: self.count,
                 bytes,
             })?;
             place = place.saturating_add(1);
+            self.count = self.count.saturating_add(1);
         }
         Ok(())
+    }
+
+    /// Returns how many certificates both sides have sent. The count saturates.
+    pub fn count(&self) -> u64
+        ensures { result ≡ self.now.count }
+    {
+        self.count
     }
 
     /// Removes the certificates that are kept, and returns them.

@@ -1,7 +1,7 @@
 //! The unencrypted messages of both sides, each kept until its line is written.
 ghost use Rattle.std.specs.Prelude.{◌≡◌, [], IfOk, OnOk, is_some};
 ghost use Rattle.std.specs.Result.{IsOkAnd};
-ghost use Rattle.log_messages.specs.Messages.{Keeps, KeepsNext, count_of, counting, is_by_number, messages_of, one_more, type_in_datagram, type_in_stream, type_of_side, writes_numbers};
+ghost use Rattle.log_messages.specs.Messages.{Keeps, KeepsNext, count_of, counting, is_by_number, messages_of, one_more, sent_by_both, type_in_datagram, type_in_stream, type_of_side, writes_numbers};
 ghost use Rattle.tls_flow.specs.declared.symbol.Direction.TheVariants.{ToServer, FromServer};
 
 use serde::Serialize;
@@ -46,6 +46,8 @@ pub struct SentMessage {
     pub direction: Direction,
     /// The number of messages that its sender sent before it.
     pub place: u64,
+    /// The number of messages that both sides sent before it.
+    pub number: u64,
     /// The message.
     pub message: NamedMessage,
 }
@@ -187,6 +189,13 @@ struct CollectedMessages {
 }
 
 impl CollectedMessages {
+    /// Returns how many messages both sides have sent. The count saturates.
+    fn count(&self) -> u64
+        ensures { result ≡ sent_by_both self.now }
+    {
+        self.client_count.saturating_add(self.server_count)
+    }
+
     /// Returns the place of the next message in that direction, and counts it.
     fn next_place(&mut self, direction: Direction) -> u64
         ensures place { result ≡ count_of direction self.old }
@@ -225,10 +234,12 @@ impl CollectedMessages {
             (λ message. KeepsNext direction message.content_type.0 self.old self.new)) }
     {
         let message = message?;
+        let number = self.count();
         let place = self.next_place(direction);
         self.messages.push(SentMessage {
             direction,
             place,
+            number,
             message,
         })?;
         Ok(())
@@ -356,6 +367,13 @@ impl MessageCollector {
     {
         self.kept
             .add_datagram_event(self.alloc, direction, event, message)
+    }
+
+    /// Returns how many messages both sides have sent. The count saturates.
+    pub fn count(&self) -> u64
+        ensures { result ≡ sent_by_both self.now.kept }
+    {
+        self.kept.count()
     }
 
     /// Removes the messages that are kept, and returns them.

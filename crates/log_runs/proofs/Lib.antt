@@ -1,8 +1,13 @@
 mod AcceptLemmas
 mod CountLemmas
 mod DroppedLemmas
+mod OrderLemmas
 mod OthersLemmas
+mod OwnLemmas
 mod PartLemmas
+mod PlaceLemmas
 mod RunLemmas
+mod ShareLemmas
+mod SharingLemmas
 mod StaysLemmas
 mod StreamLemmas

@@ -88,11 +88,11 @@ module _ {K : Type 0} (M : K → ℕ) (e : FiveTuple) where
     processes_count p held =
         omega (
           arith,
-          count-append e (ended_in p.idle.ended) (outs_in p.arrives ++ ended_in p.crowded.ended),
-          count-append e (outs_in p.arrives) (ended_in p.crowded.ended),
+          count-append e (ended_in p.idle.ended) (outs_in p.arrives ++ ended_in p.evicted.ended),
+          count-append e (outs_in p.arrives) (ended_in p.evicted.ended),
           ended_count e p.idle.ended,
           arrives_count p.arrives held,
-          ended_count e p.crowded.ended,
+          ended_count e p.evicted.ended,
         )
 
   module _ (limit : ℕ) (old new : Table (TlsAnalysis K))
@@ -228,9 +228,9 @@ module _ {K : Type 0} (M : K → ℕ) where
         → Adds before after (values_of (outs_by p))
     processes_received p =
         both_received before p.first after (ended_in p.idle.ended)
-        (outs_in p.arrives ++ ended_in p.crowded.ended) (passes_received p.idle)
-        (both_received p.first p.second after (outs_in p.arrives) (ended_in p.crowded.ended)
-        (arrives_received p.arrives) (passes_received p.crowded))
+        (outs_in p.arrives ++ ended_in p.evicted.ended) (passes_received p.idle)
+        (both_received p.first p.second after (outs_in p.arrives) (ended_in p.evicted.ended)
+        (arrives_received p.arrives) (passes_received p.evicted))
 
   module _ (limit : ℕ) (old new : Table (TlsAnalysis K))
       (before after : Option (List (Connection (TlsAnalysis K)))) where

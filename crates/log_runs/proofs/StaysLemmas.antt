@@ -183,10 +183,10 @@ module _ {K : Type 0} (M : K → ℕ) (e : FiveTuple) where
         → StaysOrComesOut e (at e old.live) (at e new.live) (outs_by p)
     processes_stays apart p =
         stays_then e (at e old.live) (at e p.awake.live) (at e new.live) (ended_in p.idle.ended)
-        (outs_in p.arrives ++ ended_in p.crowded.ended) (ended_stays e p.idle.ended)
+        (outs_in p.arrives ++ ended_in p.evicted.ended) (ended_stays e p.idle.ended)
         (stays_then e (at e p.awake.live) (at e p.full.live) (at e new.live) (outs_in p.arrives)
-        (ended_in p.crowded.ended) (arrives_stays apart p.arrives)
-        (ended_stays e p.crowded.ended))
+        (ended_in p.evicted.ended) (arrives_stays apart p.arrives)
+        (ended_stays e p.evicted.ended))
 
   noted_stays : (f : FiveTuple) → is_five_tuple f e ≡ false → (b : Bool) (a : Arrival) (n : ℕ)
       (t : Table (TlsAnalysis K)) → five_tuple_in a ≡ f

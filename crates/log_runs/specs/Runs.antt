@@ -98,7 +98,7 @@ module _ {K : Type 0} {M : K → ℕ} where
   abbrev pub outs_by : {a : Arrival} {limit : ℕ} {old new : Table (TlsAnalysis K)}
       {before after : Option (List (Connection (TlsAnalysis K)))}
       → Processes M a limit old new before after → List (FiveTuple × Connection (TlsAnalysis K))
-  outs_by p = ended_in p.idle.ended ++ (outs_in p.arrives ++ ended_in p.crowded.ended)
+  outs_by p = ended_in p.idle.ended ++ (outs_in p.arrives ++ ended_in p.evicted.ended)
 
 -- The same of a packet's content. M is the most memory that a connection's collector takes.
 module _ {K : Type 0} (M : K → ℕ) where

@@ -4,7 +4,7 @@ use base64::engine::general_purpose::STANDARD;
 use connection_ids::flow_id;
 use connections::{Protocol, Side};
 use layouts::Items;
-use log_fields::columns::CertificateField;
+use log_certificates::CertificateField;
 use log_fields::connection::{cell_of, identity_cell, microseconds};
 use log_fields::context::{FieldContext, Moment, OwnCertificate};
 use log_fields::fields::{Field, Fingerprint, Identity, Negotiation, Offer};
@@ -262,9 +262,12 @@ fn serial_cell<'a>(
     alloc: Global,
     own: &mut OwnCertificate<'_>,
 ) -> Result<Option<Cell<'a>>, AllocError> {
-    match own.certificate() {
-        Some(certificate) => {
-            let digits = hex::encode_upper(alloc, certificate.tbs_certificate.serial_number)?;
+    let Some(certificate) = own.certificate() else {
+        return Ok(None);
+    };
+    match certificate.serial_number() {
+        Some(number) => {
+            let digits = hex::encode_upper(alloc, number)?;
             some_text(with_colons(alloc, digits.as_str()))
         }
         None => Ok(None),

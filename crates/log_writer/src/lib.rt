@@ -6,6 +6,7 @@
 #![tactic(auto)]
 
 mod configuration_error;
+mod format;
 mod lines;
 mod style;
 

@@ -2,6 +2,7 @@
 ghost use Rattle.std.specs.Prelude.{◌≡◌, OnOk};
 ghost use Rattle.log_io.specs.Output.{AppendsLine, TracksFailure};
 
+use crate::format::{connection_line, footer, header};
 use log_fields::summary::Summary;
 use log_io::{LineError, Output};
 use log_lines::Style;
@@ -18,8 +19,8 @@ pub fn write_header<W: Write>(
 ) -> Result<(), LineError>
     ensures { TracksFailure out.old.has_failed out.new.has_failed result }
 {
-    match style.header(alloc, opened)? {
-        Some(header) => out.write_line(header),
+    match header(alloc, style, opened)? {
+        Some(line) => out.write_line(line),
         None => Ok(()),
     }
 }
@@ -33,8 +34,8 @@ pub fn write_footer<W: Write>(
 ) -> Result<(), LineError>
     ensures { TracksFailure out.old.has_failed out.new.has_failed result }
 {
-    match style.footer(alloc, closed)? {
-        Some(footer) => out.write_line(footer),
+    match footer(alloc, style, closed)? {
+        Some(line) => out.write_line(line),
         None => Ok(()),
     }
 }
@@ -52,7 +53,7 @@ pub fn print_row<W: Write>(
     ensures failure { TracksFailure out.old.has_failed out.new.has_failed result }
 {
     let buffer = out.take_buffer();
-    out.write_formatted(style.connection_line(alloc, places, summary, buffer))
+    out.write_formatted(connection_line(alloc, style, places, summary, buffer))
 }
 
 /// Prints the line of a message that was complete at this time.

@@ -22,7 +22,6 @@ use Rattle.std.proofs.Common.{
 }
 use Rattle.layouts.specs.Bytes.{Bytes}
 use Rattle.tls_stream.specs.Item.{Event as StreamEvent}
-use Rattle.tls_flow.specs.Table.{outcome_at}
 use Rattle.tls_flow.specs.declared.symbol.Direction.{Direction as Side}
 use Rattle.tls_flow.specs.declared.symbol.Direction.TheVariants.{ToServer, FromServer}
 use Rattle.tls_stream.specs.Readers.{IsPast}
@@ -74,9 +73,8 @@ side_state_on h vs ws = sealed_twice (has_sealed vs) (has_sealed ws) h
 over_on : (h : SideState) (s : Side) (k : Known) (vs ws : List StreamEvent)
     → over_behind (side_state_behind h vs) s (known s k vs) ws ≡ over_behind h s k (ws ++ vs)
 over_on h s k vs ws =
-    ap (λ x. over_by x (outcome_at (known s (known s k vs) ws).flow.state)) (side_state_on h vs ws)
-    ∙ ap (λ (x : Known). over_by (side_state_behind h (ws ++ vs)) (outcome_at x.flow.state))
-    (known_on s k vs ws)
+    ap (λ x. over_by x s (known s (known s k vs) ws)) (side_state_on h vs ws)
+    ∙ ap (λ (x : Known). over_by (side_state_behind h (ws ++ vs)) s x) (known_on s k vs ws)
 
 received_on : (h : SideState) (s : Side) (k : Known) (vs ws : List StreamEvent) → AreReceived h s k vs
     → AreReceived (side_state_behind h vs) s (known s k vs) ws → AreReceived h s k (ws ++ vs)
@@ -112,9 +110,9 @@ side_state_of t u s p received = side_state_is t u s (side_state_behind (side_st
 over_of : (t u : Analyzer) (s : Side) (p : Bytes) (received : IsFollowed t s p u)
     → is_over u s ≡ over_behind (side_state t s) s (known_of t.conversation_state) received.sent
 over_of t u s p received =
-    ap (λ h. over_by h (outcome_at u.conversation_state.flow.state)) (side_state_of t u s p received)
-    ∙ ap (λ (k : Known). over_by (side_state_behind (side_state t s) received.sent)
-    (outcome_at k.flow.state)) received.known
+    ap (λ h. over_by h s (known_of u.conversation_state)) (side_state_of t u s p received)
+    ∙ ap (λ (k : Known). over_by (side_state_behind (side_state t s) received.sent) s k)
+    received.known
 
 left_further : (s : Side) (vs : List StreamEvent) (q : Bytes) (c d : ConversationReader) → IsLeft true s vs c d
     → IsLeft true s vs (further c s q) d

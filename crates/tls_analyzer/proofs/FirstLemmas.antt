@@ -32,10 +32,10 @@ use Rattle.std.proofs.Math.Seq.{take-append-add}
 use Rattle.std.proofs.lemmas.Bool.{le-ltb, lt-ltb, ltb-false, ltb-true}
 use Rattle.std.proofs.lemmas.List.{nil_from_length, take-append-drop, take-append-le}
 use Rattle.layouts.specs.Bytes.{Bytes}
-use Rattle.tls_flow.specs.Table.{outcome_at}
 use Rattle.tls_flow.specs.declared.symbol.Direction.{Direction as Side}
 use Rattle.tls_flow.specs.declared.symbol.Direction.TheVariants.{ToServer, FromServer}
 use Rattle.tls_detection.specs.Front.{begins_tls}
+use Rattle.tls_analyzer.specs.Following.{known_of}
 use Rattle.tls_analyzer.specs.Analyzers.{
   IsFirstBy,
   IsFirstRead,
@@ -250,7 +250,7 @@ first_again false false t m u s w p q waits same received = (
 )
 
 over_other : (t : Analyzer) (s : Side) → side_state t s ≡ Other → is_over t s ≡ true
-over_other t s other = ap (λ h. over_by h (outcome_at t.conversation_state.flow.state)) other
+over_other t s other = ap (λ h. over_by h s (known_of t.conversation_state)) other
 
 -- A side of which nothing is known gets a piece, and then another.
 both_short : (t m u : Analyzer) (s : Side) (p q : Bytes) → side_state t s ≡ Unknown

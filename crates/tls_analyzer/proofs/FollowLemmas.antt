@@ -30,7 +30,6 @@ use Rattle.std.proofs.Common.{
 use Rattle.std.specs.Global.{Vec}
 use Rattle.layouts.specs.Bytes.{Bytes}
 use Rattle.tls_stream.specs.Item.{Event as StreamEvent}
-use Rattle.tls_flow.specs.Table.{outcome_at}
 use Rattle.tls_flow.specs.declared.symbol.Direction.{Direction as Side}
 use Rattle.tls_flow.specs.declared.symbol.Direction.TheVariants.{ToServer, FromServer}
 use Rattle.tls_stream.specs.Readers.{IsFedBy, IsPast, reader_of}
@@ -92,7 +91,7 @@ on_begun t h s p fed ready = record {
   fed = fed.reader;
   past = refl;
   received = tt;
-  known = known_same t.conversation_state h fed.flow fed.handshake;
+  known = known_same t.conversation_state h fed.flow fed.handshake fed.longest;
   history = ap (λ (v : Vec ℕ). v.items) fed.history;
   same = with_same t s h;
   count = refl;
@@ -103,10 +102,9 @@ on_begun t h s p fed ready = record {
 over_is : (t u : Analyzer) (s : Side) (p : Bytes) (n : ℕ) (on : IsOn t s p u n)
     → is_over u s ≡ over_behind (side_state t s) s (known_of t.conversation_state) on.sent
 over_is t u s p n on =
-    ap (λ h. over_by h (outcome_at u.conversation_state.flow.state))
+    ap (λ h. over_by h s (known_of u.conversation_state))
     (side_state_is t u s (side_state_behind (side_state t s) on.sent) on.same)
-    ∙ ap (λ (k : Known). over_by (side_state_behind (side_state t s) on.sent) (outcome_at k.flow.state))
-    on.known
+    ∙ ap (λ (k : Known). over_by (side_state_behind (side_state t s) on.sent) s k) on.known
 
 -- The analyzer after an event, by whether that is encrypted.
 abbrev pub next_analyzer : Analyzer → Side → ConversationState → Bool → Analyzer

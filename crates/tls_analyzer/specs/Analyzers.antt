@@ -4,10 +4,9 @@ use Rattle.std.specs.Global.{Vec}
 use Rattle.layouts.specs.Bytes.{Bytes}
 use Rattle.tls_stream.specs.Item.{Event as StreamEvent}
 use Rattle.tls_flow.specs.Steps.{silence}
-use Rattle.tls_flow.specs.Table.{is_waiting, outcome_at}
+use Rattle.tls_flow.specs.Table.{outcome_at}
 use Rattle.tls_flow.specs.declared.symbol.Direction.{Direction as Side}
 use Rattle.tls_flow.specs.declared.symbol.Direction.TheVariants.{ToServer, FromServer}
-use Rattle.tls_flow.specs.declared.state.Outcome.{Outcome}
 use Rattle.tls_stream.specs.Readers.{IsBegun, IsFedBy, IsPast, reader_of, other}
 use Rattle.tls_stream.specs.SideReaders.{further_events}
 use Rattle.tls_stream.specs.declared.conversation_reader.ConversationReader.{ConversationReader}
@@ -16,6 +15,7 @@ use Rattle.tls_detection.specs.Front.{begins_tls}
 use Rattle.tls_stream.specs.Events.{default_limit}
 use Rattle.tls_analyzer.specs.Following.{IsHelloNoted, IsNoted, known_of, turns, with_fault}
 use Rattle.ssl2_hello.specs.ClientHello as ssl2
+use Rattle.tls_observer.specs.Ends.{awaits, has_finished}
 use Rattle.tls_observer.specs.History.{history}
 use Rattle.tls_observer.specs.Noting.{Known, has_sealed, is_sealed, known}
 use Rattle.tls_analyzer.specs.declared.analyzer.SideState.{SideState}
@@ -66,20 +66,26 @@ pub record IsNew (t : Analyzer) : Type 0 where
   pub flow : t.conversation_state.flow ≡ silence
   pub handshake : view_summary t.conversation_state.handshake ≡ nothing
   pub history : t.conversation_state.history.items ≡ []
+  pub longest : t.conversation_state.longest ≡ 0
   pub is_tls : t.is_tls ≡ false
   pub client : t.client ≡ Unknown
   pub server : t.server ≡ Unknown
   pub client_first : t.client_first.items ≡ []
   pub server_first : t.server_first.items ≡ []
 
-abbrev pub over_by : SideState → Outcome → Bool
-over_by Encrypted o = not (is_waiting o)
-over_by Other o = true
-over_by _ o = false
+-- The client has sent a record that can hold its Finished.
+abbrev pub has_finished_by : Known → Bool
+has_finished_by k = has_finished 4 k.handshake k.longest
 
--- A side is skipped once it is encrypted and the handshake has ended, or if it isn't TLS.
+abbrev pub over_by : SideState → Side → Known → Bool
+over_by Encrypted s k = not (awaits s (outcome_at k.flow.state) (has_finished_by k))
+over_by Other s k = true
+over_by _ s k = false
+
+-- A side is skipped once it is encrypted and the handshake has ended, for the client of TLS 1.3
+-- with its Finished; or if it isn't TLS.
 abbrev pub is_over : Analyzer → Side → Bool
-is_over t s = over_by (side_state t s) (outcome_at t.conversation_state.flow.state)
+is_over t s = over_by (side_state t s) s (known_of t.conversation_state)
 
 -- The side is encrypted from here on, if one of its events was.
 abbrev pub sealed_if : Bool → SideState → SideState
@@ -99,7 +105,7 @@ abbrev pub side_state_behind : SideState → List StreamEvent → SideState
 side_state_behind h vs = sealed_if (has_sealed vs) h
 
 abbrev pub over_behind : SideState → Side → Known → List StreamEvent → Bool
-over_behind h s k vs = over_by (side_state_behind h vs) (outcome_at (known s k vs).flow.state)
+over_behind h s k vs = over_by (side_state_behind h vs) s (known s k vs)
 
 -- The side wasn't over before any of these.
 abbrev pub AreReceived : SideState → Side → Known → List StreamEvent → Type 0

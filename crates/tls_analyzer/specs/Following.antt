@@ -11,11 +11,12 @@ use Rattle.tls_flow.specs.declared.symbol.Kind.TheVariants as kind
 use Rattle.ssl2_hello.specs.ClientHello as ssl2
 use Rattle.std.specs.Str.{byte}
 use Rattle.tls_observer.specs.History.{history, letter_of, with_letter}
-use Rattle.tls_observer.specs.Noting.{Known, followed, is_sealed, noted, stepped}
+use Rattle.tls_observer.specs.Noting.{Known, followed, is_sealed, longest_after, noted, stepped}
 use Rattle.tls_analyzer.specs.declared.conversation_state.ConversationState.{ConversationState}
 
 abbrev pub known_of : ConversationState → Known
-known_of h = record { flow = h.flow; handshake = view_summary h.handshake }
+known_of h =
+    record { flow = h.flow; handshake = view_summary h.handshake; longest = h.longest }
 
 -- The side gets another piece, and nothing is recorded.
 pub record IsFed (h : ConversationState) (s : Side) (p : Bytes)
@@ -24,6 +25,7 @@ pub record IsFed (h : ConversationState) (s : Side) (p : Bytes)
   pub flow : i.flow ≡ h.flow
   pub handshake : i.handshake ≡ h.handshake
   pub history : i.history ≡ h.history
+  pub longest : i.longest ≡ h.longest
 
 -- v is the side's next event, which is followed and recorded.
 pub record IsNoted (h : ConversationState) (s : Side) (v : StreamEvent)
@@ -32,6 +34,7 @@ pub record IsNoted (h : ConversationState) (s : Side) (v : StreamEvent)
   pub flow : i.flow ≡ followed s h.flow (view_summary h.handshake) v
   pub handshake : view_summary i.handshake ≡ noted s (view_summary h.handshake) v
   pub history : i.history.items ≡ with_letter s h.history.items (letter_of v)
+  pub longest : i.longest ≡ longest_after s v (view_summary h.handshake) h.longest
 
 -- The side sends a ClientHello of SSL 2.0's form (RFC 5246, appendix E.2), which is followed and
 -- recorded like any other.
@@ -41,6 +44,7 @@ pub record IsHelloNoted (h : ConversationState) (s : Side) (x : ssl2.ClientHello
   pub flow : i.flow ≡ stepped s h.flow (view_summary h.handshake) (plain kind.ClientHello s)
   pub handshake : view_summary i.handshake ≡ asked_in_ssl2 s x (view_summary h.handshake)
   pub history : i.history.items ≡ with_letter s h.history.items (Some (byte "c"))
+  pub longest : i.longest ≡ h.longest
 
 -- The side doesn't speak TLS, which is followed as a fault of it. Nothing is recorded.
 abbrev pub with_fault : Side → ConversationState → ConversationState

@@ -8,7 +8,8 @@ ghost use Rattle.tls_summary.specs.HandshakeSummary.{view_summary};
 ghost use Rattle.tls_flow.specs.Table.{outcome_at};
 ghost use Rattle.tls_observer.specs.Ends.{is_established as established_by, is_resumed as resumed_by};
 ghost use Rattle.tls_analyzer.specs.Capacity.{capacity_of};
-ghost use Rattle.tls_analyzer.specs.Analyzers.{IsFirstRead, IsReadAsNone, IsReadInSsl2, IsReadOn, IsNew, IsNext, IsTaken, IsAnalyzerOf, Waits, side_state as side_state_of, is_over as is_over_in, is_tls_on as is_tls_on_side, is_unknown as is_unknown_in, waiting as waiting_of, with_side_state};
+ghost use Rattle.tls_analyzer.specs.Following.{known_of};
+ghost use Rattle.tls_analyzer.specs.Analyzers.{IsFirstRead, has_finished_by as finished_by, IsReadAsNone, IsReadInSsl2, IsReadOn, IsNew, IsNext, IsTaken, IsAnalyzerOf, Waits, side_state as side_state_of, is_over as is_over_in, is_tls_on as is_tls_on_side, is_unknown as is_unknown_in, waiting as waiting_of, with_side_state};
 
 use crate::conversation_state::ConversationState;
 use ssl2_hello::Ssl2ClientHello;
@@ -108,12 +109,18 @@ impl Analyzer {
         self.conversation_state.flow.stop()
     }
 
-    /// Whether the visible part of the handshake is complete. In TLS 1.3 it ends with the
-    /// ServerHello, since what follows is encrypted.
+    /// Whether the handshake is complete. TLS 1.3 ends it with the client's Finished, which is
+    /// encrypted: there the client has answered the ServerHello with a record of application_data
+    /// that can hold a Finished (RFC 8446, section 4.4.4), which an alert or an empty Certificate
+    /// can't.
+    ///
+    /// Early data that is still on its way when the ServerHello comes counts as an answer, since it
+    /// can't be told from one.
     pub fn is_established(&self) -> bool
-        ensures { result ≡ established_by (outcome_at self.now.conversation_state.flow.state) }
+        ensures { result ≡ established_by (outcome_at self.now.conversation_state.flow.state)
+            (finished_by (known_of self.now.conversation_state)) }
     {
-        ends::is_established(self.outcome())
+        ends::is_established(self.outcome(), self.conversation_state.has_finished())
     }
 
     /// Whether a session was resumed, or a pre-shared key accepted.
@@ -160,13 +167,13 @@ impl Analyzer {
     }
 
     /// Whether the side is skipped from now on: it isn't TLS, or it is encrypted and the handshake
-    /// has ended.
+    /// has ended, for the client of TLS 1.3 with its Finished.
     pub fn is_over(&self, side: Direction) -> bool
         ensures { result ≡ is_over_in self.now side }
     {
         match self.side_state(side) {
             SideState::Unknown | SideState::Clear => false,
-            SideState::Encrypted => !matches!(self.outcome(), Outcome::Waiting),
+            SideState::Encrypted => !self.conversation_state.awaits(side),
             SideState::Other => true,
         }
     }

@@ -10,12 +10,16 @@ ghost use Rattle.tls_summary.specs.HandshakeSummary.{nothing, view_summary};
 ghost use Rattle.tls_flow.specs.Steps.{silence};
 ghost use Rattle.tls_observer.specs.Noting.{followed, is_sealed, noted, noted_with, stepped};
 ghost use Rattle.tls_observer.specs.History.{letter_of, with_letter};
-ghost use Rattle.tls_analyzer.specs.Following.{IsFed, IsHelloNoted, IsNextTaken, with_fault};
+ghost use Rattle.tls_flow.specs.Table.{outcome_at};
+ghost use Rattle.tls_observer.specs.Ends.{awaits as awaits_by};
+ghost use Rattle.tls_analyzer.specs.Analyzers.{has_finished_by as finished_by};
+ghost use Rattle.tls_analyzer.specs.Following.{IsFed, IsHelloNoted, IsNextTaken, known_of, with_fault};
 
 use ssl2_hello::Ssl2ClientHello;
 use std::alloc::{AllocError, Global};
 use tls_flow::{Direction, Flow, FlowEvent, HandshakeMessage, Kind};
 use tls_observer::Observer;
+use tls_observer::ends::{MESSAGE_HEADER, awaits, has_finished, longest_after};
 use tls_observer::history::{add_letter, stream_letter};
 use tls_stream::{
     ConversationReader, DEFAULT_LIMIT, Event, SideEvent, stream_event_with, stream_message,
@@ -33,6 +37,8 @@ pub(crate) struct ConversationState {
     pub(crate) handshake: HandshakeSummary,
     // A letter for each event.
     pub(crate) history: Vec<u8>,
+    // The length of the client's longest encrypted record that answers the ServerHello.
+    pub(crate) longest: usize,
 }
 
 /// Whether what follows in this direction is encrypted.
@@ -125,13 +131,30 @@ impl ConversationState {
         ensures unfollowed { result.flow ≡ silence }
         ensures unknown { view_summary result.handshake ≡ nothing }
         ensures unlettered { result.history.items ≡ [] }
+        ensures unsealed { result.longest ≡ 0 }
     {
         ConversationState {
             reader: ConversationReader::new(alloc),
             flow: Flow::new(),
             handshake: HandshakeSummary::new(),
             history: Vec::new(alloc),
+            longest: 0,
         }
+    }
+
+    /// Whether the client of TLS 1.3 can have sent its Finished.
+    pub(crate) fn has_finished(&self) -> bool
+        ensures { result ≡ finished_by (known_of self.now) }
+    {
+        has_finished(MESSAGE_HEADER, &self.handshake, self.longest)
+    }
+
+    /// Whether a side's further records matter.
+    pub(crate) fn awaits(&self, side: Direction) -> bool
+        ensures { result ≡ awaits_by side (outcome_at self.now.flow.state)
+            (finished_by (known_of self.now)) }
+    {
+        awaits(side, self.flow.outcome(), self.has_finished())
     }
 
     /// Appends a piece of this side's stream.
@@ -181,6 +204,7 @@ impl ConversationState {
     {
         let (event, is_encrypted) = match self.reader.front(side) {
             Some(sent) => {
+                self.longest = longest_after(side, &sent, &self.handshake, self.longest);
                 let (flow, handshake) = (&mut self.flow, &mut self.handshake);
                 let event = emit(
                     flow,

@@ -15,6 +15,7 @@ use Rattle.std.specs.Prelude.{
   ◌&&◌,
   ◌||◌,
   not,
+  nat_lt,
 }
 use Rattle.layouts.specs.Bytes.{Bytes}
 use Rattle.layouts.specs.Framed.{Framed}
@@ -34,11 +35,19 @@ use Rattle.tls_flow.specs.declared.symbol.Kind.TheVariants as kind
 use Rattle.tls_flow.specs.declared.symbol.Direction.{Direction}
 use Rattle.tls_flow.specs.declared.symbol.Direction.TheVariants.{ToServer, FromServer}
 
--- The version that the server picks (RFC 8446, 4.2.1) is TLS 1.3 (0x0304), a draft of it (0x7f and
--- the draft's number), or DTLS 1.3 (0xfefc; RFC 9147, 5.4).
+-- A version before TLS 1.3: SSL 3.0 to TLS 1.2 (0x0300 to 0x0303; RFC 5246, E.1), DTLS 1.0 (0xfeff;
+-- RFC 4347, 4.1) and DTLS 1.2 (0xfefd; RFC 6347, 4.1).
+abbrev pub is_earlier : ℕ → ℕ → Bool
+is_earlier major minor = (major == 3 && nat_lt minor 4)
+    || (major == 0xfe && (minor == 0xff || minor == 0xfd))
+
+-- The version that the server picks (RFC 8446, 4.2.1), in two bytes. A server that negotiates an
+-- earlier one doesn't send it. So it is TLS 1.3 (0x0304), DTLS 1.3 (0xfefc; RFC 9147, 5.3), or a
+-- draft of these, whose numbers aren't registered: 0x7f and the draft's number (RFC 8446's drafts,
+-- 4.2.1.1), or one of an implementation, such as 0xfb17. A client that finds an earlier version here
+-- aborts the handshake, which counts as one of that version.
 abbrev pub is_tls13_version : Bytes → Bool
-is_tls13_version (major ∷ minor ∷ []) = (major == 3 && minor == 4) || major == 127
-    || (major == 0xfe && minor == 0xfc)
+is_tls13_version (major ∷ minor ∷ []) = not (is_earlier major minor)
 is_tls13_version _ = false
 
 -- The extension is supported_versions and names such a version.

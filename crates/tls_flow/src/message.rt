@@ -5,7 +5,7 @@ ghost use Rattle.tls_ext.specs.InPlace.{view_raw_extension};
 ghost use Rattle.tls_hs.specs.ServerHello.{view_server_hello};
 ghost use Rattle.tls_hs.specs.Handshake.{view_handshake};
 ghost use Rattle.tls_hs.specs.Message.{view_message};
-ghost use Rattle.tls_flow.specs.Messages.{is_tls13_version, picks_tls13 as picks, picks_in, kind_of_server_hello, kind_of_handshake, kind_of_alert, kind_of, direction, symbol_of as symbol_is};
+ghost use Rattle.tls_flow.specs.Messages.{is_earlier as is_earlier_by, is_tls13_version, picks_tls13 as picks, picks_in, kind_of_server_hello, kind_of_handshake, kind_of_alert, kind_of, direction, symbol_of as symbol_is};
 
 use crate::symbol::{Direction, Kind, Symbol};
 use layouts::Items;
@@ -13,15 +13,20 @@ use tls_base::{TlsAlertDescription, TlsAlertSeverity, TlsExtensionType, TlsMessa
 use tls_ext::RawExtension;
 use tls_hs::{TlsMessage, TlsMessageHandshake, TlsServerHelloContents};
 
-/// Whether the content of a ServerHello's supported_versions is TLS 1.3, a draft of it, or DTLS
-/// 1.3.
+/// Whether a version is earlier than TLS 1.3: SSL 3.0 to TLS 1.2, or DTLS 1.0 or 1.2.
+fn is_earlier(major: u8, minor: u8) -> bool
+    ensures { result ≡ is_earlier_by major minor }
+{
+    (major == 3 && minor <= 3) || (major == 0xfe && (minor == 0xff || minor == 0xfd))
+}
+
+/// Whether the content of a ServerHello's supported_versions is TLS 1.3, DTLS 1.3, or a draft of
+/// these: any version that isn't earlier (RFC 8446, section 4.2.1).
 fn is_tls13(content: &[u8]) -> bool
     ensures { result ≡ is_tls13_version content.now }
 {
     match content {
-        [major, minor] => {
-            (*major == 3 && *minor == 4) || *major == 0x7f || (*major == 0xfe && *minor == 0xfc)
-        }
+        [major, minor] => !is_earlier(*major, *minor),
         _ => false,
     }
 }
@@ -33,7 +38,7 @@ fn is_pick(extension: &RawExtension<'_>) -> bool
     extension.extension_type == TlsExtensionType::SupportedVersions && is_tls13(extension.content)
 }
 
-/// Whether a ServerHello's block of extensions picks TLS 1.3, a draft of it, or DTLS 1.3, in
+/// Whether a ServerHello's block of extensions picks TLS 1.3, DTLS 1.3 or a draft of these, in
 /// supported_versions. It stops at bytes that are no extension.
 pub fn picks_tls13(block: &[u8]) -> bool
     ensures { result ≡ picks_in block.now }

@@ -13,7 +13,6 @@ use Rattle.dtls_records.specs.DtlsHello as datagram
 use Rattle.tls_flow.specs.Bytes.{HandshakeMessage, datagram_message, message_of}
 use Rattle.tls_flow.specs.declared.symbol.Direction.{Direction as Side}
 use Rattle.tls_flow.specs.declared.symbol.Direction.TheVariants.{ToServer, FromServer}
-use Rattle.tls_summary.specs.Exchange.{curve_by}
 use Rattle.tls_summary.specs.Hellos.{share_group_in}
 use Rattle.layouts.specs.Text.{held}
 use Rattle.tls_summary.specs.HandshakeSummary.{
@@ -26,6 +25,7 @@ use Rattle.tls_summary.specs.HandshakeSummary.{
   exchanged,
   exchanged_by,
   has_asked,
+  has_encrypted,
   is_behind_first,
   of_alert,
   of_bytes,
@@ -40,6 +40,7 @@ use Rattle.tls_summary.specs.HandshakeSummary.{
   of_server_hello,
   of_ssl2,
   retried,
+  ticketed,
   verified,
 }
 
@@ -71,6 +72,7 @@ asked_keeps ToServer h f = go (has_asked f) refl
     next = record f {
       client = Some h;
       is_asked_again = not (is_some f.client) && f.is_asked_again;
+      had_encrypted_hello = f.had_encrypted_hello || has_encrypted f.client;
       ssl2_cipher_specs = None;
     }
 
@@ -137,12 +139,16 @@ exchanged_keeps s b f = go f.server
   where
     go : (h : Option server.ServerHello) → KeepsHellos s f (exchanged_by h b f)
     go None = stays s f
-    go (Some h) = beside s f (record f { curve = curve_by h.cipher_suite b f.curve }) refl refl refl
+    go (Some h) = beside s f (exchanged_by (Some h) b f) refl refl refl
+
+ticketed_keeps : (s : Side) (b : Bytes) (f : HandshakeSummary) → KeepsHellos s f (ticketed s b f)
+ticketed_keeps ToServer b f = beside ToServer f (ticketed ToServer b f) refl refl refl
+ticketed_keeps FromServer b f = beside FromServer f (ticketed FromServer b f) refl refl refl
 
 other_keeps : (s : Side) (n : ℕ) (b : Bytes) (f : HandshakeSummary)
     → KeepsHellos s f (of_other s n b f)
 other_keeps s n b f =
-    if_keeps s f (n == 4) _ _ (beside s f (record f { has_ticket = true }) refl refl refl)
+    if_keeps s f (n == 4) _ _ (ticketed_keeps s b f)
     (if_keeps s f (n == 6) _ _ (retried_keeps s f)
     (if_keeps s f (n == 11) _ _ (certified_keeps s (reading certificate b) f)
     (if_keeps s f (n == 12) _ _ (exchanged_keeps s b f)

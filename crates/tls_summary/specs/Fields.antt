@@ -1,5 +1,5 @@
 -- The fields of a connection.
-use Rattle.std.specs.Prelude.{ℕ, Bool, List, [], ◌∷◌, Option, Some, None, ◌==◌, if◌then◌else◌, length}
+use Rattle.std.specs.Prelude.{ℕ, ◌&&◌, not, Bool, List, [], ◌∷◌, Option, Some, None, ◌==◌, if◌then◌else◌, length}
 use Rattle.std.specs.Option.{option_map}
 use Rattle.tls_base.specs.ExtensionNumbers as extension_number
 use Rattle.tls_key_exchange.specs.Timestamp.{SignedCertificateTimestamp}
@@ -13,13 +13,10 @@ use Rattle.tls_hs.specs.Hello as client
 use Rattle.tls_hs.specs.ServerHello as server
 use Rattle.tls_flow.specs.declared.symbol.Direction.{Direction as Side}
 use Rattle.tls_flow.specs.declared.symbol.Direction.TheVariants.{ToServer, FromServer}
-use Rattle.tls_summary.specs.HandshakeSummary.{HandshakeSummary}
+use Rattle.tls_summary.specs.Encrypted.{EncryptedClientHello, encrypted_client_hello, encrypted_in}
+use Rattle.tls_summary.specs.HandshakeSummary.{HandshakeSummary, extensions_of_client}
 use Rattle.tls_ext.specs.Offered.{algorithms_in, content_in, formats_in, groups_in, known}
-use Rattle.tls_summary.specs.Hellos.{first_of, has, has_ticket_in, host_among, modes_in, names_in, others_among, protocols_in, share_group_in, shares_in, timestamps_in, versions_in}
-
-abbrev pub extensions_of_client : Option client.ClientHello → Bytes
-extensions_of_client None = []
-extensions_of_client (Some h) = held h.extensions
+use Rattle.tls_summary.specs.Hellos.{count_of, first_of, has, has_ticket_in, host_among, modes_in, names_in, others_among, protocols_in, share_group_in, shares_in, timestamps_in, versions_in}
 
 abbrev pub extensions_of_server : Option server.ServerHello → Bytes
 extensions_of_server None = []
@@ -120,7 +117,18 @@ has_cookie f = has extension_number.cookie (client_extensions f)
 
 -- encrypted_client_hello (RFC 9849, section 5).
 abbrev pub offers_encrypted_client_hello : HandshakeSummary → Bool
-offers_encrypted_client_hello f = has 0xfe0d (client_extensions f)
+offers_encrypted_client_hello f = has encrypted_client_hello (client_extensions f)
+
+-- Its outer form.
+abbrev pub client_encrypted_hello : HandshakeSummary → Option EncryptedClientHello
+client_encrypted_hello f = encrypted_in (client_extension encrypted_client_hello f)
+
+-- Whether the hello that a HelloRetryRequest asked for has it again, if the first hello had it (RFC
+-- 9849, section 6.1.5). None if there are no two such hellos.
+abbrev pub repeats_encrypted_client_hello : HandshakeSummary → Option Bool
+repeats_encrypted_client_hello f =
+    if f.had_encrypted_hello && f.is_retried && not f.is_asked_again then
+    Some (offers_encrypted_client_hello f) else None
 
 -- delegated_credential (RFC 9345, section 4.1.1).
 abbrev pub offers_delegated_credentials : HandshakeSummary → Bool
@@ -169,3 +177,6 @@ server_key_share f = share_group_in (server_extensions f)
 
 abbrev pub server_timestamps : HandshakeSummary → List SignedCertificateTimestamp
 server_timestamps f = timestamps_in (server_extensions f)
+
+abbrev pub server_timestamp_count : HandshakeSummary → ℕ
+server_timestamp_count f = count_of (server_timestamps f)

@@ -17,8 +17,9 @@ use Rattle.tls_flow.specs.declared.symbol.Direction.{Direction as Side}
 use Rattle.tls_flow.specs.declared.symbol.Direction.TheVariants.{ToServer, FromServer}
 use Rattle.tls_flow.specs.declared.symbol.Kind.{Kind}
 use Rattle.tls_flow.specs.declared.symbol.Kind.TheVariants as kind
-use Rattle.tls_summary.specs.Exchange.{curve_by}
-use Rattle.tls_summary.specs.Hellos.{share_group_in}
+use Rattle.tls_summary.specs.Encrypted.{encrypted_client_hello}
+use Rattle.tls_summary.specs.Exchange.{curve_by, prime_bits_by}
+use Rattle.tls_summary.specs.Hellos.{has, share_group_in, value_in}
 use Rattle.tls_summary.specs.Parts.{summaries_of_all, first_of, view_client, view_server}
 use Rattle.tls_summary.specs.declared.summary.HandshakeSummary as rust
 use Rattle.tls_summary.specs.declared.parts.CertificateSummary.{CertificateSummary}
@@ -29,6 +30,8 @@ pub record HandshakeSummary : Type 0 where
   pub server : Option server.ServerHello
   -- the group of the key exchange, from the server's key share or its ServerKeyExchange
   pub curve : Option ℕ
+  -- the length of the prime in the ServerKeyExchange, in bits
+  pub dh_bits : Option ℕ
   -- the last Certificate of each side, and its end-entity certificate
   pub client_certificates : Option (List CertificateSummary)
   pub server_certificates : Option (List CertificateSummary)
@@ -41,6 +44,10 @@ pub record HandshakeSummary : Type 0 where
   pub requests_certificate : Bool
   pub has_status : Bool
   pub has_ticket : Bool
+  -- the lifetime in the server's last NewSessionTicket, in seconds
+  pub ticket_lifetime_hint : Option ℕ
+  -- whether a ClientHello that another one replaced had encrypted_client_hello
+  pub had_encrypted_hello : Bool
   -- the description of the last alert
   pub last_alert : Option ℕ
   -- the CipherSpecs of a ClientHello of SSL 2.0's form
@@ -51,6 +58,7 @@ view_summary f = record {
   client = option_map view_client f.client;
   server = option_map view_server f.server;
   curve = option_map (λ g. g.0) f.curve;
+  dh_bits = f.dh_bits;
   client_certificates = option_map (λ v. v.items) f.client_certificates;
   server_certificates = option_map (λ v. v.items) f.server_certificates;
   client_certificate = option_map (λ v. v.items) f.client_certificate;
@@ -60,6 +68,8 @@ view_summary f = record {
   requests_certificate = f.requests_certificate;
   has_status = f.has_status;
   has_ticket = f.has_ticket;
+  ticket_lifetime_hint = f.ticket_lifetime_hint;
+  had_encrypted_hello = f.had_encrypted_hello;
   last_alert = option_map (λ a. a.0) f.last_alert;
   ssl2_cipher_specs = option_map (λ v. items_in (number 3) v.items) f.ssl2_cipher_specs;
 }
@@ -70,6 +80,7 @@ nothing = record {
   client = None;
   server = None;
   curve = None;
+  dh_bits = None;
   client_certificates = None;
   server_certificates = None;
   client_certificate = None;
@@ -79,6 +90,8 @@ nothing = record {
   requests_certificate = false;
   has_status = false;
   has_ticket = false;
+  ticket_lifetime_hint = None;
+  had_encrypted_hello = false;
   last_alert = None;
   ssl2_cipher_specs = None;
 }
@@ -86,6 +99,14 @@ nothing = record {
 -- The client sent its hello and wasn't asked for another.
 abbrev pub has_asked : HandshakeSummary → Bool
 has_asked f = is_some f.client && not f.is_asked_again
+
+abbrev pub extensions_of_client : Option client.ClientHello → Bytes
+extensions_of_client None = []
+extensions_of_client (Some h) = held h.extensions
+
+-- A ClientHello has encrypted_client_hello (RFC 9849, section 5).
+abbrev pub has_encrypted : Option client.ClientHello → Bool
+has_encrypted h = has encrypted_client_hello (extensions_of_client h)
 
 -- The client's first ClientHello is kept until the one that it is asked for (RFC 8446, section
 -- 4.1.2; RFC 6347, section 4.2.1), which replaces it entirely. One that nobody asked for is ignored
@@ -96,6 +117,7 @@ asked ToServer h f =
     else record f {
       client = Some h;
       is_asked_again = not (is_some f.client) && f.is_asked_again;
+      had_encrypted_hello = f.had_encrypted_hello || has_encrypted f.client;
       ssl2_cipher_specs = None;
     }
 asked FromServer h f = f
@@ -171,10 +193,13 @@ of_draft h = record {
   extensions = h.extensions;
 }
 
--- The curve of a ServerKeyExchange, by the chosen suite.
+-- The curve of a ServerKeyExchange, or the length of its prime, by the chosen suite.
 abbrev pub exchanged_by : Option server.ServerHello → Bytes → HandshakeSummary → HandshakeSummary
 exchanged_by None b f = f
-exchanged_by (Some h) b f = record f { curve = curve_by h.cipher_suite b f.curve }
+exchanged_by (Some h) b f = record f {
+  curve = curve_by h.cipher_suite b f.curve;
+  dh_bits = prime_bits_by h.cipher_suite b f.dh_bits;
+}
 
 abbrev pub exchanged : Bytes → HandshakeSummary → HandshakeSummary
 exchanged b f = exchanged_by f.server b f
@@ -192,12 +217,19 @@ abbrev pub certified : Side → Answer (List Bytes) → HandshakeSummary → Han
 certified s (Ok x) f = with_chain s (summaries_of_all x.0) (first_of x.0) f
 certified s (Err e) f = f
 
+-- A NewSessionTicket begins with the ticket's lifetime, in 4 bytes (RFC 5077, section 3.3). Only
+-- the server sends one.
+abbrev pub ticketed : Side → Bytes → HandshakeSummary → HandshakeSummary
+ticketed ToServer b f = record f { has_ticket = true }
+ticketed FromServer b f =
+    record f { has_ticket = true; ticket_lifetime_hint = value_in (reading (number 4) b) }
+
 -- The update by a message that isn't a hello, from its side, type and body (RFC 5246, section 7.4).
 -- A HelloRetryRequest with a message type belongs to the drafts of TLS 1.3
 -- (draft-ietf-tls-tls13-19, section 4.1.4).
 abbrev pub of_other : Side → ℕ → Bytes → HandshakeSummary → HandshakeSummary
 of_other s n b f =
-    if n == 4 then record f { has_ticket = true }
+    if n == 4 then ticketed s b f
     else if n == 6 then retried s f
     else if n == 11 then certified s (reading certificate b) f
     else if n == 12 then exchanged b f

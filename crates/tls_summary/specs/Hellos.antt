@@ -1,5 +1,5 @@
 -- The fields of a hello's extensions; none if the extension is missing or refused.
-use Rattle.std.specs.Prelude.{ℕ, Bool, true, false, List, [], ◌∷◌, Option, Some, None, Ok, Err, ◌==◌, if◌then◌else◌}
+use Rattle.std.specs.Prelude.{ℕ, ◌+◌, ◌-◌, ◌^◌, min, Bool, true, false, List, [], ◌∷◌, Option, Some, None, Ok, Err, ◌==◌, if◌then◌else◌}
 use Rattle.tls_base.specs.ExtensionNumbers as extension_number
 use Rattle.tls_key_exchange.specs.Timestamp.{SignedCertificateTimestamp, timestamp_list}
 use Rattle.layouts.specs.Bytes.{Bytes}
@@ -101,3 +101,11 @@ has_bytes _ = false
 -- section 3.2).
 abbrev pub has_ticket_in : Bytes → Bool
 has_ticket_in b = has_bytes (content_in extension_number.session_ticket b)
+
+-- How many there are, besides n; 2^64 - 1 stands for more.
+abbrev pub count_behind : {A : Type 0} → ℕ → List A → ℕ
+count_behind n [] = n
+count_behind n (x ∷ xs) = count_behind (min (n + 1) (2 ^ 64 - 1)) xs
+
+abbrev pub count_of : {A : Type 0} → List A → ℕ
+count_of xs = count_behind 0 xs

@@ -1,3 +1,5 @@
+pub mod Encrypted
+pub mod Drafts
 pub mod Exchange
 pub mod Hellos
 pub mod Parts

@@ -7,12 +7,14 @@ ghost use Rattle.layouts.specs.Layout.{counted, number};
 ghost use Rattle.layouts.specs.Text.{held};
 ghost use Rattle.tls_ext.specs.Extension.{view_server_name};
 ghost use Rattle.tls_ext.specs.InPlace.{extension_type, key_share_entry};
+ghost use Rattle.tls_summary.specs.Encrypted.{view_encrypted};
 ghost use Rattle.tls_summary.specs.HandshakeSummary.{view_summary};
 ghost use Rattle.tls_summary.specs.Fields as fields;
 
+use crate::encrypted::{EncryptedClientHello, encrypted_in};
 use crate::hellos::{
-    group_of_share, host_name, is_filled, known, modes, names, other_names, protocols, shares,
-    timestamps, versions,
+    count, group_of_share, host_name, is_filled, known, modes, names, other_names, protocols,
+    shares, timestamps, versions,
 };
 use crate::summary::HandshakeSummary;
 use layouts::{Counted1, Items};
@@ -293,6 +295,27 @@ impl HandshakeSummary {
         self.client_extension(ENCRYPTED_CLIENT_HELLO).is_some()
     }
 
+    /// The encrypted_client_hello of the ClientHello (RFC 9849, section 5), in its outer form.
+    /// `None` if it has none, or one that doesn't parse to its end.
+    pub fn client_encrypted_hello(&self) -> Option<EncryptedClientHello<'_>>
+        ensures { option_map view_encrypted result ≡ fields.client_encrypted_hello
+            (view_summary self.now) }
+    {
+        encrypted_in(self.client_extension(ENCRYPTED_CLIENT_HELLO))
+    }
+
+    /// Whether the ClientHello that a HelloRetryRequest asked for has encrypted_client_hello as the
+    /// first one had (RFC 9849, section 6.1.5). `None` if the first had none, or no second one
+    /// came.
+    pub fn repeats_encrypted_client_hello(&self) -> Option<bool>
+        ensures { result ≡ fields.repeats_encrypted_client_hello (view_summary self.now) }
+    {
+        if self.had_encrypted_hello && self.is_retried && !self.is_asked_again {
+            return Some(self.offers_encrypted_client_hello());
+        }
+        None
+    }
+
     /// Whether the client accepts delegated credentials (RFC 9345, section 4.1.1).
     pub fn offers_delegated_credentials(&self) -> bool
         ensures { result ≡ fields.offers_delegated_credentials (view_summary self.now) }
@@ -388,5 +411,13 @@ impl HandshakeSummary {
             (view_summary self.now) }
     {
         timestamps(self.server_ext())
+    }
+
+    /// The number of timestamps for the server's certificate in the ServerHello (RFC 6962, section
+    /// 3.3.1), saturating.
+    pub fn server_timestamp_count(&self) -> u64
+        ensures { result ≡ fields.server_timestamp_count (view_summary self.now) }
+    {
+        count(self.server_timestamps())
     }
 }

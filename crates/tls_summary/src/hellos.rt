@@ -3,15 +3,16 @@ ghost use Rattle.std.specs.Prelude.{◌≡◌, IfOk, map};
 ghost use Rattle.std.specs.Option.{option_map};
 ghost use Rattle.layouts.specs.Items.{items_in, returned};
 ghost use Rattle.layouts.specs.Layout.{counted, number};
+ghost use Rattle.layouts.specs.Reading.{reading};
 ghost use Rattle.layouts.specs.Text.{held};
 ghost use Rattle.tls_key_exchange.specs.Timestamp.{serialized_timestamp};
 ghost use Rattle.tls_ext.specs.Content.{server_name};
 ghost use Rattle.tls_ext.specs.Extension.{view_server_name};
 ghost use Rattle.tls_ext.specs.InPlace.{key_share_entry};
 ghost use Rattle.tls_ext.specs.Offered.{known as known_by};
-ghost use Rattle.tls_summary.specs.Hellos.{group_of, has_bytes, host_among, modes_in, names_in, others_among, protocols_in, shares_in, timestamps_in, versions_in};
+ghost use Rattle.tls_summary.specs.Hellos.{count_of, group_of, has_bytes, host_among, modes_in, names_in, others_among, protocols_in, shares_in, timestamps_in, value_in, versions_in};
 
-use layouts::{Counted1, Err, Error, Items};
+use layouts::{Counted1, Err, Error, Items, number4};
 use std::alloc::{AllocError, Global};
 use tls_base::{NamedGroup, SNIType, TlsExtensionType, TlsVersion};
 use tls_ext::offered::{content, none};
@@ -150,6 +151,16 @@ pub(crate) fn group_of_share(share: Option<&[u8]>) -> Option<NamedGroup>
     }
 }
 
+/// The number in the first 4 bytes; `None` if there are fewer.
+pub(crate) fn first_number(bytes: &[u8]) -> Option<u32>
+    ensures { result ≡ value_in (reading (number 4) bytes.now) }
+{
+    match number4(bytes) {
+        Ok((_, number)) => Some(number),
+        Err(_) => None,
+    }
+}
+
 /// The timestamps in a server's first signed_certificate_timestamp.
 pub(crate) fn timestamps<'a>(ext: Option<&'a [u8]>) -> Items<'a, SignedCertificateTimestamp<'a>>
     ensures { items_in serialized_timestamp result.bytes.now ≡ timestamps_in
@@ -162,4 +173,15 @@ pub(crate) fn timestamps<'a>(ext: Option<&'a [u8]>) -> Items<'a, SignedCertifica
         Ok((_, timestamps)) => timestamps,
         Err(_) => none::<SignedCertificateTimestamp>(),
     }
+}
+
+/// How many timestamps there are, saturating.
+pub(crate) fn count<'a>(timestamps: Items<'a, SignedCertificateTimestamp<'a>>) -> u64
+    ensures { result ≡ count_of (items_in serialized_timestamp timestamps.entry.bytes.now) }
+{
+    let mut count: u64 = 0;
+    for timestamp in timestamps {
+        count = count.saturating_add(1);
+    }
+    count
 }

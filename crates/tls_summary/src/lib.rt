@@ -8,6 +8,8 @@
 #![tactic(auto, using(layouts::proofs::OneAnswerLemmas::read_allowed))]
 
 mod certificate_cache;
+mod drafts;
+mod encrypted;
 mod exchange;
 mod fields;
 mod hellos;
@@ -16,6 +18,8 @@ mod parts;
 mod summary;
 
 pub use certificate_cache::CertificateCache;
+pub use drafts::{Draft, draft_of};
+pub use encrypted::EncryptedClientHello;
 pub use fields::{DELEGATED_CREDENTIAL, ENCRYPTED_CLIENT_HELLO};
 pub use parts::{
     CertificateFault, CertificateSummary, ClientParts, ServerParts, certificate_fault,

@@ -4,7 +4,7 @@ ghost use Rattle.std.specs.Option.{option_map};
 ghost use Rattle.tls_hs.specs.InPlace.{view_client_hello_in_place};
 ghost use Rattle.tls_hs.specs.Handshake.{view_handshake};
 ghost use Rattle.tls_hs.specs.ServerHello.{view_server_hello, view_server_hello_draft18};
-ghost use Rattle.tls_summary.specs.HandshakeSummary.{asked, asked_in_ssl2, certified, chosen, exchanged, has_asked as has_asked_in, is_stray as is_stray_in, nothing, of_alert, of_bytes, of_datagram_client_hello, of_datagram_message, of_datagrams, of_draft, of_message, of_other, of_server_hello, retried, verified, view_summary, with_chain};
+ghost use Rattle.tls_summary.specs.HandshakeSummary.{asked, asked_in_ssl2, certified, chosen, exchanged, has_asked as has_asked_in, is_stray as is_stray_in, nothing, of_alert, of_bytes, of_datagram_client_hello, of_datagram_message, of_datagrams, of_draft, of_message, of_other, of_server_hello, retried, ticketed, verified, view_summary, with_chain};
 ghost use Rattle.ssl2_hello.specs.ClientHello.{view_client_hello as view_ssl2_hello};
 ghost use Rattle.layouts.specs.Reading.{reading};
 ghost use Rattle.tls_hs.specs.Certificate.{certificate};
@@ -12,8 +12,8 @@ ghost use Rattle.tls_flow.specs.Bytes.{view_handshake_message};
 ghost use Rattle.dtls_records.specs.DtlsHello.{client_hello as datagram_client_hello};
 
 use crate::certificate_cache::CertificateCache;
-use crate::exchange::curve_of;
-use crate::hellos::group_of_share;
+use crate::exchange::{curve_of, prime_bits_of};
+use crate::hellos::{first_number, group_of_share};
 use crate::parts::{CertificateSummary, Chain, ClientParts, ServerParts, chain_of, copied};
 use dtls_records::DTLSClientHelloView;
 use ssl2_hello::Ssl2ClientHello;
@@ -39,6 +39,9 @@ pub struct HandshakeSummary {
     /// The server's first ServerHello that isn't a HelloRetryRequest.
     pub server: Option<ServerParts>,
     pub(crate) curve: Option<NamedGroup>,
+    /// The length in bits of dh_p, the prime in the ServerKeyExchange (RFC 5246, section 7.4.3);
+    /// `None` without one, and if the message doesn't parse.
+    pub dh_bits: Option<u32>,
     /// The certificates of the client's last Certificate message, its end-entity certificate first
     /// (RFC 5246, section 7.4.6). TLS 1.3 encrypts it.
     pub client_certificates: Option<Vec<CertificateSummary>>,
@@ -51,7 +54,7 @@ pub struct HandshakeSummary {
     /// The server's end-entity certificate in DER; `None` if there is none.
     pub server_certificate: Option<Vec<u8>>,
     // Whether the server asked for another ClientHello that hasn't come yet.
-    is_asked_again: bool,
+    pub(crate) is_asked_again: bool,
     /// Whether the server asked for another ClientHello with a HelloRetryRequest (RFC 8446, section
     /// 4.1.4).
     pub is_retried: bool,
@@ -61,6 +64,11 @@ pub struct HandshakeSummary {
     pub has_status: bool,
     /// Whether a NewSessionTicket came (RFC 5077, section 3.3).
     pub has_ticket: bool,
+    /// The lifetime of the ticket in the server's last NewSessionTicket, in seconds; 0 leaves it
+    /// unspecified (RFC 5077, section 3.3). TLS 1.3 encrypts the message.
+    pub ticket_lifetime_hint: Option<u32>,
+    // Whether a ClientHello that another one replaced had encrypted_client_hello.
+    pub(crate) had_encrypted_hello: bool,
     /// The description of the last alert in the clear.
     pub last_alert: Option<TlsAlertDescription>,
     /// The CipherSpecs of a ClientHello of SSL 2.0's form, 3 bytes each, in its order (RFC 5246,
@@ -93,6 +101,7 @@ impl HandshakeSummary {
             client: None,
             server: None,
             curve: None,
+            dh_bits: None,
             client_certificates: None,
             server_certificates: None,
             client_certificate: None,
@@ -102,13 +111,15 @@ impl HandshakeSummary {
             requests_certificate: false,
             has_status: false,
             has_ticket: false,
+            ticket_lifetime_hint: None,
+            had_encrypted_hello: false,
             last_alert: None,
             ssl2_cipher_specs: None,
         }
     }
 
     /// Whether the client sent its hello and wasn't asked for another.
-    fn has_asked(&self) -> bool
+    pub fn has_asked(&self) -> bool
         ensures { result ≡ has_asked_in (view_summary self.now) }
     {
         self.client.is_some() && !self.is_asked_again
@@ -152,6 +163,7 @@ impl HandshakeSummary {
             return Ok(());
         }
         let parts = ClientParts::of(alloc, hello)?;
+        self.had_encrypted_hello = self.had_encrypted_hello || self.offers_encrypted_client_hello();
         self.is_asked_again = self.client.is_none() && self.is_asked_again;
         self.client = Some(parts);
         self.ssl2_cipher_specs = None;
@@ -203,8 +215,9 @@ impl HandshakeSummary {
         }
     }
 
-    /// Records a HelloVerifyRequest.
-    fn verify(&mut self, side: Direction)
+    /// Records a HelloVerifyRequest of this side (RFC 6347, section 4.2.1), which asks for another
+    /// ClientHello.
+    pub fn verify(&mut self, side: Direction)
         ensures { view_summary self.new ≡ verified side (view_summary self.old) }
     {
         if side == Direction::FromServer && self.server.is_none() {
@@ -266,6 +279,17 @@ impl HandshakeSummary {
             return;
         };
         self.curve = curve_of(hello.cipher, body, self.curve);
+        self.dh_bits = prime_bits_of(hello.cipher, body, self.dh_bits);
+    }
+
+    /// Records a NewSessionTicket of this side.
+    fn note_ticket(&mut self, side: Direction, body: &[u8])
+        ensures { view_summary self.new ≡ ticketed side body.now (view_summary self.old) }
+    {
+        self.has_ticket = true;
+        if side == Direction::FromServer {
+            self.ticket_lifetime_hint = first_number(body);
+        }
     }
 
     /// Stores a side's chain in place of an earlier one.
@@ -319,7 +343,7 @@ impl HandshakeSummary {
             (view_summary self.new ≡ of_other side msg_type.0 body.now (view_summary self.old)) }
     {
         match msg_type {
-            TlsHandshakeType::NewSessionTicket => self.has_ticket = true,
+            TlsHandshakeType::NewSessionTicket => self.note_ticket(side, body),
             TlsHandshakeType::HelloRetryRequest => self.retry(side),
             TlsHandshakeType::Certificate => self.note_certificates(alloc, side, body, known)?,
             TlsHandshakeType::ServerKeyExchange => self.note_key_exchange(body),

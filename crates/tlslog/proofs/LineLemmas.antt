@@ -8,7 +8,7 @@ use Rattle.log_io.proofs.WriteLemmas.{keeps_itself}
 use Rattle.log_io.specs.Output.{AppendsLine, AppendsLineIf}
 use Rattle.log_io.specs.declared.output.LineError.{LineError}
 use Rattle.log_lines.specs.declared.style.Lines.{Lines}
-use Rattle.tlslog.specs.Summary.{LogsConnection, are_connections}
+use Rattle.tlslog.specs.Lines.{LogsConnection, are_connections}
 
 module _ {K : Type 0} where
   pub logs_none : (lines : Lines) (c : Connection (TlsAnalysis K)) (known : Option (List ℕ))

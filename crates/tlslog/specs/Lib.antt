@@ -1,5 +1,3 @@
-pub mod Failures
+pub mod Lines
 pub mod Memory
 pub mod Pieces
-pub mod Options
-pub mod Summary

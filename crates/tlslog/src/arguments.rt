@@ -1,8 +1,12 @@
 //! Turns the command line into the options of a run.
-use crate::memory::part_of_connections;
-use crate::program::RunOptions;
+ghost use Rattle.std.specs.Prelude.{◌≡◌, IfOk};
+ghost use Rattle.tlslog.specs.Pieces.{piece_kind};
+
+use crate::memory::{most_lines, part_of_connections};
+use crate::printer::{StylePrinter, piece_kind_of};
 use arrivals::Checksums;
 use clap::ArgMatches;
+use log_captures::RunOptions;
 use log_lines::FORMAT_NAMES;
 use log_options::{Choices, memory_of, part_of};
 use log_writer::{ConfigurationError, style_of};
@@ -68,20 +72,37 @@ fn checksums_of(matches: &ArgMatches<'_>) -> Checksums {
     found.copied().unwrap_or(Checksums::Auto)
 }
 
-/// Reads all options that a run needs.
-pub fn run_options_of<'a, R: Runtime + AllocGlobal>(
+/// What the arguments ask for.
+#[derive(Drop)]
+pub struct Options {
+    /// Prints the lines.
+    pub printer: StylePrinter,
+    /// What is logged.
+    pub run: RunOptions,
+}
+
+/// Reads all options that a run needs. The pieces that are kept are those that the style prints.
+pub fn options_of<'a, R: Runtime + AllocGlobal>(
     rt: &R,
     matches: &ArgMatches<'a>,
-) -> Result<RunOptions, ConfigurationError<'a>> {
+) -> Result<Options, ConfigurationError<'a>>
+    ensures { IfOk result (λ options. options.run.pieces ≡ piece_kind options.printer.style) }
+{
     let part = part_of(matches)?;
-    let memory = part_of_connections(memory_of(matches)?);
-    let checksums = checksums_of(matches);
-    let is_by_network = matches.get_flag("by-network");
-    Ok(RunOptions {
-        style: style_of(rt, matches)?,
-        checksums,
+    let limit = memory_of(matches)?;
+    let style = style_of(rt, matches)?;
+    let run = RunOptions {
+        pieces: piece_kind_of(&style),
+        checksums: checksums_of(matches),
         part,
-        is_by_network,
-        memory,
+        is_by_network: matches.get_flag("by-network"),
+        memory: part_of_connections(limit),
+    };
+    Ok(Options {
+        printer: StylePrinter {
+            style,
+            most_lines: most_lines(limit),
+        },
+        run,
     })
 }

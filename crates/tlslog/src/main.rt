@@ -12,20 +12,20 @@
 //! | 3 | memory ran out, or a file can't be opened, read or written |
 #![tactic(auto)]
 
-mod analysis;
 mod arguments;
 mod memory;
-mod program;
+mod printer;
 
 ghost use Rattle.std.specs.Prelude.{Bool};
 ghost use Rattle.log_io.specs.Run.{HasWritten};
 
-use crate::arguments::{choices, run_options_of};
-use crate::program::{RunOptions, log_file, log_joined, log_standard_input};
+use crate::arguments::{Options, choices, options_of};
 use clap::ArgMatches;
+use log_captures::{log_file, log_joined, log_standard_input};
 use log_io::{DASH, Exit, Failure, Files, Output, STANDARD_OUTPUT, report};
 use log_lines::Style;
 use log_options::{matches, report_error};
+use log_summaries::CollectedPieces;
 use log_writer::{ConfigurationError, write_footer, write_header};
 use std::io::{self, Write};
 use std::process::ExitCode;
@@ -47,16 +47,16 @@ fn now<R: Runtime>(rt: &R) -> i64 {
 /// Logs the capture with that path; `-` is standard input.
 fn log_one<R: Runtime + AllocGlobal + RandomSource, W: Write>(
     rt: &R,
-    options: &RunOptions,
+    options: &Options,
     path: &str,
     out: Output<W>,
 ) -> (Exit, Output<W>)
     ensures { HasWritten out.has_failed result.0 result.1.has_failed }
 {
     if path == DASH {
-        log_standard_input(rt, options, out)
+        log_standard_input::<_, CollectedPieces, _, _>(rt, &options.run, &options.printer, out)
     } else {
-        log_file(rt, options, path, out)
+        log_file::<_, CollectedPieces, _, _>(rt, &options.run, &options.printer, path, out)
     }
 }
 
@@ -64,17 +64,28 @@ fn log_one<R: Runtime + AllocGlobal + RandomSource, W: Write>(
 /// when the output is closed.
 fn log_each<R: Runtime + AllocGlobal + RandomSource, W: Write>(
     rt: &R,
-    options: &RunOptions,
+    options: &Options,
     matches: &ArgMatches<'_>,
     out: Output<W>,
 ) -> (Exit, Output<W>)
     ensures { HasWritten out.has_failed result.0 result.1.has_failed }
 {
     let Some(paths) = matches.get_strs("captures") else {
-        return log_standard_input(rt, options, out);
+        return log_standard_input::<_, CollectedPieces, _, _>(
+            rt,
+            &options.run,
+            &options.printer,
+            out,
+        );
     };
     if matches.get_flag("join") {
-        return log_joined(rt, options, &Files { rt, paths }, out);
+        return log_joined::<_, _, CollectedPieces, _, _>(
+            rt,
+            &options.run,
+            &options.printer,
+            &Files { rt, paths },
+            out,
+        );
     }
     let mut out = out;
     let mut exit = Exit::Clean;
@@ -115,18 +126,18 @@ fn end_log<R: Runtime + AllocGlobal, W: Write>(
 /// Logs all captures, between the format's header and footer.
 fn log_all<R: Runtime + AllocGlobal + RandomSource, W: Write>(
     rt: &R,
-    options: &RunOptions,
+    options: &Options,
     matches: &ArgMatches<'_>,
     out: Output<W>,
 ) -> (Exit, Output<W>)
     ensures { HasWritten out.has_failed result.0 result.1.has_failed }
 {
     let mut out = out;
-    if let Err(e) = write_header(rt.alloc(), &options.style, now(rt), &mut out) {
+    if let Err(e) = write_header(rt.alloc(), &options.printer.style, now(rt), &mut out) {
         return (report(rt, STANDARD_OUTPUT, Failure::from(e), 0), out);
     }
     let (exit, out) = log_each(rt, options, matches, out);
-    end_log(rt, &options.style, exit, out)
+    end_log(rt, &options.printer.style, exit, out)
 }
 
 /// Prints why the arguments are refused, and returns the exit status.
@@ -139,7 +150,7 @@ fn refuse<R: Runtime + AllocGlobal>(rt: &R, error: ConfigurationError<'_>) -> u8
 
 /// Runs as the arguments ask, and returns the exit status.
 fn run_by<R: Runtime + AllocGlobal + RandomSource>(rt: &R, matches: &ArgMatches<'_>) -> u8 {
-    match run_options_of(rt, matches) {
+    match options_of(rt, matches) {
         Ok(options) => {
             let (exit, _out) = log_all(
                 rt,

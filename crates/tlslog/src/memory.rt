@@ -1,11 +1,11 @@
-//! The memory limit of connections.
+//! The memory limit of connections, and the limit of their lines.
 ghost use Rattle.std.specs.Prelude.{◌≡◌};
-ghost use Rattle.tlslog.specs.Memory.{connection_memory};
+ghost use Rattle.tlslog.specs.Memory.{connection_memory, line_limit};
 
-use crate::analysis::Analysis;
 use connections::{CONNECTION_COST, Connection, FiveTuple};
 use ip_fragments::HELD_LIMIT;
 use log_connections::ANALYSIS_COST;
+use log_summaries::Analysis;
 use std::mem::size_of;
 
 /// The most that the buffers of captures, lines and the program itself take, in bytes.
@@ -26,5 +26,18 @@ pub fn part_of_connections(limit: Option<usize>) -> usize
     match limit {
         Some(size) => size.saturating_sub(HELD_LIMIT).saturating_sub(REST),
         None => usize::MAX,
+    }
+}
+
+/// How many messages or certificates of a connection have a line, if memory is limited.
+const MOST_LINES: u64 = 65_536;
+
+/// Returns how many lines a connection may have, by the limit of memory.
+pub fn most_lines(limit: Option<usize>) -> u64
+    ensures { result ≡ line_limit limit }
+{
+    match limit {
+        Some(_) => MOST_LINES,
+        None => u64::MAX,
     }
 }

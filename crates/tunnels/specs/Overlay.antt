@@ -1,5 +1,5 @@
 -- Overlay networks over UDP: VXLAN (RFC 7348), GENEVE (RFC 8926).
-use Rattle.std.specs.Prelude.{ℕ, ◌+◌, ◌*◌, ◌%◌, ◌==◌, ◌||◌, nat_le, Bool, Some}
+use Rattle.std.specs.Prelude.{ℕ, ◌+◌, ◌*◌, ◌==◌, ◌||◌, nat_le, Bool, Some}
 use Rattle.layouts.specs.Layout.{Layout, done, number, block, test, ◌>>=◌, ◌>>◌}
 use Rattle.layouts.specs.declared.result.ErrorKind.TheVariants.{Verify}
 use Rattle.capture.specs.Link.{IPV4, IPV6}
@@ -7,7 +7,8 @@ use Rattle.tunnels.specs.Tunnel.{Header, ETHERNET, carrying}
 use Rattle.tunnels.specs.declared.tunnel.TunnelKind.TheVariants.{Vxlan, Geneve}
 
 -- The flags: I is set (RFC 7348, section 5), and G may be, for a group in the next 3 bytes
--- (draft-smith-vxlan-group-policy). Then network (24 bits) and a reserved byte.
+-- (draft-smith-vxlan-group-policy). With other flags Linux drops the packet. Then network (24 bits)
+-- and a reserved byte.
 unfoldable pub vxlan : Layout Header
 vxlan = do
   flags ← number 1
@@ -20,15 +21,14 @@ vxlan = do
 abbrev pub is_overlaid : ℕ → Bool
 is_overlaid kind = (kind == ETHERNET) || ((kind == IPV4) || (kind == IPV6))
 
--- Version 0, and the length of the options in words of 4 bytes; the flags O and C, none of the
--- reserved ones; the payload's EtherType (RFC 8926, section 3.4). The value is the length and the
--- EtherType.
+-- Version 0, and the length of the options in words of 4 bytes; the flags O and C, and reserved
+-- ones, which are ignored; the payload's EtherType (RFC 8926, section 3.4). The value is the length
+-- and the EtherType.
 unfoldable pub geneve_front : Layout (ℕ × ℕ)
 geneve_front = do
   words ← number 1
   test (nat_le words 63) Verify
-  flags ← number 1
-  test (flags % 64 == 0) Verify
+  block 1
   kind ← number 2
   test (is_overlaid kind) Verify
   done (words, kind)

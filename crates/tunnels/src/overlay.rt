@@ -47,10 +47,7 @@ fn geneve_front(i: &[u8]) -> IResult<&[u8], (u8, u16)>
     if words > 63 {
         return refused(i, ErrorKind::Verify);
     }
-    let (i, flags) = number1(i)?;
-    if flags % 64 != 0 {
-        return refused(i, ErrorKind::Verify);
-    }
+    let (i, _) = block(i, 1)?;
     let (i, kind) = number2(i)?;
     if !is_overlaid(kind) {
         return refused(i, ErrorKind::Verify);
@@ -61,8 +58,8 @@ fn geneve_front(i: &[u8]) -> IResult<&[u8], (u8, u16)>
 /// Parses a GENEVE header (RFC 8926, section 3.4), 8 bytes and options, and all the rest.
 ///
 /// - `Incomplete`, with the count of missing bytes of the header or the options.
-/// - `Error` of kind `Verify` if the version isn't 0, a reserved flag is set, or the payload is
-///   neither an Ethernet frame nor IPv4 nor IPv6.
+/// - `Error` of kind `Verify` if the version isn't 0, or the payload is neither an Ethernet frame
+///   nor IPv4 nor IPv6. Reserved bits are ignored.
 #[tactic(auto, using(layouts::proofs::OneAnswerLemmas::read_allowed), unfolding(crate::specs::Overlay::geneve))]
 pub fn parse_geneve(i: &[u8]) -> IResult<&[u8], Header>
     ensures { Gives view_header geneve i.now result }

@@ -1,8 +1,10 @@
 -- Names in extensions (RFC 5280, section 4.2.1.6).
 use Rattle.std.specs.Prelude.{List, ◌==◌, if◌then◌else◌}
 use Rattle.layouts.specs.Bytes.{Bytes}
-use Rattle.layouts.specs.Layout.{Layout, mapped}
+use Rattle.layouts.specs.Layout.{Layout, done, mapped, ◌>>=◌}
 use Rattle.der.specs.Element.{Element, element, items_of, tagged, view_element}
+use Rattle.der.specs.ObjectIdentifier.{object_identifier}
+use Rattle.x509.specs.declared.general_name.OtherName.{OtherName as LentOtherName}
 use Rattle.x509.specs.declared.general_name.GeneralName.{GeneralName as LentGeneralName}
 use Rattle.x509.specs.declared.general_name.GeneralName.TheVariants as lent
 
@@ -35,3 +37,17 @@ general_name = mapped name_of element
 -- GeneralNames: SEQUENCE OF GeneralName.
 unfoldable pub general_names : Layout (List GeneralName)
 general_names = tagged 0x30 (items_of general_name)
+
+-- OtherName: OBJECT IDENTIFIER type-id; [0] EXPLICIT ANY value.
+pub record OtherName : Type 0 where
+  pub type_id : Bytes
+  pub value : Element
+
+abbrev pub view_other_name : LentOtherName → OtherName
+view_other_name n = record { type_id = n.type_id.content.now; value = view_element n.value }
+
+unfoldable pub other_name : Layout OtherName
+other_name = do
+  type_id ← object_identifier
+  value ← tagged 0xa0 element
+  done (record { type_id = type_id; value = value })

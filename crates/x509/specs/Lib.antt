@@ -1,3 +1,6 @@
+pub mod Access
+pub mod KeyParameters
+pub mod Outline
 pub mod Name
 pub mod Certificate
 pub mod GeneralName

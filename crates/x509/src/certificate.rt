@@ -72,8 +72,7 @@ impl<'a> InPlace<'a> for CertificateContent {
 /// - `Error` of kind `LengthValue` if bytes follow the last field of a structure, or an INTEGER or
 ///   an OBJECT IDENTIFIER is empty.
 /// - `Error` of kind `Verify` if a value breaks its rule: a length, an INTEGER or an arc that isn't
-///   the shortest, a negative version, a BOOLEAN that is neither 0 nor 255, a time that doesn't
-///   exist, unused bits that are set.
+///   the shortest, a negative version, a time that doesn't exist, unused bits that are set.
 /// - `Error` of kind `Switch` if a length is indefinite, or the tag of an algorithm's parameters
 ///   has more than one byte.
 /// - `Error` of kind `TooLarge` if a length has more than 3 bytes after its first.

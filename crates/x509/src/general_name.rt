@@ -5,9 +5,9 @@ ghost use Rattle.std.specs.Prelude.{◌≡◌};
 ghost use Rattle.layouts.specs.Answers.{Gives};
 ghost use Rattle.layouts.specs.Items.{items_in};
 ghost use Rattle.der.specs.Element.{view_element};
-ghost use Rattle.x509.specs.GeneralName.{GeneralName as PlainGeneralName, view_general_name, name_of, general_name, general_names};
+ghost use Rattle.x509.specs.GeneralName.{GeneralName as PlainGeneralName, view_general_name, name_of, general_name, general_names, OtherName as PlainOtherName, view_other_name, other_name};
 
-use der::{Element, ItemsOf, tag, tagged};
+use der::{Element, ItemsOf, ObjectIdentifier, object_identifier, tag, tagged};
 use layouts::{IResult, InPlace, Items};
 
 /// A name of a subject or an issuer. The bytes of text are returned as they are.
@@ -67,4 +67,25 @@ pub fn parse_general_names<'a>(i: &'a [u8]) -> IResult<&'a [u8], Items<'a, Gener
     ensures { Gives (λ v. items_in general_name v.bytes.now) general_names i.now result }
 {
     tagged::<ItemsOf<GeneralNames>>(i, tag::SEQUENCE)
+}
+
+/// The content of an otherName.
+#[derive(Clone, Copy, Debug, PartialEq)]
+pub struct OtherName<'a> {
+    /// Its type, such as [`crate::oid::USER_PRINCIPAL_NAME`].
+    pub type_id: ObjectIdentifier<'a>,
+    /// Its value, as the type defines it.
+    pub value: Element<'a>,
+}
+
+/// Parses the content of an otherName: of a [`GeneralName::Other`] with the tag 0xa0.
+///
+/// It refuses what [`der::object_identifier`], [`der::tagged`] and parsing an [`Element`] do.
+#[tactic(auto, using(layouts::proofs::OneAnswerLemmas::read_allowed), unfolding(crate::specs::GeneralName::other_name))]
+pub fn parse_other_name(i: &[u8]) -> IResult<&[u8], OtherName>
+    ensures { Gives view_other_name other_name i.now result }
+{
+    let (i, type_id) = object_identifier(i)?;
+    let (i, value) = tagged::<Element>(i, 0xa0)?;
+    Ok((i, OtherName { type_id, value }))
 }

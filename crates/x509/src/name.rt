@@ -4,9 +4,9 @@
 ghost use Rattle.std.specs.Prelude.{List};
 ghost use Rattle.layouts.specs.Answers.{Gives};
 ghost use Rattle.layouts.specs.Items.{items_in};
-ghost use Rattle.x509.specs.Name.{AttributeTypeAndValue as PlainAttribute, view_attribute, attribute_content, attribute, relative_distinguished_name, name as name_layout};
+ghost use Rattle.x509.specs.Name.{AttributeTypeAndValue as PlainAttribute, view_attribute, attribute_content, attribute, relative_distinguished_name, whole_set, name as name_layout};
 
-use der::{Element, ItemsOf, ObjectIdentifier, object_identifier, tag, tagged};
+use der::{Element, ItemsOf, ListOf, ObjectIdentifier, object_identifier, tag, tagged};
 use layouts::{IResult, InPlace, Items};
 
 /// An attribute of a name.
@@ -78,6 +78,25 @@ impl<'a> InPlace<'a> for RelativeDistinguishedNames {
     #[tactic(auto, using(layouts::proofs::OneAnswerLemmas::read_allowed), unfolding(crate::specs::Name::relative_distinguished_name))]
     fn read(i: &'a [u8]) -> IResult<&'a [u8], Items<'a, Attributes>> {
         tagged::<ItemsOf<Attributes>>(i, tag::SET)
+    }
+}
+
+/// A list of sets of attributes, as [`RelativeDistinguishedNames`], that ends in front of a set
+/// with an attribute that can't be parsed.
+pub struct WholeSets;
+
+impl<'a> InPlace<'a> for WholeSets {
+    type Read = Items<'a, Attributes>;
+
+    ghost Value = { List PlainAttribute };
+
+    ghost view = { λ v. items_in attribute v.bytes.now };
+
+    ghost layout = { whole_set };
+
+    #[tactic(auto, using(layouts::proofs::OneAnswerLemmas::read_allowed), unfolding(crate::specs::Name::whole_set))]
+    fn read(i: &'a [u8]) -> IResult<&'a [u8], Items<'a, Attributes>> {
+        tagged::<ListOf<Attributes>>(i, tag::SET)
     }
 }
 

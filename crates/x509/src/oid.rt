@@ -27,6 +27,11 @@ pub const ED448: ObjectIdentifier = ObjectIdentifier {
     content: &[0x2b, 0x65, 0x71],
 };
 
+/// id-dsa: 1.2.840.10040.4.1 (RFC 3279, section 2.3.2).
+pub const DSA: ObjectIdentifier = ObjectIdentifier {
+    content: &[0x2a, 0x86, 0x48, 0xce, 0x38, 0x04, 0x01],
+};
+
 /// id-ce-subjectKeyIdentifier: 2.5.29.14 (RFC 5280, section 4.2.1.2).
 pub const SUBJECT_KEY_IDENTIFIER: ObjectIdentifier = ObjectIdentifier {
     content: &[0x55, 0x1d, 0x0e],
@@ -52,6 +57,11 @@ pub const BASIC_CONSTRAINTS: ObjectIdentifier = ObjectIdentifier {
     content: &[0x55, 0x1d, 0x13],
 };
 
+/// id-ce-certificatePolicies: 2.5.29.32 (RFC 5280, section 4.2.1.4).
+pub const CERTIFICATE_POLICIES: ObjectIdentifier = ObjectIdentifier {
+    content: &[0x55, 0x1d, 0x20],
+};
+
 /// id-ce-authorityKeyIdentifier: 2.5.29.35 (RFC 5280, section 4.2.1.1).
 pub const AUTHORITY_KEY_IDENTIFIER: ObjectIdentifier = ObjectIdentifier {
     content: &[0x55, 0x1d, 0x23],
@@ -60,6 +70,26 @@ pub const AUTHORITY_KEY_IDENTIFIER: ObjectIdentifier = ObjectIdentifier {
 /// id-ce-extKeyUsage: 2.5.29.37 (RFC 5280, section 4.2.1.12).
 pub const EXTENDED_KEY_USAGE: ObjectIdentifier = ObjectIdentifier {
     content: &[0x55, 0x1d, 0x25],
+};
+
+/// id-pe-authorityInfoAccess: 1.3.6.1.5.5.7.1.1 (RFC 5280, section 4.2.2.1, like the next two).
+pub const AUTHORITY_INFO_ACCESS: ObjectIdentifier = ObjectIdentifier {
+    content: &[0x2b, 0x06, 0x01, 0x05, 0x05, 0x07, 0x01, 0x01],
+};
+
+/// id-ad-ocsp: 1.3.6.1.5.5.7.48.1.
+pub const OCSP: ObjectIdentifier = ObjectIdentifier {
+    content: &[0x2b, 0x06, 0x01, 0x05, 0x05, 0x07, 0x30, 0x01],
+};
+
+/// id-ad-caIssuers: 1.3.6.1.5.5.7.48.2.
+pub const CA_ISSUERS: ObjectIdentifier = ObjectIdentifier {
+    content: &[0x2b, 0x06, 0x01, 0x05, 0x05, 0x07, 0x30, 0x02],
+};
+
+/// The userPrincipalName of an otherName: 1.3.6.1.4.1.311.20.2.3 (MS-WCCE, section 2.2.2.7.7.4).
+pub const USER_PRINCIPAL_NAME: ObjectIdentifier = ObjectIdentifier {
+    content: &[0x2b, 0x06, 0x01, 0x04, 0x01, 0x82, 0x37, 0x14, 0x02, 0x03],
 };
 
 /// anyExtendedKeyUsage: 2.5.29.37.0 (RFC 5280, section 4.2.1.12, like those that follow).

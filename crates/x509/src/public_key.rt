@@ -70,7 +70,7 @@ fn bit_length_of(i: &[u8]) -> IResult<&[u8], u32>
 }
 
 /// The bit length of an INTEGER above 0.
-struct PositiveBits;
+pub(crate) struct PositiveBits;
 
 impl<'a> InPlace<'a> for PositiveBits {
     type Read = u32;

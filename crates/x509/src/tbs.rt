@@ -37,8 +37,8 @@ impl<'a> InPlace<'a> for VersionContent {
     }
 }
 
-/// A version with its explicit tag.
-struct Version;
+/// A version within its explicit tag.
+pub(crate) struct Version;
 
 impl<'a> InPlace<'a> for Version {
     type Read = u8;
@@ -112,15 +112,15 @@ fn read_name_fields(i: &[u8]) -> IResult<&[u8], NameFields>
 
 /// The fields after the key.
 #[derive(Clone, Copy)]
-struct OptionalFields<'a> {
+pub(crate) struct OptionalFields<'a> {
     issuer_unique_id: Option<BitString<'a>>,
     subject_unique_id: Option<BitString<'a>>,
-    extensions: Items<'a, Extensions>,
+    pub(crate) extensions: Items<'a, Extensions>,
 }
 
 /// Parses the fields after the key.
 #[tactic(auto, using(layouts::proofs::OneAnswerLemmas::read_allowed, layouts::proofs::ItemsLemmas::none_in), unfolding(crate::specs::Certificate::optional_fields))]
-fn read_optional_fields<'a>(i: &'a [u8]) -> IResult<&'a [u8], OptionalFields<'a>>
+pub(crate) fn read_optional_fields<'a>(i: &'a [u8]) -> IResult<&'a [u8], OptionalFields<'a>>
     ensures { Gives view_optional_fields optional_fields i.now result }
 {
     let (i, issuer_unique_id) = optional::<BitString>(i, 0x81)?;

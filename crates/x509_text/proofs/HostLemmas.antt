@@ -5,7 +5,7 @@ use Rattle.std.proofs.lemmas.Bool.{ne_eqb}
 use Rattle.layouts.specs.Bytes.{Bytes}
 use Rattle.std.specs.Borrow.{Bor}
 use Rattle.std.specs.Option.{is_some}
-use Rattle.x509_text.specs.Host.{are_some, covers, labels, labels_left, same_labels, stands_for}
+use Rattle.x509_text.specs.Host.{are_some, are_two, covers, labels, labels_left, same_labels, stands_for}
 
 -- it ends before the first dot
 pub first_ends : (name : Bytes) (i : ℕ) → ((k : ℕ) → k < i → get_or name k 0 ≡ 46 → ⊥)
@@ -55,13 +55,15 @@ some_left : (rest : Option (Bor Bytes)) → are_some (labels_left rest) ≡ is_s
 some_left None = refl
 some_left (Some rest) = some_label rest.now
 
+-- a second label is one that is left behind the first
+pub two_left : (name first : Bytes) (rest : Option (Bor Bytes)) → labels name ≡ first ∷ labels_left rest
+    → are_two (labels name) ≡ is_some rest
+two_left name first rest e = ap are_two e ∙ some_left rest
+
 -- first labels, and the rest after them
 pub covers_split : (pattern host first label : Bytes) (others behind : Option (Bor Bytes))
     → labels pattern ≡ first ∷ labels_left others → labels host ≡ label ∷ labels_left behind
     → covers (labels pattern) (labels host)
-    ≡ (stands_for first (is_some others) label
+    ≡ (stands_for first label (labels_left behind)
     && same_labels (labels_left others) (labels_left behind))
-covers_split pattern host first label others behind p h =
-    ap₂ covers p h
-    ∙ ap (λ t. stands_for first t label && same_labels (labels_left others) (labels_left behind))
-    (some_left others)
+covers_split pattern host first label others behind p h = ap₂ covers p h

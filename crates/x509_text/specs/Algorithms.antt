@@ -49,8 +49,10 @@ algorithms =
     named (1 ∷ 3 ∷ 14 ∷ 3 ∷ 2 ∷ 15 ∷ []) (codes "RSA-SHA") (codes "shaWithRSAEncryption") ∷
     named (1 ∷ 3 ∷ 14 ∷ 3 ∷ 2 ∷ 27 ∷ []) (codes "DSA-SHA1-old") (codes "dsaWithSHA1-old") ∷
     named (1 ∷ 3 ∷ 14 ∷ 3 ∷ 2 ∷ 29 ∷ []) (codes "RSA-SHA1-2") (codes "sha1WithRSA") ∷
+    named (1 ∷ 3 ∷ 36 ∷ 3 ∷ 3 ∷ 1 ∷ 2 ∷ []) (codes "RSA-RIPEMD160") (codes "ripemd160WithRSA") ∷
     named (1 ∷ 3 ∷ 101 ∷ 110 ∷ []) (codes "X25519") (codes "X25519") ∷
     named (1 ∷ 3 ∷ 101 ∷ 111 ∷ []) (codes "X448") (codes "X448") ∷
     named (1 ∷ 3 ∷ 101 ∷ 112 ∷ []) (codes "ED25519") (codes "ED25519") ∷
     named (1 ∷ 3 ∷ 101 ∷ 113 ∷ []) (codes "ED448") (codes "ED448") ∷
+    named (2 ∷ 5 ∷ 8 ∷ 1 ∷ 1 ∷ []) (codes "RSA") (codes "rsa") ∷
     []

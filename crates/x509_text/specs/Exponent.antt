@@ -12,7 +12,7 @@ use Rattle.der.specs.Element.{tagged}
 use Rattle.der.specs.Values.{integer}
 use Rattle.x509.specs.Certificate.{SubjectPublicKeyInfo}
 use Rattle.x509.specs.PublicKey.{PKCS_1}
-use Rattle.x509_text.specs.Number.{without_padding}
+use Rattle.x509_text.specs.Number.{is_negative, without_padding}
 
 -- The bytes of an INTEGER that isn't negative.
 unfoldable pub natural : Layout Bytes
@@ -49,6 +49,10 @@ small n = if nat_lt n (2 ^ 64) then Some n else None
 -- `0x` and a number's bytes in hexadecimal.
 abbrev pub hexadecimal_text : Bytes → Bytes
 hexadecimal_text bytes = 48 ∷ 120 ∷ encode_lower (without_padding bytes)
+
+-- The number of an INTEGER, from 0 to 2^64 - 1.
+abbrev pub natural_value : Bytes → Option ℕ
+natural_value bytes = if is_negative bytes then None else small (number_of bytes)
 
 abbrev pub number_text : Option ℕ → Bytes → Bytes
 number_text (Some n) bytes = decimal n

@@ -36,6 +36,8 @@ extensions =
     (codes "CT Precertificate SCTs") ∷
     named (1 ∷ 3 ∷ 6 ∷ 1 ∷ 4 ∷ 1 ∷ 11129 ∷ 2 ∷ 4 ∷ 3 ∷ []) (codes "ct_precert_poison")
     (codes "CT Precertificate Poison") ∷
+    named (1 ∷ 3 ∷ 6 ∷ 1 ∷ 4 ∷ 1 ∷ 11129 ∷ 2 ∷ 4 ∷ 5 ∷ []) (codes "ct_cert_scts")
+    (codes "CT Certificate SCTs") ∷
     named (2 ∷ 16 ∷ 840 ∷ 1 ∷ 113730 ∷ 1 ∷ 1 ∷ []) (codes "nsCertType")
     (codes "Netscape Cert Type") ∷
     named (2 ∷ 16 ∷ 840 ∷ 1 ∷ 113730 ∷ 1 ∷ 13 ∷ []) (codes "nsComment") (codes "Netscape Comment") ∷

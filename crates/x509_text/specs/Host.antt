@@ -1,5 +1,5 @@
 -- Whether a certificate is for a host (RFC 9525, section 6.3).
-use Rattle.std.specs.Prelude.{ℕ, ◌-◌, ◌==◌, ◌&&◌, ◌||◌, not, Bool, true, false, List, [], ◌∷◌, length, map, take, slice_get, Option, Some, None, if◌then◌else◌}
+use Rattle.std.specs.Prelude.{ℕ, ◌-◌, ◌==◌, ◌&&◌, ◌||◌, not, Bool, true, false, List, [], ◌∷◌, length, map, slice_get, Option, Some, None, if◌then◌else◌}
 use Rattle.std.specs.Borrow.{Bor}
 use Rattle.std.specs.Char.{to_ascii_lowercase, is_ascii_alphanumeric, is_ascii_digit}
 use Rattle.std.specs.List.{list_all, list_any, slice_split}
@@ -48,29 +48,51 @@ same_labels [] [] = true
 same_labels (a ∷ others) (b ∷ behind) = same_label a b && same_labels others behind
 same_labels _ _ = false
 
--- `*` matches any label if others follow it.
-abbrev pub stands_for : Bytes → Bool → Bytes → Bool
-stands_for first further label = if bytes_eq first (42 ∷ []) then
-    further else same_label first label
+-- Letters, digits and `-`.
+abbrev pub is_plain_byte : ℕ → Bool
+is_plain_byte b = is_ascii_alphanumeric b || b == 45
+
+abbrev pub is_plain : Bytes → Bool
+is_plain label = list_all is_plain_byte label
+
+abbrev pub is_hyphen : Option ℕ → Bool
+is_hyphen (Some b) = b == 45
+is_hyphen None = false
+
+-- A label of a domain: without `-` at an end (RFC 1034, section 3.5).
+abbrev pub is_domain_label : Bytes → Bool
+is_domain_label label =
+    is_plain label
+    && not (is_hyphen (slice_get label 0) || is_hyphen (slice_get label (length label - 1)))
+
+abbrev pub are_domain_labels : List Bytes → Bool
+are_domain_labels [] = true
+are_domain_labels (label ∷ others) = is_domain_label label && are_domain_labels others
 
 abbrev pub are_some : List Bytes → Bool
 are_some [] = false
 are_some (label ∷ others) = true
 
--- The labels of a dNSName match those of a host.
+abbrev pub are_two : List Bytes → Bool
+are_two [] = false
+are_two (label ∷ others) = are_some others
+
+-- A wildcard may match a label: two or more labels of a domain follow it, so that it doesn't stand
+-- for a whole top-level domain.
+abbrev pub takes_wildcard : Bytes → List Bytes → Bool
+takes_wildcard label behind = is_plain label && are_two behind && are_domain_labels behind
+
+-- `*` as the whole first label is the wildcard.
+abbrev pub stands_for : Bytes → Bytes → List Bytes → Bool
+stands_for first label behind =
+    if bytes_eq first (42 ∷ []) then takes_wildcard label behind else same_label first label
+
+-- The labels of a dNSName match those of a host. Behind the first they are equal, so what a
+-- wildcard asks of them is asked of the host's.
 abbrev pub covers : List Bytes → List Bytes → Bool
 covers (first ∷ others) (label ∷ behind) =
-    stands_for first (are_some others) label && same_labels others behind
+    stands_for first label behind && same_labels others behind
 covers _ _ = false
-
--- A trailing dot marks a fully qualified name.
-abbrev pub ends_whole : Option ℕ → Bool
-ends_whole (Some last) = last == 46
-ends_whole None = false
-
-abbrev pub without_root : Bytes → Bytes
-without_root host =
-    if ends_whole (slice_get host (length host - 1)) then take (length host - 1) host else host
 
 abbrev pub name_covers : List Bytes → GeneralName → Bool
 name_covers host (DnsName pattern) = covers (labels pattern) host
@@ -91,8 +113,8 @@ names_in (Some e) = list_read (reading general_names e.extn_value)
 abbrev pub alt_names : List Extension → List GeneralName
 alt_names extensions = names_in (first_of SUBJECT_ALT_NAME extensions)
 
+-- A host with a trailing dot has an empty label, so it is none.
 abbrev pub matches_host : Certificate → Bytes → Bool
 matches_host certificate host =
-    let name : Bytes = without_root host in
-    is_host (labels name)
-    && names_host (labels name) (alt_names certificate.tbs_certificate.others.extensions)
+    is_host (labels host)
+    && names_host (labels host) (alt_names certificate.tbs_certificate.others.extensions)

@@ -1,11 +1,13 @@
 -- The type and the length of a public key (RFC 3279, section 2.3; RFC 5480, section 2; RFC 8410,
 -- section 3).
-use Rattle.std.specs.Prelude.{ℕ, ◌||◌, List, [], ◌∷◌, find, codes, Option, Some, None, Result, Ok, if◌then◌else◌}
+use Rattle.std.specs.Prelude.{ℕ, ◌||◌, nat_lt, Bool, false, List, [], ◌∷◌, find, codes, Option, Some, None, Result, Ok, if◌then◌else◌}
 use Rattle.std.specs.Str.{bytes_eq}
 use Rattle.std.specs.Option.{option_map}
 use Rattle.layouts.specs.Bytes.{Bytes}
 use Rattle.layouts.specs.Meaning.{Refusal}
-use Rattle.x509.specs.PublicKey.{PublicKey, Rsa, Ec, PKCS_1, EC_PUBLIC_KEY, EDWARDS}
+use Rattle.x509.specs.Certificate.{SubjectPublicKeyInfo}
+use Rattle.x509.specs.KeyParameters.{parameter_bits}
+use Rattle.x509.specs.PublicKey.{PublicKey, key_of, Rsa, Ec, PKCS_1, EC_PUBLIC_KEY, EDWARDS}
 use Rattle.x509_text.specs.CurveSizes.{curve_sizes}
 use Rattle.x509_text.specs.Object.{SizedCurve}
 
@@ -35,3 +37,19 @@ key_length_of _ = None
 abbrev pub curve_of : Result PublicKey Refusal → Option Bytes
 curve_of (Ok (Ec curve)) = Some curve
 curve_of _ = None
+
+abbrev pub or_named : Option ℕ → Option ℕ → Option ℕ
+or_named (Some bits) named = Some bits
+or_named None named = named
+
+-- The length that the parameters give, else that of the key or of the named curve.
+abbrev pub key_length_by : SubjectPublicKeyInfo → Option ℕ
+key_length_by k = or_named (parameter_bits k) (key_length_of (key_of k))
+
+-- Less than 112 bits of security (NIST SP 800-57, part 1, table 2), by algorithm and length.
+abbrev pub is_weak_by : Bytes → Option ℕ → Option Bool
+is_weak_by algorithm (Some bits) =
+    if bytes_eq algorithm EC_PUBLIC_KEY then Some (nat_lt bits 224) else Some (nat_lt bits 2048)
+is_weak_by algorithm None =
+    if bytes_eq algorithm (EDWARDS 0x70) then Some false else
+    if bytes_eq algorithm (EDWARDS 0x71) then Some false else None

@@ -7,6 +7,7 @@ pub mod NistAlgorithms
 pub mod NationalAlgorithms
 pub mod Curves
 pub mod FurtherCurves
+pub mod OlderCurves
 pub mod Purposes
 pub mod Extensions
 pub mod Hexadecimal
@@ -16,6 +17,11 @@ pub mod Name
 pub mod Host
 pub mod CurveSizes
 pub mod Key
+pub mod Algorithm
+pub mod Chain
+pub mod Fault
+pub mod Signature
+pub mod Validity
 pub mod GeneralName
 pub mod Number
 pub mod Time

@@ -11,6 +11,7 @@ use Rattle.x509_text.specs.NationalAlgorithms.{national_algorithms}
 use Rattle.x509_text.specs.NistAlgorithms.{nist_algorithms}
 use Rattle.x509_text.specs.Curves.{curves}
 use Rattle.x509_text.specs.FurtherCurves.{further_curves}
+use Rattle.x509_text.specs.OlderCurves.{older_curves}
 use Rattle.x509_text.specs.DirectoryAttributes.{directory_attributes}
 use Rattle.x509_text.specs.FurtherDirectoryAttributes.{further_directory_attributes}
 use Rattle.x509_text.specs.Extensions.{extensions}
@@ -38,6 +39,7 @@ object_of content = first_known (
     ∷ found_in national_algorithms content
     ∷ found_in curves content
     ∷ found_in further_curves content
+    ∷ found_in older_curves content
     ∷ found_in purposes content
     ∷ found_in extensions content
     ∷ [])

@@ -7,6 +7,8 @@ unfoldable pub other_attributes : List NamedObject
 other_attributes =
     named (0 ∷ 9 ∷ 2342 ∷ 19200300 ∷ 100 ∷ 1 ∷ 1 ∷ []) (codes "UID") (codes "userId") ∷
     named (0 ∷ 9 ∷ 2342 ∷ 19200300 ∷ 100 ∷ 1 ∷ 3 ∷ []) (codes "mail") (codes "rfc822Mailbox") ∷
+    named (0 ∷ 9 ∷ 2342 ∷ 19200300 ∷ 100 ∷ 1 ∷ 5 ∷ []) (codes "favouriteDrink")
+    (codes "favouriteDrink") ∷
     named (0 ∷ 9 ∷ 2342 ∷ 19200300 ∷ 100 ∷ 1 ∷ 25 ∷ []) (codes "DC") (codes "domainComponent") ∷
     named (0 ∷ 9 ∷ 2342 ∷ 19200300 ∷ 100 ∷ 1 ∷ 41 ∷ []) (codes "mobileTelephoneNumber")
     (codes "mobileTelephoneNumber") ∷

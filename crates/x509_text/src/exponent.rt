@@ -7,9 +7,9 @@ ghost use Rattle.std.specs.String.{string_bytes};
 ghost use Rattle.layouts.specs.Answers.{Gives};
 ghost use Rattle.layouts.specs.Bytes.{Bytes, number_of};
 ghost use Rattle.x509.specs.Certificate.{view_key_info};
-ghost use Rattle.x509_text.specs.Exponent.{exponent_content, exponent_of, natural, natural_text as natural_text_of, rsa_exponent as rsa_exponent_layout, small};
+ghost use Rattle.x509_text.specs.Exponent.{exponent_content, exponent_of, natural, natural_value, natural_text as natural_text_of, rsa_exponent as rsa_exponent_layout, small};
 
-use crate::number::without_padding;
+use crate::number::{is_negative, without_padding};
 use der::{Integer, tag, tagged};
 use itoa::Buffer;
 use layouts::{ErrorKind, IResult, InPlace, number1, refused};
@@ -94,6 +94,18 @@ fn small_number(bytes: &[u8]) -> Option<u64>
         number = shifted.checked_add(u64::from(*byte))?;
     }
     Some(number)
+}
+
+/// The number of an INTEGER, such as a pathLenConstraint (RFC 5280, section 4.2.1.9).
+///
+/// `None` if it is negative, or 2^64 or above.
+pub fn natural_number(number: &[u8]) -> Option<u64>
+    ensures { result ≡ natural_value number.now }
+{
+    if is_negative(number) {
+        return None;
+    }
+    small_number(number)
 }
 
 /// A non-negative number as text, from the bytes of its INTEGER: in decimal if it is below 2^64,

@@ -1,15 +1,19 @@
 //! Names in extensions as texts (RFC 5280, section 4.2.1.6).
 ghost use Rattle.std.specs.Prelude.{◌≡◌, ◌++◌, ◌∷◌, [], IfOk, OnOk};
+ghost use Rattle.std.specs.Option.{option_map};
 ghost use Rattle.std.specs.String.{string_bytes};
+ghost use Rattle.der.specs.Element.{view_element};
 ghost use Rattle.std.specs.Net.Addr.{segments_of};
 ghost use Rattle.std.specs.Net.Text.{ipv4_text, ipv6_text};
 ghost use Rattle.x509.specs.GeneralName.{view_general_name};
-ghost use Rattle.x509_text.specs.GeneralName.{address_text, ascii_byte, ascii_text, general_name_text as general_name_text_of, kind_of};
+ghost use Rattle.x509_text.specs.GeneralName.{address_text, ascii_byte, ascii_text, decoded_name, directory_name, principal_name, principal_text as principal_text_of, general_name_text as general_name_text_of, kind_of};
 
 use crate::hexadecimal::{add_hex, lower_hex_digit};
+use crate::name::name_text;
+use der::{Element, tag};
 use std::alloc::{AllocError, Global};
 use std::net::{Ipv4Addr, Ipv6Addr};
-use x509::GeneralName;
+use x509::{GeneralName, oid, parse_name, parse_other_name};
 
 /// Appends a byte: printable ASCII except `\` as it is, others escaped with `\`.
 fn add_ascii_byte(text: &mut String, byte: u8) -> Result<(), AllocError>
@@ -112,4 +116,56 @@ pub fn general_name_text(alloc: Global, name: GeneralName) -> Result<String, All
         }
     }
     Ok(text)
+}
+
+/// The user of a userPrincipalName that is a UTF8String.
+fn principal_text(alloc: Global, value: Element) -> Result<Option<String>, AllocError>
+    ensures { IfOk result
+        (λ text. option_map string_bytes text ≡ principal_text_of (view_element value.entry)) }
+{
+    if value.tag != tag::UTF8_STRING {
+        return Ok(None);
+    }
+    let mut text = String::new(alloc);
+    add_ascii(&mut text, value.content)?;
+    Ok(Some(text))
+}
+
+/// The user in the content of an otherName, if it is a userPrincipalName.
+fn other_name_text(alloc: Global, content: &[u8]) -> Result<Option<String>, AllocError>
+    ensures { IfOk result (λ text. option_map string_bytes text ≡ principal_name content.now) }
+{
+    match parse_other_name(content) {
+        Ok((_, name)) if name.type_id.content == oid::USER_PRINCIPAL_NAME.content => {
+            principal_text(alloc, name.value)
+        }
+        _ => Ok(None),
+    }
+}
+
+/// The name in the content of a directoryName.
+fn directory_name_text(alloc: Global, content: &[u8]) -> Result<Option<String>, AllocError>
+    ensures { IfOk result (λ text. option_map string_bytes text ≡ directory_name content.now) }
+{
+    match parse_name(content) {
+        Ok((_, name)) => Ok(Some(name_text(alloc, name)?)),
+        Err(_) => Ok(None),
+    }
+}
+
+/// The name within a [`GeneralName::Other`] that has a readable form: a directoryName as
+/// [`name_text`](crate::name_text) prints it, and the user of a Microsoft userPrincipalName, such
+/// as `user@example.test`, with `\xff` for a byte that isn't printable ASCII.
+///
+/// `None` for other names, and if it can't be read. `AllocError` if there is no memory for the
+/// text.
+pub fn decoded_name_text(alloc: Global, name: GeneralName) -> Result<Option<String>, AllocError>
+    ensures { IfOk result
+        (λ text. option_map string_bytes text ≡ decoded_name (view_general_name name.entry)) }
+{
+    match name {
+        GeneralName::Other(Element { tag: 0xa0, content }) => other_name_text(alloc, content),
+        GeneralName::Other(Element { tag: 0xa4, content }) => directory_name_text(alloc, content),
+        _ => Ok(None),
+    }
 }

@@ -1,11 +1,11 @@
 //! Whether a certificate is for a host (RFC 9525, section 6.3).
 #![tactic(auto, using(layouts::proofs::OneAnswerLemmas::read_allowed))]
 
-ghost use Rattle.std.specs.Prelude.{◌≡◌, ◌<◌, ◌∷◌, [], length, IfSome};
+ghost use Rattle.std.specs.Prelude.{◌≡◌, ◌<◌, ◌-◌, ◌||◌, ◌∷◌, [], length, slice_get, IfSome};
 ghost use Rattle.layouts.specs.Items.{items_in};
 ghost use Rattle.x509.specs.Certificate.{extension, view_certificate};
 ghost use Rattle.x509.specs.GeneralName.{general_name};
-ghost use Rattle.x509_text.specs.Host.{alt_names as alt_names_of, covers as covers_of, is_host as is_host_labels, is_label as is_label_bytes, is_name_byte as is_name_code, is_number as is_number_bytes, labels, labels_left, matches_host as matches_host_by, names_host as names_host_by, same_label as same_label_by, same_labels, stands_for as stands_for_label, without_root as without_root_of};
+ghost use Rattle.x509_text.specs.Host.{alt_names as alt_names_of, are_domain_labels as are_domain_labels_of, are_two, covers as covers_of, is_domain_label as is_domain_label_bytes, is_host as is_host_labels, is_hyphen, is_label as is_label_bytes, is_name_byte as is_name_code, is_number as is_number_bytes, is_plain as is_plain_bytes, labels, labels_left, matches_host as matches_host_by, names_host as names_host_by, same_label as same_label_by, same_labels, stands_for as stands_for_label, takes_wildcard as takes_wildcard_label};
 
 use layouts::Items;
 use x509::{
@@ -108,13 +108,75 @@ fn same_name(a: Option<&[u8]>, b: Option<&[u8]>) -> bool
     }
 }
 
-/// Whether the first label of a dNSName matches a host's; `further` is whether the dNSName has more
-/// labels.
-fn stands_for(first: &[u8], further: bool, label: &[u8]) -> bool
-    ensures { result ≡ stands_for_label first.now further label.now }
+/// Whether a label consists of letters, digits and `-`.
+fn is_plain(label: &[u8]) -> bool
+    ensures { result ≡ is_plain_bytes label.now }
+{
+    for byte in label {
+        if !(byte.is_ascii_alphanumeric() || *byte == b'-') {
+            return false;
+        }
+    }
+    true
+}
+
+/// Whether a label begins or ends with `-`.
+fn has_outer_hyphen(label: &[u8]) -> bool
+    ensures { result ≡ (is_hyphen (slice_get label.now 0)
+        || is_hyphen (slice_get label.now (length label.now - 1))) }
+{
+    if label.is_empty() {
+        return false;
+    }
+    label[0] == b'-' || label[label.len() - 1] == b'-'
+}
+
+/// Whether a label is one of a domain name (RFC 1034, section 3.5).
+fn is_domain_label(label: &[u8]) -> bool
+    ensures { result ≡ is_domain_label_bytes label.now }
+{
+    is_plain(label) && !has_outer_hyphen(label)
+}
+
+/// Whether all labels of a name are those of a domain; a missing name has none.
+fn are_domain_labels(name: Option<&[u8]>) -> bool
+    ensures { result ≡ are_domain_labels_of (labels_left name.entry) }
+{
+    let mut rest = name;
+    while let Some(bytes) = rest {
+        let (label, behind) = first_label(bytes);
+        if !is_domain_label(label) {
+            return false;
+        }
+        rest = behind;
+    }
+    true
+}
+
+/// Whether a name has two labels or more; a missing name has none.
+#[tactic(auto, using(crate::proofs::HostLemmas::two_left))]
+fn has_two_labels(name: Option<&[u8]>) -> bool
+    ensures { result ≡ are_two (labels_left name.entry) }
+{
+    match name {
+        Some(bytes) => first_label(bytes).1.is_some(),
+        None => false,
+    }
+}
+
+/// Whether a wildcard may match a host's first label, with these labels behind it.
+fn takes_wildcard(label: &[u8], behind: Option<&[u8]>) -> bool
+    ensures { result ≡ takes_wildcard_label label.now (labels_left behind.entry) }
+{
+    is_plain(label) && has_two_labels(behind) && are_domain_labels(behind)
+}
+
+/// Whether the first label of a dNSName matches a host's; `behind` are the host's other labels.
+fn stands_for(first: &[u8], label: &[u8], behind: Option<&[u8]>) -> bool
+    ensures { result ≡ stands_for_label first.now label.now (labels_left behind.entry) }
 {
     if first == b"*".as_slice() {
-        return further;
+        return takes_wildcard(label, behind);
     }
     same_label(first, label)
 }
@@ -125,17 +187,7 @@ fn covers(pattern: &[u8], host: &[u8]) -> bool
 {
     let (first, others) = first_label(pattern);
     let (label, behind) = first_label(host);
-    stands_for(first, others.is_some(), label) && same_name(others, behind)
-}
-
-/// A host name without the trailing dot of a fully qualified name.
-fn without_root(host: &[u8]) -> &[u8]
-    ensures { result.now ≡ without_root_of host.now }
-{
-    match host.split_last() {
-        Some((last, front)) if *last == b'.' => front,
-        _ => host,
-    }
+    stands_for(first, label, behind) && same_name(others, behind)
 }
 
 /// Whether one of the names is a dNSName that matches a host.
@@ -175,15 +227,17 @@ fn alt_names<'a>(extensions: Items<'a, Extensions>) -> Items<'a, GeneralNames>
 }
 
 /// Whether a certificate is for a host, by the dNSNames in its subjectAltName (RFC 9525, section
-/// 6.3). A dNSName matches if its labels are equal to the host's, ignoring case. A first label `*`
-/// matches any one label, if others follow it.
+/// 6.3). A dNSName matches if its labels are equal to the host's, ignoring case.
 ///
-/// The host may end in a dot. `false` if it isn't a DNS name, and so for every address: if a label
-/// is empty or has another byte than letters, digits, `-` and `_`, or if the last label is a
-/// number. The subject's commonName is ignored. Nothing is verified.
+/// A first label `*` matches any one label of letters, digits and `-`, if two or more such labels
+/// follow it, none with `-` at an end: so `*.com` and `*.a_b.example` match no host, as in OpenSSL.
+///
+/// `false` if the host isn't a DNS name, and so for every address: if a label is empty, as behind a
+/// trailing dot (which RFC 6066, section 3, excludes from the server name), or has another byte
+/// than letters, digits, `-` and `_`, or if the last label is a number. The subject's commonName is
+/// ignored. Nothing is verified.
 pub fn matches_host(certificate: &Certificate, host: &[u8]) -> bool
     ensures { result ≡ matches_host_by (view_certificate certificate.now) host.now }
 {
-    let host = without_root(host);
     is_host(host) && any_covers(alt_names(certificate.tbs_certificate.extensions), host)
 }

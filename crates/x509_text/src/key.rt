@@ -5,8 +5,9 @@ ghost use Rattle.std.specs.Prelude.{◌≡◌, map};
 ghost use Rattle.std.specs.Option.{option_map};
 ghost use Rattle.x509.specs.Certificate.{view_key_info};
 ghost use Rattle.x509.specs.PublicKey.{key_of};
+ghost use Rattle.x509.specs.KeyParameters.{parameter_bits};
 ghost use Rattle.x509_text.specs.CurveSizes.{curve_sizes};
-ghost use Rattle.x509_text.specs.Key.{curve_of, key_length_of, key_type_of, size_in};
+ghost use Rattle.x509_text.specs.Key.{curve_of, is_weak_by, key_length_by, key_length_of, key_type_of, size_in};
 ghost use Rattle.x509_text.specs.Object.{view_size};
 
 use crate::tables::{CURVE_SIZES, CurveSize};
@@ -57,18 +58,46 @@ fn curve_size(content: &[u8]) -> Option<u32>
     find_size(CURVE_SIZES, content)
 }
 
-/// The length of a key in bits: of the modulus of an RSA key, or of the order of the base point of
-/// a named curve.
-///
-/// `None` for other keys, and if [`SubjectPublicKeyInfo::public_key`] refuses the key or the curve
-/// isn't in the table.
-pub fn key_length(info: SubjectPublicKeyInfo) -> Option<u32>
+/// The length of a key that its parameters don't give: of an RSA key, or of a named curve.
+fn named_length(info: SubjectPublicKeyInfo) -> Option<u32>
     ensures { result ≡ key_length_of (key_of (view_key_info info.entry)) }
 {
     match info.public_key() {
         Ok(PublicKey::Rsa(bits)) => Some(bits),
         Ok(PublicKey::Ec(curve)) => curve_size(curve.content),
         _ => None,
+    }
+}
+
+/// The length of a key in bits: of the modulus of an RSA key, of the prime p of a DSA key, or of
+/// the order of the base point of an elliptic curve, be it named or given by its parameters.
+///
+/// `None` for other keys, and if [`SubjectPublicKeyInfo::public_key`] refuses the key, its
+/// parameters can't be read, or the curve isn't in the table.
+pub fn key_length(info: SubjectPublicKeyInfo) -> Option<u32>
+    ensures { result ≡ key_length_by (view_key_info info.entry) }
+{
+    match info.parameter_bits() {
+        Some(bits) => Some(bits),
+        None => named_length(info),
+    }
+}
+
+/// Whether a key has less than 112 bits of security (NIST SP 800-57, part 1, table 2): an RSA or a
+/// DSA key of less than 2048 bits, an elliptic curve of less than 224 bits.
+///
+/// `None` if [`key_length`] knows no length; a key of Ed25519 or Ed448 isn't weak.
+pub fn is_weak_key(info: SubjectPublicKeyInfo) -> Option<bool>
+    ensures { result ≡ is_weak_by info.entry.algorithm.algorithm.content.now
+        (key_length_by (view_key_info info.entry)) }
+{
+    let algorithm = info.algorithm.algorithm.content;
+    match key_length(info) {
+        Some(bits) if algorithm == oid::EC_PUBLIC_KEY.content => Some(bits < 224),
+        Some(bits) => Some(bits < 2048),
+        None if algorithm == oid::ED25519.content => Some(false),
+        None if algorithm == oid::ED448.content => Some(false),
+        None => None,
     }
 }
 

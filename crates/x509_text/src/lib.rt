@@ -12,6 +12,7 @@
 
 mod certificate;
 mod exponent;
+mod fault;
 mod general_name;
 mod hexadecimal;
 mod host;
@@ -19,18 +20,25 @@ mod key;
 mod name;
 mod number;
 mod object;
+mod signature;
 mod tables;
 mod time;
 mod usage;
+mod validity;
 mod value;
 
-pub use certificate::{is_self_issued, version_number};
-pub use exponent::{key_exponent, natural_text};
-pub use general_name::general_name_text;
+pub use certificate::{
+    is_chain_in_order, is_self_issued, signature_algorithms_agree, version_number,
+};
+pub use exponent::{key_exponent, natural_number, natural_text};
+pub use fault::{ListFault, extensions_fault, general_names_fault, name_fault, purposes_fault};
+pub use general_name::{decoded_name_text, general_name_text};
 pub use host::matches_host;
-pub use key::{key_curve, key_length, key_type};
+pub use key::{is_weak_key, key_curve, key_length, key_type};
 pub use name::name_text;
 pub use number::serial_number_text;
 pub use object::{object_name, object_short_name, object_text};
+pub use signature::is_weak_signature;
 pub use time::time_text;
 pub use usage::{key_usage_bits, purpose_id};
+pub use validity::{has_expired, is_not_yet_valid, validity_days};

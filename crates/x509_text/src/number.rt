@@ -7,7 +7,7 @@ use crate::hexadecimal::add_hex;
 use std::alloc::{AllocError, Global};
 
 /// Whether an INTEGER is negative.
-fn is_negative(number: &[u8]) -> bool
+pub(crate) fn is_negative(number: &[u8]) -> bool
     ensures { result ≡ is_negative_number number.now }
 {
     match number {

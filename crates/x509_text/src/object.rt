@@ -8,6 +8,7 @@ ghost use Rattle.x509_text.specs.NistAlgorithms.{nist_algorithms};
 ghost use Rattle.x509_text.specs.NationalAlgorithms.{national_algorithms};
 ghost use Rattle.x509_text.specs.Curves.{curves};
 ghost use Rattle.x509_text.specs.FurtherCurves.{further_curves};
+ghost use Rattle.x509_text.specs.OlderCurves.{older_curves};
 ghost use Rattle.x509_text.specs.DirectoryAttributes.{directory_attributes};
 ghost use Rattle.x509_text.specs.FurtherDirectoryAttributes.{further_directory_attributes};
 ghost use Rattle.x509_text.specs.Extensions.{extensions};
@@ -19,8 +20,8 @@ ghost use Rattle.der.specs.ObjectIdentifier.{arcs_of, view_arc};
 use crate::hexadecimal::add_dump;
 use crate::tables::{
     ALGORITHMS, CURVES, DIRECTORY_ATTRIBUTES, EXTENSIONS, FURTHER_CURVES,
-    FURTHER_DIRECTORY_ATTRIBUTES, NATIONAL_ALGORITHMS, NIST_ALGORITHMS, OTHER_ATTRIBUTES, Object,
-    PURPOSES,
+    FURTHER_DIRECTORY_ATTRIBUTES, NATIONAL_ALGORITHMS, NIST_ALGORITHMS, OLDER_CURVES,
+    OTHER_ATTRIBUTES, Object, PURPOSES,
 };
 use der::{ArcNumber, Element, ObjectIdentifier, tag};
 use itoa::Buffer;
@@ -94,6 +95,13 @@ fn further_curve(content: &[u8]) -> Option<Object>
     find_object(FURTHER_CURVES, content)
 }
 
+#[tactic(auto, unfolding(crate::specs::OlderCurves::older_curves))]
+fn older_curve(content: &[u8]) -> Option<Object>
+    ensures { option_map view_object result ≡ found_in older_curves content.now }
+{
+    find_object(OLDER_CURVES, content)
+}
+
 #[tactic(auto, unfolding(crate::specs::Purposes::purposes))]
 fn purpose(content: &[u8]) -> Option<Object>
     ensures { option_map view_object result ≡ found_in purposes content.now }
@@ -135,6 +143,9 @@ fn known(content: &[u8]) -> Option<Object>
         return Some(object);
     }
     if let Some(object) = further_curve(content) {
+        return Some(object);
+    }
+    if let Some(object) = older_curve(content) {
         return Some(object);
     }
     if let Some(object) = purpose(content) {

@@ -9,8 +9,10 @@ mod further_curves;
 mod further_directory_attributes;
 mod national_algorithms;
 mod nist_algorithms;
+mod older_curves;
 mod other_attributes;
 mod purposes;
+mod weak_signatures;
 
 pub(crate) use algorithms::ALGORITHMS;
 pub(crate) use curve_sizes::CURVE_SIZES;
@@ -21,8 +23,10 @@ pub(crate) use further_curves::FURTHER_CURVES;
 pub(crate) use further_directory_attributes::FURTHER_DIRECTORY_ATTRIBUTES;
 pub(crate) use national_algorithms::NATIONAL_ALGORITHMS;
 pub(crate) use nist_algorithms::NIST_ALGORITHMS;
+pub(crate) use older_curves::OLDER_CURVES;
 pub(crate) use other_attributes::OTHER_ATTRIBUTES;
 pub(crate) use purposes::PURPOSES;
+pub(crate) use weak_signatures::{WEAK_HASHES, WEAK_SIGNATURES};
 
 /// An object identifier, and OpenSSL's names for it.
 #[derive(Clone, Copy, Debug)]
@@ -51,4 +55,19 @@ macro_rules! objects {
     };
 }
 
+/// The object identifier of an algorithm.
+#[derive(Clone, Copy, Debug)]
+pub(crate) struct Algorithm {
+    /// The content of its element.
+    pub(crate) content: &'static [u8],
+}
+
+/// The rows of a table: the content of an object identifier.
+macro_rules! contents {
+    ($($content:literal),*) => {
+        &[$(Algorithm { content: $content }),*]
+    };
+}
+
+use contents;
 use objects;

@@ -53,8 +53,10 @@ pub(crate) static ALGORITHMS: &[Object] = objects!(
     b"\x2b\x0e\x03\x02\x0f" "RSA-SHA" "shaWithRSAEncryption", // 1.3.14.3.2.15
     b"\x2b\x0e\x03\x02\x1b" "DSA-SHA1-old" "dsaWithSHA1-old", // 1.3.14.3.2.27
     b"\x2b\x0e\x03\x02\x1d" "RSA-SHA1-2" "sha1WithRSA", // 1.3.14.3.2.29
+    b"\x2b\x24\x03\x03\x01\x02" "RSA-RIPEMD160" "ripemd160WithRSA", // 1.3.36.3.3.1.2
     b"\x2b\x65\x6e" "X25519" "X25519", // 1.3.101.110
     b"\x2b\x65\x6f" "X448" "X448", // 1.3.101.111
     b"\x2b\x65\x70" "ED25519" "ED25519", // 1.3.101.112
-    b"\x2b\x65\x71" "ED448" "ED448" // 1.3.101.113
+    b"\x2b\x65\x71" "ED448" "ED448", // 1.3.101.113
+    b"\x55\x08\x01\x01" "RSA" "rsa" // 2.5.8.1.1
 );

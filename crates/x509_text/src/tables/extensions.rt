@@ -30,6 +30,8 @@ pub(crate) static EXTENSIONS: &[Object] = objects!(
         // 1.3.6.1.4.1.11129.2.4.2
     b"\x2b\x06\x01\x04\x01\xd6\x79\x02\x04\x03" "ct_precert_poison" "CT Precertificate Poison",
         // 1.3.6.1.4.1.11129.2.4.3
+    b"\x2b\x06\x01\x04\x01\xd6\x79\x02\x04\x05" "ct_cert_scts" "CT Certificate SCTs",
+        // 1.3.6.1.4.1.11129.2.4.5
     b"\x60\x86\x48\x01\x86\xf8\x42\x01\x01" "nsCertType" "Netscape Cert Type",
         // 2.16.840.1.113730.1.1
     b"\x60\x86\x48\x01\x86\xf8\x42\x01\x0d" "nsComment" "Netscape Comment" // 2.16.840.1.113730.1.13

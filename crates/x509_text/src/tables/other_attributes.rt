@@ -9,6 +9,8 @@ use super::{Object, objects};
 pub(crate) static OTHER_ATTRIBUTES: &[Object] = objects!(
     b"\x09\x92\x26\x89\x93\xf2\x2c\x64\x01\x01" "UID" "userId", // 0.9.2342.19200300.100.1.1
     b"\x09\x92\x26\x89\x93\xf2\x2c\x64\x01\x03" "mail" "rfc822Mailbox", // 0.9.2342.19200300.100.1.3
+    b"\x09\x92\x26\x89\x93\xf2\x2c\x64\x01\x05" "favouriteDrink" "favouriteDrink",
+        // 0.9.2342.19200300.100.1.5
     b"\x09\x92\x26\x89\x93\xf2\x2c\x64\x01\x19" "DC" "domainComponent",
         // 0.9.2342.19200300.100.1.25
     b"\x09\x92\x26\x89\x93\xf2\x2c\x64\x01\x29" "mobileTelephoneNumber" "mobileTelephoneNumber",

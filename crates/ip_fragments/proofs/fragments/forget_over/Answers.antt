@@ -1,6 +1,6 @@
 use Rattle.std.proofs.Common.{◌≡◌, true, false, refl, sym, ◌∙◌, arith, rules}
 use Rattle.ip_fragments.specs.Table.{is_over, weight}
-use Rattle.ip_fragments.proofs.TableLemmas.{counted_low, crowded_step, dropped_empty, dropped_none, kept_all, kept_empty, kept_one, late_step, none_crowded, none_late, none_left, weight_front}
+use Rattle.ip_fragments.proofs.TableLemmas.{counted_low, evicted_step, dropped_empty, dropped_none, kept_all, kept_empty, kept_one, late_step, none_evicted, none_late, none_left, weight_front}
 use Rattle.ip_fragments.proofs.fragments.forget_over.Goals as goal
 
 pub loop-oldest-init : goal.loop-oldest-init
@@ -28,14 +28,14 @@ loop-oldest-preserved-else-not-is_over c =
       late_step time more c.loop-oldest.late c.count_if-late.result late u k w
           c.is_late-too_late.ensures last over c.count_if-late.ensures
           ∙ i.1,
-      crowded_step time more c.loop-oldest.crowded c.count_if-crowded.result late u k w
-          c.is_late-too_late.ensures last over c.count_if-crowded.ensures
+      evicted_step time more c.loop-oldest.evicted c.count_if-evicted.result late u k w
+          c.is_late-too_late.ensures last over c.count_if-evicted.ensures
           ∙ i.2,
       omega (arith, front, its, sum),
       omega (arith, low),
       i.5,
       counted_low c.count_if-late.result _ _ c.count_if-late.ensures,
-      counted_low c.count_if-crowded.result _ _ c.count_if-crowded.ensures,
+      counted_low c.count_if-evicted.result _ _ c.count_if-evicted.ensures,
     )
 
 pub returns-then-not-is_over-clause-kept : goal.returns-then-not-is_over-clause-kept
@@ -59,14 +59,14 @@ returns-then-not-is_over-clause-late c =
     (dropped_none c.args.time c.args.more u c.in-Some.field-0-0.now w c.in-Some.ensures stays) i.6
     ∙ i.1
 
-pub returns-then-not-is_over-clause-crowded : goal.returns-then-not-is_over-clause-crowded
-returns-then-not-is_over-clause-crowded c =
+pub returns-then-not-is_over-clause-evicted : goal.returns-then-not-is_over-clause-evicted
+returns-then-not-is_over-clause-evicted c =
     let u = c.loop-oldest.waiting.entries in
     let w = c.in-Some.oldest.now in
     let i = c.loop-oldest.invariant in
     let stays : is_over c.args.time c.args.more (weight u) w ≡ false =
     rw i.3 at (sym c.is_over.ensures.is ∙ c.if-not-is_over.true) in
-    none_crowded c.args.time c.loop-oldest.crowded _
+    none_evicted c.args.time c.loop-oldest.evicted _
     (dropped_none c.args.time c.args.more u c.in-Some.field-0-0.now w c.in-Some.ensures stays) i.7
     ∙ i.2
 
@@ -83,11 +83,11 @@ returns-in_default-clause-late c =
     none_late c.args.time c.loop-oldest.late _ none c.loop-oldest.invariant.6
     ∙ c.loop-oldest.invariant.1
 
-pub returns-in_default-clause-crowded : goal.returns-in_default-clause-crowded
-returns-in_default-clause-crowded c =
+pub returns-in_default-clause-evicted : goal.returns-in_default-clause-evicted
+returns-in_default-clause-evicted c =
     let none = dropped_empty c.args.time c.args.more c.loop-oldest.waiting.entries
     (sym c.in_default.ensures) in
-    none_crowded c.args.time c.loop-oldest.crowded _ none c.loop-oldest.invariant.7
+    none_evicted c.args.time c.loop-oldest.evicted _ none c.loop-oldest.invariant.7
     ∙ c.loop-oldest.invariant.2
 
 pub returns-in_default-clause-room : goal.returns-in_default-clause-room

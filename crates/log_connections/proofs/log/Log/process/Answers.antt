@@ -1,13 +1,13 @@
 use Rattle.std.proofs.Common.{◌∙◌}
-use Rattle.log_connections.specs.Packet.{at_arrival, at_crowded}
+use Rattle.log_connections.specs.Packet.{at_arrival, at_eviction}
 use Rattle.log_connections.proofs.PacketLemmas.{both_ok, given, with_err}
 use Rattle.log_connections.proofs.log.Log.process.Goals as goal
 
 pub returns-clause-processed : goal.returns-clause-processed
 returns-clause-processed g c =
     let same = c.in_ok-process_arrival.ensures.memory ∙ c.in_ok-end_idle.ensures.memory in
-    both_ok c.end_crowded.result _ _ _
-    (λ crowded within. record {
+    both_ok c.evict.result _ _ _
+    (λ evicted within. record {
       awake = c.end_idle.new.self.connections;
       full = c.process_arrival.new.self.connections;
       first = g.S.Sink.received c.end_idle.new.sink;
@@ -15,10 +15,10 @@ returns-clause-processed g c =
       idle = rw c.time.ensures at c.in_ok-end_idle.ensures.ended;
       none_idle = rw c.time.ensures at c.in_ok-end_idle.ensures.none;
       arrives = c.in_ok-process_arrival.ensures.arrives;
-      crowded = rw same at crowded;
+      evicted = rw same at evicted;
       within = rw same at within;
     })
-    c.end_crowded.ensures.ended c.end_crowded.ensures.within
+    c.evict.ensures.ended c.evict.ensures.within
 
 pub returns-in_err-process_arrival-clause-stopped : goal.returns-in_err-process_arrival-clause-stopped
 returns-in_err-process_arrival-clause-stopped g c =
@@ -31,11 +31,11 @@ returns-in_err-process_arrival-clause-stopped g c =
 pub returns-clause-stopped : goal.returns-clause-stopped
 returns-clause-stopped g c =
     let same = c.in_ok-process_arrival.ensures.memory ∙ c.in_ok-end_idle.ensures.memory in
-    with_err c.end_crowded.result _ _ _
-    (λ error passes of_sink. at_crowded c.end_idle.new.self.connections
+    with_err c.evict.result _ _ _
+    (λ error passes of_sink. at_eviction c.end_idle.new.self.connections
     c.process_arrival.new.self.connections (g.S.Sink.received c.end_idle.new.sink)
     (g.S.Sink.received c.process_arrival.new.sink)
     (rw c.time.ensures at c.in_ok-end_idle.ensures.ended)
     (rw c.time.ensures at c.in_ok-end_idle.ensures.none) c.in_ok-process_arrival.ensures.arrives
     of_sink (rw same at passes))
-    c.end_crowded.ensures.stopped c.end_crowded.ensures.failed
+    c.evict.ensures.stopped c.evict.ensures.failed

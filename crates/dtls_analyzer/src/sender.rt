@@ -1,0 +1,51 @@
+//! Who sends a datagram, by the hello that it begins with.
+ghost use Rattle.std.specs.Prelude.{◌≡◌};
+ghost use Rattle.raw_records.specs.RawDtlsRecord.{view_raw_record};
+ghost use Rattle.dtls_analyzer.specs.Datagrams.{first_fragment as first_in};
+ghost use Rattle.dtls_analyzer.specs.Senders.{direction_of_fragment, direction_of_type as by_type, hello_direction as by_hello};
+
+use crate::datagram_records::is_known;
+use crate::datagram_side::first_fragment;
+use raw_records::{DTLSRawRecord, read_record};
+use tls_flow::Direction;
+
+/// The direction of a hello by its type.
+fn direction_of_type(msg_type: u8) -> Option<Direction>
+    ensures { result ≡ by_type msg_type }
+{
+    match msg_type {
+        1 => Some(Direction::ToServer),
+        2 | 3 => Some(Direction::FromServer),
+        _ => None,
+    }
+}
+
+/// The direction of the hello that a record begins with.
+fn direction_of_record(record: &DTLSRawRecord<'_>) -> Option<Direction>
+    ensures { result ≡ direction_of_fragment (first_in (view_raw_record record.now)) }
+{
+    match first_fragment(record) {
+        Some(fragment) => direction_of_type(fragment.msg_type.0),
+        None => None,
+    }
+}
+
+/// The direction of a datagram by the hello that it begins with, in the clear: a ClientHello goes to
+/// the server, a ServerHello and a HelloVerifyRequest come from it (RFC 6347, section 4.2.2). `None`
+/// if it begins with anything else.
+///
+/// A caller that doesn't know which side is the client passes the first hello of a conversation,
+/// even if other datagrams came before it, such as those of CAPWAP (RFC 5415) in the clear.
+pub fn hello_direction(datagram: &[u8]) -> Option<Direction>
+    ensures { result ≡ by_hello datagram.now }
+{
+    match read_record(datagram) {
+        Ok((_, record)) => {
+            if is_known(&record.header) && record.header.epoch == 0 {
+                return direction_of_record(&record);
+            }
+            None
+        }
+        Err(_) => None,
+    }
+}

@@ -1,0 +1,195 @@
+//! The fields of a certificate that can't be read, or not to their end.
+use crate::extensions::value_of;
+use crate::read::{ReadCertificate, kind_of};
+use layouts::{Err, Error, ErrorKind, InPlace, Items};
+use log_formats::cell::Cell;
+use log_formats::lists::{Texts, some_texts};
+use std::alloc::{AllocError, Global};
+use x509::{
+    Certificate, oid, parse_authority_info_access, parse_basic_constraints,
+    parse_certificate_policies, parse_extended_key_usage, parse_general_names, parse_key_usage,
+};
+use x509_text::{ListFault, extensions_fault, general_names_fault, name_fault, purposes_fault};
+
+/// Returns the name of a broken rule.
+pub fn error_name(kind: ErrorKind) -> &'static str {
+    match kind {
+        ErrorKind::TooLarge => "too_large",
+        ErrorKind::LengthValue => "length_value",
+        ErrorKind::Verify => "verify",
+        ErrorKind::Switch => "switch",
+        ErrorKind::Tag => "tag",
+        ErrorKind::Complete => "complete",
+    }
+}
+
+/// Appends a field that can't be read, such as `notBefore:tag`.
+fn add_unread(
+    alloc: Global,
+    all: &mut Vec<String>,
+    name: &'static str,
+    why: Option<ErrorKind>,
+) -> Result<(), AllocError> {
+    if let Some(kind) = why {
+        all.push(format!(in alloc; "{name}:{}", error_name(kind))?)?;
+    }
+    Ok(())
+}
+
+/// Appends a list that ends before its bytes, with the count of bytes in front of the item that
+/// can't be read, such as `subject@12:tag`.
+fn add_list(
+    alloc: Global,
+    all: &mut Vec<String>,
+    name: &'static str,
+    fault: Option<ListFault>,
+) -> Result<(), AllocError> {
+    if let Some(fault) = fault {
+        let (at, kind) = (fault.at, error_name(fault.kind));
+        all.push(format!(in alloc; "{name}@{at}:{kind}")?)?;
+    }
+    Ok(())
+}
+
+/// Returns where a list ends before its bytes do.
+fn list_fault<'a, T: InPlace<'a>>(items: Items<'a, T>) -> Option<ListFault> {
+    let refusal = items.refusal()?;
+    Some(ListFault {
+        at: items.bytes().len().saturating_sub(items.rest().len()),
+        kind: kind_of(refusal),
+    })
+}
+
+/// Appends the fields in front of the extensions that can't be read, by RFC 5280's names.
+fn add_fields(
+    alloc: Global,
+    all: &mut Vec<String>,
+    read: &ReadCertificate<'_>,
+) -> Result<(), AllocError> {
+    let (unread, tbs) = (&read.unread, &read.certificate.tbs_certificate);
+    add_unread(alloc, all, "version", unread.version)?;
+    add_unread(alloc, all, "serialNumber", unread.serial_number)?;
+    add_unread(alloc, all, "signature", unread.inner_signature)?;
+    add_unread(alloc, all, "issuer", unread.issuer)?;
+    add_list(alloc, all, "issuer", name_fault(tbs.issuer))?;
+    add_unread(alloc, all, "notBefore", unread.not_before)?;
+    add_unread(alloc, all, "notAfter", unread.not_after)?;
+    add_unread(alloc, all, "subject", unread.subject)?;
+    add_list(alloc, all, "subject", name_fault(tbs.subject))?;
+    add_unread(alloc, all, "subjectPublicKeyInfo", unread.key)?;
+    add_unread(alloc, all, "extensions", unread.extensions)?;
+    add_list(alloc, all, "extensions", extensions_fault(tbs.extensions))
+}
+
+/// Where the value of an extension can't be read.
+enum ValueFault {
+    /// It isn't of its type.
+    Whole(ErrorKind),
+    /// It is a list with such an item.
+    Item(ListFault),
+}
+
+/// Returns the fault of a value that is no list.
+fn whole_fault(refusal: Err<Error<&[u8]>>) -> Option<ValueFault> {
+    Some(ValueFault::Whole(kind_of(refusal)))
+}
+
+/// Returns the fault of a list.
+fn item_fault(fault: Option<ListFault>) -> Option<ValueFault> {
+    Some(ValueFault::Item(fault?))
+}
+
+/// Returns where the value of subjectAltName can't be read; `None` without one.
+fn names_fault(value: Option<&[u8]>) -> Option<ValueFault> {
+    match parse_general_names(value?) {
+        Ok((_, names)) => item_fault(general_names_fault(names)),
+        Err(refusal) => whole_fault(refusal),
+    }
+}
+
+/// Returns where the value of basicConstraints can't be read.
+fn constraints_fault(value: Option<&[u8]>) -> Option<ValueFault> {
+    match parse_basic_constraints(value?) {
+        Ok(_) => None,
+        Err(refusal) => whole_fault(refusal),
+    }
+}
+
+/// Returns where the value of keyUsage can't be read.
+fn usage_fault(value: Option<&[u8]>) -> Option<ValueFault> {
+    match parse_key_usage(value?) {
+        Ok(_) => None,
+        Err(refusal) => whole_fault(refusal),
+    }
+}
+
+/// Returns where the value of extKeyUsage can't be read.
+fn purpose_fault(value: Option<&[u8]>) -> Option<ValueFault> {
+    match parse_extended_key_usage(value?) {
+        Ok((_, list)) => item_fault(purposes_fault(list)),
+        Err(refusal) => whole_fault(refusal),
+    }
+}
+
+/// Returns where the value of authorityInfoAccess can't be read.
+fn access_fault(value: Option<&[u8]>) -> Option<ValueFault> {
+    match parse_authority_info_access(value?) {
+        Ok((_, list)) => item_fault(list_fault(list)),
+        Err(refusal) => whole_fault(refusal),
+    }
+}
+
+/// Returns where the value of certificatePolicies can't be read.
+fn policy_fault(value: Option<&[u8]>) -> Option<ValueFault> {
+    match parse_certificate_policies(value?) {
+        Ok((_, list)) => item_fault(list_fault(list)),
+        Err(refusal) => whole_fault(refusal),
+    }
+}
+
+/// Appends the extension of this type, if it can't be read.
+fn add_value(
+    alloc: Global,
+    all: &mut Vec<String>,
+    name: &'static str,
+    fault: Option<ValueFault>,
+) -> Result<(), AllocError> {
+    match fault {
+        Some(ValueFault::Whole(kind)) => add_unread(alloc, all, name, Some(kind)),
+        Some(ValueFault::Item(fault)) => add_list(alloc, all, name, Some(fault)),
+        None => Ok(()),
+    }
+}
+
+/// Appends the extensions that are fields, and can't be read.
+fn add_extensions(
+    alloc: Global,
+    all: &mut Vec<String>,
+    certificate: &Certificate<'_>,
+) -> Result<(), AllocError> {
+    let names = names_fault(value_of(certificate, oid::SUBJECT_ALT_NAME));
+    add_value(alloc, all, "subjectAltName", names)?;
+    let constraints = constraints_fault(value_of(certificate, oid::BASIC_CONSTRAINTS));
+    add_value(alloc, all, "basicConstraints", constraints)?;
+    let usage = usage_fault(value_of(certificate, oid::KEY_USAGE));
+    add_value(alloc, all, "keyUsage", usage)?;
+    let purposes = purpose_fault(value_of(certificate, oid::EXTENDED_KEY_USAGE));
+    add_value(alloc, all, "extKeyUsage", purposes)?;
+    let accesses = access_fault(value_of(certificate, oid::AUTHORITY_INFO_ACCESS));
+    add_value(alloc, all, "authorityInfoAccess", accesses)?;
+    let policies = policy_fault(value_of(certificate, oid::CERTIFICATE_POLICIES));
+    add_value(alloc, all, "certificatePolicies", policies)
+}
+
+/// Returns the fields that can't be read, or not to their end; `None` if all can.
+pub(crate) fn unread_fields<'c>(
+    alloc: Global,
+    read: &ReadCertificate<'_>,
+) -> Result<Option<Cell<'c>>, AllocError> {
+    let mut all = Vec::new(alloc);
+    add_fields(alloc, &mut all, read)?;
+    add_extensions(alloc, &mut all, &read.certificate)?;
+    let outer = read.unread.signature_algorithm;
+    add_unread(alloc, &mut all, "signatureAlgorithm", outer)?;
+    Ok(some_texts(Texts::Owned(all)))
+}

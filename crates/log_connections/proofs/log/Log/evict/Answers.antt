@@ -1,0 +1,48 @@
+use Rattle.std.proofs.Common.{refl, ◌∙◌}
+use Rattle.connections.proofs.TableLemmas.{on_err}
+use Rattle.log_connections.proofs.SinkLemmas.{all_but_last, evicted_by, none_ended, one_more_ended}
+use Rattle.log_connections.specs.Sink.{IsOverLimit}
+use Rattle.log_connections.proofs.log.Log.evict.Goals as goal
+
+pub loop-over-init : goal.loop-over-init
+loop-over-init g c = record {
+  ended = none_ended (IsOverLimit c.args.self.now.connections c.args.self.now.memory) c.args.self.now.connections.live (g.S.Sink.received c.args.sink.now);
+  accounted = λ h. h;
+  memory = refl;
+  reader = refl;
+  sound = λ h. h;
+}
+
+pub loop-over-preserved : goal.loop-over-preserved
+loop-over-preserved g c =
+    let last = rw c.in-Some.is at c.take_evicted.ensures.evicted in
+    rw c.in_ok-end_connection.ensures.same
+    (record {
+      ended =
+          one_more_ended (IsOverLimit c.args.self.now.connections c.args.self.now.memory) c.args.self.now.connections.live c.loop-over.self.connections.live
+          c.take_evicted.new.self.connections.live last.0 c.in-Some.over.value
+          (g.S.Sink.received c.args.sink.now) (g.S.Sink.received c.loop-over.sink)
+          (g.S.Sink.received c.end_connection.new.sink) c.loop-over.invariant.ended
+          (evicted_by c.args.self.now.connections c.loop-over.self.connections
+          c.loop-over.self.memory c.args.self.now.memory last.0 c.loop-over.invariant.memory
+          c.loop-over.invariant.accounted last.2) last.1
+          c.in_ok-end_connection.ensures.received;
+      accounted = λ h. c.take_evicted.ensures.accounted (c.loop-over.invariant.accounted h);
+      memory = c.take_evicted.ensures.memory ∙ c.loop-over.invariant.memory;
+      reader = c.end_connection.ensures.reader ∙ c.take_evicted.ensures.reader ∙ c.loop-over.invariant.reader;
+      sound = λ h. c.in_ok-end_connection.ensures.sound (c.loop-over.invariant.sound h);
+    })
+
+pub returns-in_err-end_connection-clause-stopped : goal.returns-in_err-end_connection-clause-stopped
+returns-in_err-end_connection-clause-stopped g c =
+    let last = rw c.in-Some.is at c.take_evicted.ensures.evicted in
+    rw c.end_connection.ensures.same
+    (on_err c.from_residual.result (all_but_last (IsOverLimit c.args.self.now.connections c.args.self.now.memory)
+    c.args.self.now.connections.live c.loop-over.self.connections.live
+    c.take_evicted.new.self.connections.live last.0 c.in-Some.over.value
+    (g.S.Sink.received c.args.sink.now) (g.S.Sink.received c.loop-over.sink)
+    (g.S.Sink.received c.end_connection.new.sink) c.loop-over.invariant.ended
+    (evicted_by c.args.self.now.connections c.loop-over.self.connections
+    c.loop-over.self.memory c.args.self.now.memory last.0 c.loop-over.invariant.memory
+    c.loop-over.invariant.accounted last.2) last.1
+    c.in_err-end_connection.ensures.received))

@@ -1,0 +1,19 @@
+use Rattle.std.specs.Prelude.{◌≡◌, true, length}
+use Rattle.connections.specs.Memory.{IsAccounted}
+use Rattle.log_connections.specs.Log.{uncounted}
+use Rattle.log_connections.specs.Sink.{IsOverLimit, PassesEnded}
+use Rattle.log_connections.proofs.log.Log.evict.Given as goal
+
+-- The sink received those that ended so far, and is sound.
+abbrev pub invariant-loop-over : goal.invariant-loop-over
+invariant-loop-over g l = record {
+  ended : PassesEnded (IsOverLimit l.initial.self.connections l.initial.self.memory) l.initial.self.connections.live l.self.connections.live
+      (g.S.Sink.received l.initial.sink) (g.S.Sink.received l.sink);
+  accounted : IsAccounted l.initial.self.connections → IsAccounted l.self.connections;
+  memory : l.self.memory ≡ l.initial.self.memory;
+  reader : uncounted l.self.arrivals ≡ uncounted l.initial.self.arrivals;
+  sound : g.S.Sink.is_sound l.initial.sink ≡ true → g.S.Sink.is_sound l.sink ≡ true;
+}
+
+abbrev pub decreases-loop-over : goal.decreases-loop-over
+decreases-loop-over g l = length l.self.connections.live

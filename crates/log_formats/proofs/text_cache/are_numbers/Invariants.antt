@@ -1,0 +1,10 @@
+use Rattle.std.proofs.Common.{◌≡◌, ◌↔◌}
+use Rattle.log_formats.proofs.text_cache.are_numbers.Given as goal
+
+abbrev pub invariant-loop-one : goal.invariant-loop-one
+invariant-loop-one g l = record {
+  can_next : (goal.iterator-loop-one g).can_next l.one-iterator;
+  is_finite : (goal.iterator-loop-one g).is_finite l.one-iterator;
+  same : (l.left ≡ g.T.Coded.numbers l.one-iterator.bytes.now)
+      ↔ (l.fn.known ≡ g.T.Coded.numbers l.fn.list.bytes.now);
+}

@@ -1,0 +1,3 @@
+pub mod DialogueLemmas
+pub mod PieceLemmas
+pub mod WalkLemmas

@@ -1,0 +1,11 @@
+pub mod Dialogues
+pub mod Fronts
+pub mod Ldap
+pub mod Lines
+pub mod Packets
+pub mod Pieces
+pub mod Rows
+pub mod Tunnels
+pub mod Walk
+pub mod Words
+pub mod Xmpp

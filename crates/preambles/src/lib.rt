@@ -1,0 +1,32 @@
+//! Follows the protocol in front of TLS, such as SMTP before STARTTLS, and finds where TLS begins.
+//!
+//! A [`Preamble`] takes the bytes of both sides, in pieces of any size. [`Preamble::outcome`]
+//! returns whether the dialogue goes on, TLS begins with the next bytes, or it never does. Values
+//! inside the dialogue, such as passwords, don't matter. A preamble has a fixed size and allocates
+//! nothing.
+//!
+//! `specs/Rows.antt` is the grammar: which side each phase reads, how far, and what follows. The
+//! first 64 bytes of a line or packet decide what follows; the others are passed over.
+//!
+//! Not followed:
+//!
+//! - SQL Server: its TLS records are the payload of TDS packets;
+//! - literals of IMAP (RFC 9051, section 4.3): a command that waits for one ends the dialogue, and
+//!   the bytes of one that is sent at once (`{5+}`) are taken for lines;
+//! - mail that is sent before STARTTLS.
+#![tactic(auto)]
+
+mod front;
+pub mod laws;
+mod ldap;
+mod lines;
+mod packets;
+mod phase;
+mod preamble;
+mod rows;
+mod tunnels;
+mod words;
+mod xmpp;
+
+pub use phase::{Outcome, Protocol, Side};
+pub use preamble::Preamble;

@@ -1,0 +1,7 @@
+pub mod BoundLemmas
+pub mod DifferLemmas
+pub mod LawLemmas
+pub mod MapLemmas
+pub mod RefuteLemmas
+pub mod RoomLemmas
+pub mod TakeLemmas

@@ -1,0 +1,5 @@
+pub mod Hexadecimal
+pub mod Escaped
+pub mod Comma
+pub mod Tab
+pub mod Laws
