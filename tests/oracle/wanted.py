@@ -65,7 +65,8 @@ ALWAYS = [
 # Fields that tshark doesn't have.
 UNTOLD = """
     orig_dropped_pkts resp_dropped_pkts orig_dropped_for resp_dropped_for orig_preamble_bytes
-    resp_preamble_bytes tunnels tunnel_ids ssl2_hello ended_early ech_config_id ech_kdf ech_aead
+    resp_preamble_bytes found_by tunnels tunnel_ids ssl2_hello ended_early ech_config_id ech_kdf
+    ech_aead
     ech_repeated cert_unread_fields
 """.split()
 ORDER = [name for name in log_columns.names() if name not in UNTOLD]

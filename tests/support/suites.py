@@ -25,7 +25,7 @@ PROGRAMS_STAND_ON = (
 )
 TESTS_STAND_ON = (
     "segments layouts tls_base tls_key_exchange tls_ext tls_hs tls_hs_writer raw_records dtls_records tls_records tls_parser"
-    " tls_flow tls_detection tls_stream ssl2_hello capture tunnels ip_fragments der x509 x509_text x509_places dtls_stream"
+    " tls_flow tls_detection tls_stream ssl2_hello capture tunnels ip_fragments der x509 x509_text x509_places ocsp dtls_stream"
     " packets tcp_acceptance connections connection_ids tls_summary tls_fingerprints tls_observer dtls_analyzer tls_analyzer tls_json"
     " wispuddera preambles hex sha2 serde_json tls_states tls_places memchr arrivals log_connections log_runs"
 )

@@ -15,6 +15,10 @@ SEED = 2
 ORDERS = 12
 # So many captures with other bytes are made of each.
 CHANGED = 60
+# What a wrong checksum differs by.
+OTHER = 0x57A2
+ACK = 16
+DROPPED = [f"{side}_dropped_{what}" for side in ("orig", "resp") for what in ("pkts", "for")]
 # Of the second program, only places so near to a packet's end are tried.
 NEAR = 3
 
@@ -79,6 +83,40 @@ def dropped(program: Program, captures: list[Stored]) -> None:
         counts.append(count)
     print(f"tlslog: {counts[0]} captures without some packets: lines of their own, with the gaps")
     print(f"tlslog: {counts[1]} captures without acknowledgements: the stored lines")
+
+
+def with_wrong_checksum(s: packets.Segment) -> bytes:
+    """Its bytes with another checksum of TCP than it should have."""
+    frame, place = bytearray(s.frame()), len(s.front) + 16
+    found = int.from_bytes(frame[place : place + 2], "big")
+    frame[place : place + 2] = (found ^ OTHER).to_bytes(2, "big")
+    return bytes(frame)
+
+
+def offloaded(program: Program, captures: list[Stored]) -> None:
+    """The client's data with wrong checksums, behind a right SYN: so a network card leaves it that
+    writes them behind the capture. The lines must be the stored ones, except for counts of packets
+    and times."""
+    left_out = ["duration", "orig_pkts", "resp_pkts", *DROPPED]
+    count = 0
+    for capture in captures:
+        clients = {
+            s.source for s in capture.segments if s.flags & (packets.SYN | ACK) == packets.SYN
+        }
+        if not clients:
+            continue
+        of_client = [
+            (
+                s.time,
+                with_wrong_checksum(s) if s.payload and s.source in clients else s.frame(),
+            )
+            for s in capture.segments
+        ]
+        found = program.each([packets.pcap(of_client)], {0}, f"{capture.name}, offloaded")
+        if without(left_out, found[0]) != without(left_out, capture.lines):
+            stop(f"{capture.name}, the client's checksums written later: {found[0]}")
+        count += 1
+    print(f"tlslog: {count} captures with the client's checksums written later: the stored lines")
 
 
 def changed(program: Program, captures: list[Stored]) -> None:

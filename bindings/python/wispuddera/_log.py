@@ -95,6 +95,7 @@ class Connection:
     resp_dropped_for: Optional[list[str]] = None
     orig_preamble_bytes: Optional[int] = None
     resp_preamble_bytes: Optional[int] = None
+    found_by: Optional[str] = None
     tunnels: Optional[list[str]] = None
     tunnel_ids: Optional[list[int]] = None
     client_version: Optional[str] = None

@@ -3,9 +3,9 @@ use Rattle.std.specs.Prelude.{◌≡◌, ◌⊎◌, ℕ, ◌+◌, ◌==◌, Bool
 use Rattle.std.specs.Option.{option_map}
 use Rattle.connections.specs.FiveTuple.{is_end}
 use Rattle.connections.specs.Segment.{acknowledges, answers, begins, begins_stream, bytes_alone, data_of_syn, ends, first_in, first_of, has_data, header_of, IsWithoutData}
-use Rattle.connections.specs.Numbers.{ahead_of}
+use Rattle.connections.specs.Numbers.{ahead_of, is_behind}
 use Rattle.connections.specs.Waiting.{are_some, end_of_kept, has_room, is_any_syn, is_behind_fin_in, is_belied_by, is_data_of_syn_to, is_of_syn, is_unsent_by, keeping, kept_of, kept_syn, syn_in, taken_out, taken_syn, with_counted, with_pending, without, without_syn, without_taken, Kept}
-use Rattle.connections.specs.Hosts.{damaged_before, has_fin_of, host_after, is_wrong, later, may_be_damaged, silent_host, with_checksum, with_taken}
+use Rattle.connections.specs.Hosts.{damaged_before, has_fin_of, host_after, is_wrong, later, may_be_damaged, silent_host, with_checksum, with_offload, with_taken}
 use Rattle.connections.specs.Receiver.{edge_of, is_beyond, is_damaged, is_known, judge, number_or}
 use Rattle.connections.specs.Dropped.{none_dropped, with_damaged, with_dropped}
 use Rattle.connections.specs.Stream.{begun_at, forgetting, front_of, held_in, is_missing, silent_stream, noted, HasTaken, is_over}
@@ -170,6 +170,16 @@ is_taken judgement.Again = false
 is_taken (judgement.Waiting r) = false
 is_taken (judgement.Dropped r) = false
 
+-- The number up to which the receiver y acknowledged bytes of the sender x, if a segment of x comes
+-- behind them, and y takes it.
+abbrev pub confirmed_up_to : Option ℕ → ℕ → Option ℕ
+confirmed_up_to None sent = None
+confirmed_up_to (Some n) sent = if is_behind n sent then None else Some n
+
+abbrev pub confirmed_if : Bool → Host → Host → Segment → Option ℕ
+confirmed_if true x y s = confirmed_up_to y.acknowledged (later x.next (first_of s))
+confirmed_if false x y s = None
+
 -- A wrong checksum was the reason.
 abbrev pub is_for_checksum : DropReason → Bool
 is_for_checksum reason.Checksum = true
@@ -181,6 +191,10 @@ is_for_checksum reason.Signature = false
 is_for_checksum reason.Syn = false
 is_for_checksum reason.Reset = false
 is_for_checksum reason.Fin = false
+
+abbrev pub is_some_checksum : Option DropReason → Bool
+is_some_checksum None = false
+is_some_checksum (Some r) = is_for_checksum r
 
 abbrev pub lets_in : Verdict → Bool
 lets_in v =
@@ -364,6 +378,8 @@ module _ {T : Type 0} where
     reached = reached_at s c;
     fin = (hosts_of s c).1.fin;
     edge = edge_of (hosts_of s c).1 (hosts_of s c).0;
+    confirmed = confirmed_if (is_taken (judgement_of s c)) (hosts_of s c).0 (hosts_of s c).1 s;
+    sender_fin = (hosts_of s c).0.fin;
   }
 
   -- Pending segments that a segment shows to be forged are removed, and count as dropped: those of
@@ -431,6 +447,19 @@ module _ {T : Type 0} where
   abbrev pub without_pending : Segment → Connection T → Connection T
   without_pending s c =
       left_by (taken_from s (heeding s c)) s (without_first s (heeding s c))
+
+  -- If a pending segment with a wrong checksum was taken, its sender's network card writes the
+  -- checksums behind the capture: from then on they aren't a reason.
+  abbrev pub learned_from : Side → Connection T → Connection T
+  learned_from Originator c = record c { originator_host = with_offload c.originator_host }
+  learned_from Responder c = record c { responder_host = with_offload c.responder_host }
+
+  abbrev pub learning_if : Bool → Side → Connection T → Connection T
+  learning_if true side c = learned_from side c
+  learning_if false side c = c
+
+  abbrev pub learning : Kept → Connection T → Connection T
+  learning k c = learning_if (is_some_checksum k.reason) (side_of c k.header.source) c
 
   -- The SYNs of another connection that began are removed.
   abbrev pub without_syns : Connection T → Connection T
@@ -534,7 +563,7 @@ module _ {T : Type 0} where
     pub segment : Segment
     pub header : header_of segment ≡ k.header
     pub payload : segment.payload.now ≡ k.bytes
-    pub accepts : AcceptsAs (is_of_syn k) segment (belying segment old) new
+    pub accepts : AcceptsAs (is_of_syn k) segment (learning k (belying segment old)) new
 
   abbrev pub LeavesOutAs : Bool → Segment → Connection T → Connection T → Type 0
   LeavesOutAs true s old new = new ≡ without_bytes s old
@@ -544,7 +573,7 @@ module _ {T : Type 0} where
     pub segment : Segment
     pub header : header_of segment ≡ k.header
     pub payload : segment.payload.now ≡ k.bytes
-    pub leaves : LeavesOutAs (is_of_syn k) segment (belying segment old) new
+    pub leaves : LeavesOutAs (is_of_syn k) segment (learning k (belying segment old)) new
 
   -- A connection that began with these segments.
   abbrev pub AcceptsAnswer : Option Segment → Connection T → Connection T → Type 0

@@ -1,7 +1,7 @@
 -- TCP as the receiver of a segment applies it (RFC 9293, section 3.10.7.4; RFC 5961; RFC 7323), as
 -- far as a monitor knows: by what was captured of both ends.
 use Rattle.std.specs.Prelude.{ℕ, ◌+◌, ◌%◌, ◌^◌, ◌==◌, Bool, true, false, ◌&&◌, ◌||◌, not, nat_lt, nat_le, is_some, if◌then◌else◌, Option, Some, None, length, max}
-use Rattle.connections.specs.Segment.{acknowledges, answers, begins, behind_of, breaks, end_with_fin, ends, first_of, has_data, takes_numbers}
+use Rattle.connections.specs.Segment.{acknowledges, answers, begins, behind_of, breaks, end_with_fin, ends, first_of, has_data, is_refused, takes_numbers}
 use Rattle.connections.specs.Numbers.{advance, is_behind}
 use Rattle.connections.specs.Hosts.{is_ahead, is_clock_behind, later}
 use Rattle.connections.specs.declared.segment.Segment.{Segment}
@@ -10,6 +10,7 @@ use Rattle.connections.specs.declared.stream.Front.{Front}
 use Rattle.connections.specs.declared.stream.TheConstants.{HELD_LIMIT}
 use Rattle.connections.specs.declared.receiver.Judgement.{Judgement}
 use Rattle.connections.specs.declared.receiver.Judgement.TheVariants.{Taken, Again, Waiting, Dropped}
+use Rattle.connections.specs.declared.receiver.DropReason.{DropReason}
 use Rattle.connections.specs.declared.receiver.DropReason.TheVariants as reason
 use Rattle.connections.specs.declared.segment.Checksum.{Checksum}
 use Rattle.connections.specs.declared.segment.Checksum.TheVariants.{Right, Partial, Wrong, Refused}
@@ -130,15 +131,42 @@ judge_data x y f s =
     else if has_data s && is_past_edge x y f s then Waiting Window
     else Taken
 
+-- A segment without SYN and RST, by its numbers alone.
+abbrev pub judge_numbers : Host → Host → Front → Segment → Judgement
+judge_numbers x y f s =
+    if is_far_before x y s then Dropped Window
+    else if is_beyond (edge_of x y) s then (if has_data s then Waiting Window else Dropped Window)
+    else judge_data x y f s
+
+-- A segment with a reason against it that isn't in its numbers. One that would bring bytes or a FIN
+-- is pending; any other is dropped.
+abbrev pub waiting_if : Bool → DropReason → Judgement
+waiting_if true r = Waiting r
+waiting_if false r = Dropped r
+
+abbrev pub doubted : DropReason → Bool → Judgement → Judgement
+doubted r news Taken = waiting_if news r
+doubted r news (Waiting q) = waiting_if news r
+doubted r news Again = Dropped r
+doubted r news (Dropped q) = Dropped r
+
+abbrev pub doubting : DropReason → Segment → Judgement → Judgement
+doubting r s j = doubted r (takes_numbers s) j
+
 -- A segment without SYN and RST.
 abbrev pub judge_open : Host → Host → Front → Segment → Judgement
 judge_open x y f s =
     if not (acknowledges s) then Dropped NoAck
-    else if is_signed_apart x s then Dropped Signature
-    else if has_old_clock x y s then Dropped Clock
-    else if is_far_before x y s then Dropped Window
-    else if is_beyond (edge_of x y) s then (if has_data s then Waiting Window else Dropped Window)
-    else judge_data x y f s
+    else if is_signed_apart x s then doubting Signature s (judge_numbers x y f s)
+    else if has_old_clock x y s then doubting Clock s (judge_numbers x y f s)
+    else judge_numbers x y f s
+
+-- A segment whose checksum counts as wrong. Its receiver may have taken its data, if the network
+-- card wrote the checksum behind the capture, or merged segments before it.
+abbrev pub judge_damaged : Host → Host → Front → Segment → Judgement
+judge_damaged x y f s =
+    if is_refused s.checksum || (breaks s || begins s) then Dropped reason.Checksum
+    else doubting reason.Checksum s (judge_open x y f s)
 
 -- An RST resets a connection only if its sequence number, whatever its other flags, is the one that
 -- its receiver expects next (RFC 5961, section 3.2), or, if both accept selective acknowledgements,
@@ -199,7 +227,7 @@ judge_syn x y s = if ends s then Dropped Syn else judge_syn_by x.first x y s
 -- What the receiver y does with a segment of the sender x, by how far the stream of x came.
 abbrev pub judge : Host → Host → Front → Segment → Judgement
 judge x y f s =
-    if is_damaged x y s.checksum (length s.payload.now) then Dropped reason.Checksum
+    if is_damaged x y s.checksum (length s.payload.now) then judge_damaged x y f s
     else if breaks s then judge_reset x y f s
     else if begins s then judge_syn x y s
     else judge_open x y f s

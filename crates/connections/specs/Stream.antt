@@ -145,7 +145,7 @@ unlike [] ys = 0
 unlike (x ∷ xs) [] = 0
 unlike (x ∷ xs) (y ∷ ys) = (if x == y then 0 else 1) + unlike xs ys
 
--- At how many numbers a segment's byte differs from the in-order bytes, whose first one has this
+-- At how many numbers a segment's byte differs from the bytes in a list, whose first one has this
 -- number.
 abbrev pub differing_in_order : ℕ → Bytes → Segment → ℕ
 differing_in_order next standing s =
@@ -213,11 +213,22 @@ abbrev pub end_of : Option ℕ → Segment → ℕ
 end_of None s = behind_of s
 end_of (Some fin) s = if is_behind (behind_of s) fin then fin else behind_of s
 
+-- The number of this FIN counted as a byte: its sender went on from behind it, in a segment that
+-- came before it.
+abbrev pub counts_fin : Segment → Stream → Bool
+counts_fin s t = ends s && t.last == (behind_of s + 1) % 2 ^ 32
+
+abbrev pub last_of : Segment → Stream → ℕ
+last_of s t = if counts_fin s t then behind_of s else t.last
+
+abbrev pub length_of : Segment → Stream → ℕ
+length_of s t = if counts_fin s t then t.length - 1 else t.length
+
 -- What a segment's numbers show: how far its sender has come, and with FIN where the stream ends.
 abbrev pub with_numbers : Segment → Stream → Stream
 with_numbers s t = record t {
-  last = if is_behind (end_of t.fin s) t.last then end_of t.fin s else t.last;
-  length = plus t.length (advance (end_of t.fin s) t.last);
+  last = if is_behind (end_of t.fin s) (last_of s t) then end_of t.fin s else last_of s t;
+  length = plus (length_of s t) (advance (end_of t.fin s) (last_of s t));
   fin = if ends s then Some (behind_of s) else t.fin;
 }
 

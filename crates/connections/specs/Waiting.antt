@@ -5,7 +5,7 @@ use Rattle.connections.specs.FiveTuple.{five_tuple_between, is_end}
 use Rattle.connections.specs.Numbers.{advance, is_behind}
 use Rattle.connections.specs.Hosts.{later}
 use Rattle.connections.specs.Segment.{answers_in, begins_in, behind_of, ends_in, first_in, first_of, header_of, takes_numbers, without_fin}
-use Rattle.connections.specs.Stream.{is_number}
+use Rattle.connections.specs.Stream.{differing_in_order, is_number}
 use Rattle.connections.specs.Traffic.{plus}
 use Rattle.connections.specs.Dropped.{with_dropped}
 use Rattle.connections.specs.declared.dropped.Dropped.{Dropped}
@@ -120,8 +120,8 @@ abbrev pub with_bytes_of : List Kept → ℕ → ℕ
 with_bytes_of [] n = n
 with_bytes_of (k ∷ ks) n = with_bytes_of ks (plus n (length k.bytes))
 
--- The pending segment acknowledges what isn't known to be sent, or begins beyond the window. Part
--- of the room is reserved for others.
+-- The pending segment acknowledges what isn't known to be sent, has a strict reason against it, or
+-- begins beyond the window. Part of the room is reserved for others.
 abbrev pub is_for_unsent : Option DropReason → Bool
 is_for_unsent None = false
 is_for_unsent (Some Acknowledgment) = true
@@ -134,8 +134,22 @@ is_for_unsent (Some Syn) = false
 is_for_unsent (Some Reset) = false
 is_for_unsent (Some Fin) = false
 
+-- Only what its sender is known to have sent shows that its receiver took it: a wrong checksum, a
+-- signature and an old timestamp show forged segments too, whose forged acknowledgements would fit.
+abbrev pub is_strict : Option DropReason → Bool
+is_strict None = false
+is_strict (Some Acknowledgment) = false
+is_strict (Some Checksum) = true
+is_strict (Some NoAck) = false
+is_strict (Some Window) = false
+is_strict (Some Clock) = true
+is_strict (Some Signature) = true
+is_strict (Some Syn) = false
+is_strict (Some Reset) = false
+is_strict (Some Fin) = false
+
 abbrev pub is_unsure : Option DropReason → Bool → Bool
-is_unsure reason beyond = is_for_unsent reason || beyond
+is_unsure reason beyond = is_for_unsent reason || (is_strict reason || beyond)
 
 -- There is room for a number of segments, and for a number of bytes of data in them. A part of both
 -- is reserved for those that are sure.
@@ -165,13 +179,15 @@ covers_up_to (Some next) s = not (is_behind s.acknowledgment next)
 abbrev pub covers : AckContext → Segment → Bool
 covers known s = covers_up_to known.sent s
 
--- An acknowledgement fits a pending segment: it covers all of it, or no more than is known to be
--- sent; or, if the segment is sure, as much as the receiver's window had room for.
+-- An acknowledgement fits a pending segment: it covers no more than is known to be sent; or, unless
+-- the reason is strict, all of the segment; or, if the segment is sure, as much as the receiver's
+-- window had room for.
 abbrev pub fits_to : Segment → AckContext → Kept → Bool
 fits_to s known k =
     covers known s
-    || (s.acknowledgment == end_of_kept k
-    || (not (is_unsure k.reason k.is_beyond) && is_number known.edge s.acknowledgment))
+    || (not (is_strict k.reason)
+    && (s.acknowledgment == end_of_kept k
+    || (not (is_unsure k.reason k.is_beyond) && is_number known.edge s.acknowledgment)))
 
 -- What the pending segment acknowledges was sent by then: all of it came, or s begins there.
 abbrev pub stands : Segment → AckContext → Kept → Bool
@@ -209,12 +225,46 @@ is_in_row ks s known k =
     not k.is_beyond
     || (covers known s || (is_number known.sent (first_of_kept k) || is_beside_any k ks))
 
--- The first one that s acknowledges.
+-- s acknowledges it, as its sender may have sent it.
 abbrev pub is_taken_by : List Kept → Segment → AckContext → Kept → Bool
 is_taken_by ks s known k = is_acknowledged_by s known k && is_in_row ks s known k
 
+-- A known number comes after another.
+abbrev pub is_known_behind : Option ℕ → ℕ → Bool
+is_known_behind None n = false
+is_known_behind (Some m) n = is_behind m n
+
+-- The number up to which bytes in front of s are acknowledged: by what the other end's segments
+-- acknowledged before, or by a pending one that s acknowledges.
+abbrev pub confirms : List Kept → Segment → AckContext → Kept → Bool
+confirms ks s known k =
+    is_taken_by ks s known k && not (is_behind k.header.acknowledgment (first_of s))
+
+abbrev pub confirmed_from : List Kept → Segment → AckContext → List Kept → Option ℕ → Option ℕ
+confirmed_from all s known [] n = n
+confirmed_from all s known (k ∷ ks) n = confirmed_from all s known ks
+    (if confirms all s known k then Some (later n k.header.acknowledgment) else n)
+
+abbrev pub confirming : List Kept → Segment → AckContext → AckContext
+confirming ks s known =
+    record known { confirmed = confirmed_from ks s known ks known.confirmed }
+
+-- Bytes of it are so acknowledged, and s comes from its own sender.
+abbrev pub is_confirmed_by : Segment → AckContext → Kept → Bool
+is_confirmed_by s known k =
+    is_end k.header.source s.source
+    && (is_strict k.reason
+    && (takes_numbers_in k
+    && (not (begins_in k.header) && is_known_behind known.confirmed (first_of_kept k))))
+
+-- The first one that s confirms, or else the first that it acknowledges.
+abbrev pub place_or : Option ℕ → Option ℕ → Option ℕ
+place_or None o = o
+place_or (Some n) o = Some n
+
 abbrev pub place_taken : Segment → AckContext → List Kept → Option ℕ
-place_taken s known ks = place_from (is_taken_by ks s known) 0 ks
+place_taken s known ks =
+    place_or (place_from (is_confirmed_by s known) 0 ks) (place_from (is_taken_by ks s known) 0 ks)
 
 -- A pending segment, truncated at a number, without its FIN.
 abbrev pub cut_at : ℕ → Kept → Kept
@@ -223,31 +273,43 @@ cut_at n k = if is_behind (end_of_kept k) n then record k {
   bytes = take (advance n k.header.sequence) k.bytes;
 } else k
 
-abbrev pub cut_at_fin : Option ℕ → Kept → Kept
-cut_at_fin None k = k
-cut_at_fin (Some n) k = cut_at n k
+abbrev pub cut_at_known : Option ℕ → Kept → Kept
+cut_at_known None k = k
+cut_at_known (Some n) k = cut_at n k
 
+-- It is truncated at the acknowledged bytes, and at its sender's FIN.
 abbrev pub cut_by : Segment → AckContext → Kept → Kept
-cut_by s known k = cut_at_fin known.fin (cut_at s.acknowledgment k)
+cut_by s known k = if is_end k.header.source s.source
+    then cut_at_known known.sender_fin (cut_at_known known.confirmed k)
+    else cut_at_known known.fin (cut_at s.acknowledgment k)
 
--- The pending segment that a segment acknowledges, truncated at the acknowledged bytes and at its
--- sender's FIN.
+-- The pending segment that a segment shows to be taken, truncated.
+abbrev pub taken_by : Segment → AckContext → List Kept → Option Kept
+taken_by s known ks = option_map (cut_by s known) (kept_at (place_taken s known ks) ks)
+
 abbrev pub taken_out : Segment → AckContext → List Kept → Option Kept
-taken_out s known ks = option_map (cut_by s known) (kept_at (place_taken s known ks) ks)
+taken_out s known ks = taken_by s (confirming ks s known) ks
 
 abbrev pub without_taken : Segment → AckContext → List Kept → List Kept
-without_taken s known ks = without_at (place_taken s known ks) ks
+without_taken s known ks = without_at (place_taken s (confirming ks s known) ks) ks
 
--- A segment of its sender shows that it is forged: that one has no data, isn't before it, and
--- acknowledges more.
+-- A segment of its sender goes without it: that one has no data, isn't before it, and acknowledges
+-- more. Or it refutes it: one of its bytes is another at the same number.
+abbrev pub goes_without : Segment → Kept → Bool
+goes_without s k =
+    not (takes_numbers s)
+    && (not (is_behind (first_of s) (first_of_kept k))
+    && is_behind s.acknowledgment k.header.acknowledgment)
+
+abbrev pub is_refuted_by : Segment → Kept → Bool
+is_refuted_by s k = nat_lt 0 (differing_in_order (first_of_kept k) k.bytes s)
+
+-- A segment of its sender shows that it is forged.
 abbrev pub is_unsent_by : Segment → Kept → Bool
 is_unsent_by s k =
     not (is_of_syn k)
     && (not (begins_in k.header)
-    && (is_end k.header.source s.source
-    && (not (takes_numbers s)
-    && (not (is_behind (first_of s) (first_of_kept k))
-    && is_behind s.acknowledgment k.header.acknowledgment))))
+    && (is_end k.header.source s.source && (goes_without s k || is_refuted_by s k)))
 
 -- A segment of its receiver, behind the number `reached`, shows that it is forged: it acknowledges
 -- only a part of what is between that number and the segment's end.

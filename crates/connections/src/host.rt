@@ -1,7 +1,7 @@
 //! The TCP state of one end of a connection.
 ghost use Rattle.std.specs.Prelude.{◌≡◌, Some, None};
 ghost use Rattle.connections.specs.Segment.{first_of};
-ghost use Rattle.connections.specs.Hosts.{checksums_behind as checksums_behind_of, clock_behind as clock_behind_of, damaged_before, has_fin_of, host_after, later as later_of, may_be_damaged, shift_of, silent_host, with_checksum, with_taken as taken_by, window_of};
+ghost use Rattle.connections.specs.Hosts.{checksums_behind as checksums_behind_of, clock_behind as clock_behind_of, damaged_before, has_fin_of, host_after, later as later_of, may_be_damaged, shift_of, silent_host, with_checksum, with_offload, with_taken as taken_by, window_of};
 
 use crate::numbers::is_behind;
 use crate::segment::{Checksum, Options, Segment};
@@ -169,6 +169,14 @@ impl Host {
         let wrong = self.unchecked;
         self.unchecked = 0;
         wrong
+    }
+
+    /// Notes that this end's network card writes the checksums behind the capture.
+    pub(crate) fn note_offload(&mut self)
+        ensures { self.new ≡ with_offload self.old }
+    {
+        self.checksums = Some(Checksum::Wrong);
+        self.unchecked = FIRST_PACKETS;
     }
 
     /// Notes this end's SYN.

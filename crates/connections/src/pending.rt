@@ -9,7 +9,7 @@ ghost use Rattle.std.specs.Prelude.{◌≡◌, ◌<◌, ◌≤◌, ◌+◌, ◌*
 ghost use Rattle.std.specs.Option.{option_map};
 ghost use Rattle.connections.specs.Segment.{header_of};
 ghost use Rattle.connections.specs.declared.pending.TheConstants.{PENDING_COST, PENDING_ROOM};
-ghost use Rattle.connections.specs.Waiting.{are_some, covers as covers_sent, cut_at, cut_by, end_of_kept, first_of_kept, five_tuple_of_kept, fits_to as fits, has_room, is_acknowledged_by as is_acknowledged, is_any_syn, is_behind_fin_in, is_belied_by as is_belied, is_beside as stands_beside, is_beside_any as is_beside_one, is_data_of_syn_to, is_from, is_in_row as stands_in_row, is_of_syn as is_syn_data, is_syn as is_syn_of, is_taken_by as is_taken, is_unsent_by as is_unsent, is_unsure as is_unsure_by, is_within, keeping, kept_at, kept_of, kept_syn, place_of_syn, place_taken, stands as stands_by, syn_in, taken_out, taken_syn, takes_numbers_in, with_bytes_of, with_counted, with_pending, without, without_at, without_syn, without_taken};
+ghost use Rattle.connections.specs.Waiting.{are_some, confirmed_from, confirms as confirms_before, covers as covers_sent, cut_at, cut_at_known, cut_by, end_of_kept, first_of_kept, five_tuple_of_kept, fits_to as fits, goes_without, has_room, is_acknowledged_by as is_acknowledged, is_any_syn, is_behind_fin_in, is_belied_by as is_belied, is_confirmed_by as is_confirmed, is_known_behind as is_some_behind, is_strict as is_strict_reason, is_beside as stands_beside, is_beside_any as is_beside_one, is_data_of_syn_to, is_from, is_in_row as stands_in_row, is_of_syn as is_syn_data, is_refuted_by as is_refuted, is_syn as is_syn_of, is_taken_by as is_taken, is_unsent_by as is_unsent, is_unsure as is_unsure_by, is_within, keeping, kept_at, kept_of, kept_syn, place_from, place_of_syn, place_taken, stands as stands_by, syn_in, taken_out, taken_syn, takes_numbers_in, with_bytes_of, with_counted, with_pending, without, without_at, without_syn, without_taken};
 
 use crate::dropped::Dropped;
 use crate::five_tuple::{End, FiveTuple};
@@ -17,6 +17,7 @@ use crate::host::{Host, later};
 use crate::numbers::{advance, is_behind};
 use crate::receiver::{DropReason, is_behind_fin};
 use crate::segment::{Header, Segment};
+use crate::stream::count_differing;
 use std::alloc::{AllocError, AllocFailed, Global};
 use std::marker::Model;
 
@@ -35,7 +36,8 @@ const PENDING_COST: usize = 320;
 const PENDING_ROOM: usize = 128;
 
 /// How much of both is reserved for segments that begin in the window and acknowledge what was
-/// sent. Most forged segments do neither.
+/// sent, with neither a wrong checksum, a signature nor an old timestamp. Most forged segments
+/// aren't so.
 const PENDING_FREE: usize = 8;
 
 const BYTES_FREE: usize = 0x4000;
@@ -65,12 +67,34 @@ impl Model for PendingSegment {
     } };
 }
 
-/// Returns whether a segment with this reason acknowledges bytes that aren't known to be sent, or
-/// begins beyond the window.
+/// Returns whether a segment with this reason acknowledges bytes that aren't known to be sent, has
+/// a strict reason against it, or begins beyond the window.
 fn is_unsure(reason: Option<DropReason>, is_beyond: bool) -> bool
     ensures { result ≡ is_unsure_by reason is_beyond }
 {
-    matches!(reason, Some(DropReason::Acknowledgment)) || is_beyond
+    matches!(reason, Some(DropReason::Acknowledgment)) || is_strict(reason) || is_beyond
+}
+
+/// Returns whether only an acknowledgement of what was known to be sent shows that the receiver took
+/// a segment with this reason. A lost packet doesn't explain it, so a forged segment and a forged
+/// acknowledgement of it would fit.
+fn is_strict(reason: Option<DropReason>) -> bool
+    ensures { result ≡ is_strict_reason reason }
+{
+    matches!(
+        reason,
+        Some(DropReason::Checksum | DropReason::Signature | DropReason::Clock)
+    )
+}
+
+/// Returns whether a known number comes after another.
+fn is_known_behind(known: Option<u32>, number: u32) -> bool
+    ensures { result ≡ is_some_behind known number }
+{
+    match known {
+        Some(other) => is_behind(other, number),
+        None => false,
+    }
 }
 
 impl PendingSegment {
@@ -176,16 +200,29 @@ impl PendingSegment {
             && (self.is_of_syn() || (self.fits_to(ack, known) && self.stands(ack, known)))
     }
 
-    /// Returns whether a segment acknowledges all of it, or no more than was known to be sent. It
-    /// may also acknowledge as much as the receiver's window had room for, if this segment begins
-    /// within the window and acknowledges what was sent.
+    /// Returns whether a segment acknowledges no more than was known to be sent, or, unless the
+    /// reason is strict, all of it. It may also acknowledge as much as the receiver's window had
+    /// room for, if this segment begins within the window and acknowledges what was sent.
     fn fits_to(&self, ack: &Segment<'_>, known: AckContext) -> bool
         ensures { result ≡ fits ack.now known self.now }
     {
         let number = ack.acknowledgment;
         known.covers(ack)
-            || number == self.end()
-            || (!is_unsure(self.reason, self.is_beyond) && known.edge == Some(number))
+            || (!is_strict(self.reason)
+                && (number == self.end()
+                    || (!is_unsure(self.reason, self.is_beyond) && known.edge == Some(number))))
+    }
+
+    /// Returns whether its receiver acknowledged bytes of it, by what is known when a segment of its
+    /// own sender comes behind them. Only strict reasons need that.
+    fn is_confirmed_by(&self, segment: &Segment<'_>, known: AckContext) -> bool
+        ensures { result ≡ is_confirmed segment.now known self.now }
+    {
+        self.header.source == segment.source
+            && is_strict(self.reason)
+            && self.takes_numbers()
+            && !self.begins()
+            && is_known_behind(known.confirmed, self.first())
     }
 
     /// Returns whether the bytes that it acknowledges were sent, by the time a segment came: all of
@@ -205,17 +242,31 @@ impl PendingSegment {
             && (self.first() == other.end() || other.first() == self.end())
     }
 
-    /// Returns whether a segment of its sender shows that it is forged: that segment has no data,
-    /// isn't before it, and acknowledges more.
+    /// Returns whether a segment of its sender goes without it: that one has no data, isn't before
+    /// it, and acknowledges more.
+    fn is_skipped_by(&self, segment: &Segment<'_>) -> bool
+        ensures { result ≡ goes_without segment.now self.now }
+    {
+        !segment.takes_numbers()
+            && !is_behind(segment.first(), self.first())
+            && is_behind(segment.acknowledgment, self.header.acknowledgment)
+    }
+
+    /// Returns whether one of its bytes is another than that of a segment at the same number.
+    fn is_refuted_by(&self, segment: &Segment<'_>) -> bool
+        ensures { result ≡ is_refuted segment.now self.now }
+    {
+        count_differing(self.first(), self.payload.as_slice(), segment) > 0
+    }
+
+    /// Returns whether a segment of its sender shows that it is forged.
     fn is_unsent_by(&self, segment: &Segment<'_>) -> bool
         ensures { result ≡ is_unsent segment.now self.now }
     {
         !self.is_of_syn()
             && !self.begins()
             && self.header.source == segment.source
-            && !segment.takes_numbers()
-            && !is_behind(segment.first(), self.first())
-            && is_behind(segment.acknowledgment, self.header.acknowledgment)
+            && (self.is_skipped_by(segment) || self.is_refuted_by(segment))
     }
 
     /// Truncates it at this number, with its FIN.
@@ -229,13 +280,26 @@ impl PendingSegment {
         }
     }
 
-    /// Truncates it at the bytes that a segment acknowledges, and at the other end's FIN.
-    fn cut_by(&mut self, ack: &Segment<'_>, known: AckContext)
-        ensures { self.new ≡ cut_by ack.now known self.old }
+    /// Truncates it at this number, if that is known.
+    fn cut_at_known(&mut self, number: Option<u32>)
+        ensures { self.new ≡ cut_at_known number self.old }
     {
-        self.cut(ack.acknowledgment);
-        if let Some(number) = known.fin {
+        if let Some(number) = number {
             self.cut(number);
+        }
+    }
+
+    /// Truncates it at the bytes that were acknowledged when a segment came, and at its sender's
+    /// FIN.
+    fn cut_by(&mut self, segment: &Segment<'_>, known: AckContext)
+        ensures { self.new ≡ cut_by segment.now known self.old }
+    {
+        if self.header.source == segment.source {
+            self.cut_at_known(known.confirmed);
+            self.cut_at_known(known.sender_fin);
+        } else {
+            self.cut(segment.acknowledgment);
+            self.cut_at_known(known.fin);
         }
     }
 
@@ -277,6 +341,11 @@ pub(crate) struct AckContext {
     pub(crate) fin: Option<u32>,
     /// The right edge of its sender's window.
     pub(crate) edge: Option<u32>,
+    /// The number up to which its receiver acknowledged bytes of its sender, if its receiver takes
+    /// it and it comes behind them.
+    pub(crate) confirmed: Option<u32>,
+    /// The number of its sender's FIN.
+    pub(crate) sender_fin: Option<u32>,
 }
 
 impl AckContext {
@@ -352,13 +421,54 @@ fn is_taken_by(
     kept.is_acknowledged_by(ack, known) && is_in_row(list, kept, ack, known)
 }
 
+/// Returns whether a pending segment shows that bytes in front of `ack` are acknowledged: `ack`
+/// acknowledges it.
+fn confirms(
+    list: &[PendingSegment],
+    kept: &PendingSegment,
+    ack: &Segment<'_>,
+    known: AckContext,
+) -> bool
+    ensures { result ≡ confirms_before list.now ack.now known kept.now }
+{
+    is_taken_by(list, kept, ack, known) && !is_behind(kept.header.acknowledgment, ack.first())
+}
+
+/// Returns the number up to which bytes in front of `ack` are acknowledged, by what is known and by
+/// these pending segments.
+fn confirmed(list: &[PendingSegment], ack: &Segment<'_>, known: AckContext) -> Option<u32>
+    ensures { result ≡ confirmed_from list.now ack.now known list.now known.confirmed }
+{
+    let mut number = known.confirmed;
+    for kept in list {
+        if confirms(list, kept, ack, known) {
+            number = Some(later(number, kept.header.acknowledgment));
+        }
+    }
+    number
+}
+
+/// Returns the index of the first pending segment of the sender of `ack` whose receiver
+/// acknowledged bytes of it.
+fn place_confirmed(list: &[PendingSegment], ack: &Segment<'_>, known: AckContext) -> Option<usize>
+    ensures is { result ≡ place_from (is_confirmed ack.now known) 0 list.now }
+    ensures within { IfSome result (λ place. place < length list.now) }
+{
+    for place in 0..list.len() {
+        if list[place].is_confirmed_by(ack, known) {
+            return Some(place);
+        }
+    }
+    None
+}
+
 /// Returns the index of the first pending segment that `ack` acknowledges.
 fn place_acknowledged(
     list: &[PendingSegment],
     ack: &Segment<'_>,
     known: AckContext,
 ) -> Option<usize>
-    ensures is { result ≡ place_taken ack.now known list.now }
+    ensures is { result ≡ place_from (is_taken list.now ack.now known) 0 list.now }
     ensures within { IfSome result (λ place. place < length list.now) }
 {
     for place in 0..list.len() {
@@ -367,6 +477,17 @@ fn place_acknowledged(
         }
     }
     None
+}
+
+/// Returns the index of the first pending segment that `ack` shows to be taken.
+fn place_shown(list: &[PendingSegment], ack: &Segment<'_>, known: AckContext) -> Option<usize>
+    ensures is { result ≡ place_taken ack.now known list.now }
+    ensures within { IfSome result (λ place. place < length list.now) }
+{
+    match place_confirmed(list, ack, known) {
+        Some(place) => Some(place),
+        None => place_acknowledged(list, ack, known),
+    }
 }
 
 /// Returns the index of the SYN-ACK (`answers`), or of the SYN without ACK.
@@ -610,13 +731,17 @@ impl PendingSegments {
         remove_belied(&mut self.kept, segment, reached);
     }
 
-    /// Removes and returns the first pending segment that `ack` acknowledges, truncated at the
-    /// acknowledged bytes and at the other end's FIN.
+    /// Removes and returns the first pending segment that `ack` shows to be taken, truncated at the
+    /// acknowledged bytes and at its sender's FIN.
     pub(crate) fn take(&mut self, ack: &Segment<'_>, known: AckContext) -> Option<PendingSegment>
         ensures taken { result ≡ taken_out ack.now known self.old }
         ensures left { self.new ≡ without_taken ack.now known self.old }
     {
-        let place = place_acknowledged(self.kept.as_slice(), ack, known)?;
+        let known = AckContext {
+            confirmed: confirmed(self.kept.as_slice(), ack, known),
+            ..known
+        };
+        let place = place_shown(self.kept.as_slice(), ack, known)?;
         let mut kept = remove_at(&mut self.kept, place);
         kept.cut_by(ack, known);
         Some(kept)

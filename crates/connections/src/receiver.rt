@@ -1,6 +1,6 @@
 //! What the receiver of a segment does with it (RFC 9293, section 3.10.7.4; RFC 5961; RFC 7323).
 ghost use Rattle.std.specs.Prelude.{◌≡◌};
-ghost use Rattle.connections.specs.Receiver.{answers_to as answers_to_sent, awaited as awaited_by, edge_of as edge_for, has_old_clock as has_old_clock_at, is_ahead_by as is_ahead_of_by, is_behind_fin as is_behind_fin_at, is_beyond as is_beyond_edge, is_damaged as is_damaged_at, is_far_before as is_far_before_known, is_known as is_known_to, is_of_unsent as is_of_unsent_by, is_past_edge as is_past_edge_of, is_reset_taken, judge_reset as judged_reset, is_signed_apart as is_signed_apart_by, is_stale as is_stale_at, judge as judged, judge_data as judged_data, judge_first_syn as judged_first_syn, judge_open as judged_open, judge_syn as judged_syn, judge_syn_again as judged_syn_again};
+ghost use Rattle.connections.specs.Receiver.{answers_to as answers_to_sent, awaited as awaited_by, edge_of as edge_for, has_old_clock as has_old_clock_at, is_ahead_by as is_ahead_of_by, is_behind_fin as is_behind_fin_at, is_beyond as is_beyond_edge, is_damaged as is_damaged_at, is_far_before as is_far_before_known, is_known as is_known_to, is_of_unsent as is_of_unsent_by, is_past_edge as is_past_edge_of, is_reset_taken, judge_reset as judged_reset, is_signed_apart as is_signed_apart_by, is_stale as is_stale_at, doubting as doubted_by, judge as judged, judge_damaged as judged_damaged, judge_data as judged_data, judge_numbers as judged_numbers, judge_first_syn as judged_first_syn, judge_open as judged_open, judge_syn as judged_syn, judge_syn_again as judged_syn_again};
 ghost use Rattle.std.specs.Prelude.{length};
 
 use crate::host::{Host, later};
@@ -45,8 +45,9 @@ pub enum Judgement {
     Taken,
     /// The segment is a retransmission or has no bytes, and the receiver takes nothing of it.
     Again,
-    /// The receiver accepts the segment if it knows more than was captured, and else drops it for
-    /// this reason. Its next acknowledgement shows which.
+    /// The receiver accepts the segment if it knows more than was captured, or if the network card
+    /// changed the checksum, and else drops it for this reason. Its next acknowledgement shows
+    /// which.
     Waiting(DropReason),
     /// The receiver drops the segment.
     Dropped(DropReason),
@@ -223,19 +224,10 @@ fn judge_data(sender: &Host, receiver: &Host, front: Front, segment: &Segment<'_
     Judgement::Taken
 }
 
-/// Returns what the receiver does with a segment without SYN and RST.
-fn judge_open(sender: &Host, receiver: &Host, front: Front, segment: &Segment<'_>) -> Judgement
-    ensures { result ≡ judged_open sender.now receiver.now front segment.now }
+/// Returns what the receiver does with a segment without SYN and RST, by its numbers alone.
+fn judge_numbers(sender: &Host, receiver: &Host, front: Front, segment: &Segment<'_>) -> Judgement
+    ensures { result ≡ judged_numbers sender.now receiver.now front segment.now }
 {
-    if !segment.acknowledges() {
-        return Judgement::Dropped(DropReason::NoAck);
-    }
-    if is_signed_apart(sender, segment) {
-        return Judgement::Dropped(DropReason::Signature);
-    }
-    if has_old_clock(sender, receiver, segment) {
-        return Judgement::Dropped(DropReason::Clock);
-    }
     if is_far_before(sender, receiver, segment) {
         return Judgement::Dropped(DropReason::Window);
     }
@@ -247,6 +239,50 @@ fn judge_open(sender: &Host, receiver: &Host, front: Front, segment: &Segment<'_
         };
     }
     judge_data(sender, receiver, front, segment)
+}
+
+/// Returns what the receiver does with a segment that has a reason against it, and else would be
+/// judged so. If it has new bytes or a FIN, the receiver's acknowledgements show whether it took
+/// them.
+fn doubting(reason: DropReason, segment: &Segment<'_>, otherwise: Judgement) -> Judgement
+    ensures { result ≡ doubted_by reason segment.now otherwise }
+{
+    match otherwise {
+        Judgement::Taken | Judgement::Waiting(_) if segment.takes_numbers() => {
+            Judgement::Waiting(reason)
+        }
+        _ => Judgement::Dropped(reason),
+    }
+}
+
+/// Returns what the receiver does with a segment without SYN and RST.
+fn judge_open(sender: &Host, receiver: &Host, front: Front, segment: &Segment<'_>) -> Judgement
+    ensures { result ≡ judged_open sender.now receiver.now front segment.now }
+{
+    if !segment.acknowledges() {
+        return Judgement::Dropped(DropReason::NoAck);
+    }
+    let otherwise = judge_numbers(sender, receiver, front, segment);
+    if is_signed_apart(sender, segment) {
+        return doubting(DropReason::Signature, segment, otherwise);
+    }
+    if has_old_clock(sender, receiver, segment) {
+        return doubting(DropReason::Clock, segment, otherwise);
+    }
+    otherwise
+}
+
+/// Returns what the receiver does with a segment whose checksum counts as wrong. It may have taken
+/// the data of one that is right otherwise: the network card wrote the checksum behind the capture,
+/// or merged segments before it.
+fn judge_damaged(sender: &Host, receiver: &Host, front: Front, segment: &Segment<'_>) -> Judgement
+    ensures { result ≡ judged_damaged sender.now receiver.now front segment.now }
+{
+    if segment.checksum == Checksum::Refused || segment.breaks() || segment.begins() {
+        return Judgement::Dropped(DropReason::Checksum);
+    }
+    let otherwise = judge_open(sender, receiver, front, segment);
+    doubting(DropReason::Checksum, segment, otherwise)
 }
 
 /// Returns whether the receiver takes an RST: it has the next sequence number, in which a SYN flag
@@ -338,12 +374,12 @@ fn judge_syn(sender: &Host, receiver: &Host, segment: &Segment<'_>) -> Judgement
 ///
 /// A wrong checksum counts only after a correct or partial one among the sender's first segments.
 /// Until then the capture is assumed to be on the sender's own machine, whose network card writes
-/// the checksums behind the capture.
+/// the checksums behind the capture. A later data segment with one waits for an acknowledgement.
 pub fn judge(sender: &Host, receiver: &Host, front: Front, segment: &Segment<'_>) -> Judgement
     ensures { result ≡ judged sender.now receiver.now front segment.now }
 {
     if is_damaged(sender, receiver, segment.checksum, segment.payload.len()) {
-        return Judgement::Dropped(DropReason::Checksum);
+        return judge_damaged(sender, receiver, front, segment);
     }
     if segment.breaks() {
         return judge_reset(sender, receiver, front, segment);

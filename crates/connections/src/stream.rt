@@ -1,7 +1,7 @@
 //! One direction of a connection.
 ghost use Rattle.std.specs.Prelude.{◌≡◌, ◌≤◌, ◌%◌, ◌^◌, length, max, false, OnOk, OnErr};
 ghost use Rattle.connections.specs.Segment.{breaks, first_of};
-ghost use Rattle.connections.specs.Stream.{begun_at, came, differing_in_order, end_of, forgetting, front_of, handed_on, handing_on, has_urgent_next, held_in, is_cut_short, is_missing, is_over, lacks, next_bytes, noted, passed, passed_before, passing_behind, passing_urgent, silent_stream, stopped, unread_from, unlike, with_more_disagreeing, with_numbers, with_urgent, HasPut, HasTaken};
+ghost use Rattle.connections.specs.Stream.{begun_at, came, counts_fin as is_counted, differing_in_order, end_of, forgetting, front_of, handed_on, handing_on, has_urgent_next, held_in, is_cut_short, is_missing, is_over, lacks, next_bytes, noted, passed, passed_before, passing_behind, passing_urgent, silent_stream, stopped, unread_from, unlike, with_more_disagreeing, with_numbers, with_urgent, HasPut, HasTaken};
 
 use crate::numbers::{HALF, advance, is_behind};
 use crate::segment::Segment;
@@ -83,9 +83,9 @@ fn count_unlike(bytes: &[u8], others: &[u8]) -> usize
     count
 }
 
-/// Returns at how many numbers a segment's byte differs from the in-order bytes in `standing`,
-/// whose first has the number `next`.
-fn count_differing(next: u32, standing: &[u8], segment: &Segment<'_>) -> usize
+/// Returns at how many numbers a segment's byte differs from the bytes in `standing`, whose first
+/// has the number `next`.
+pub(crate) fn count_differing(next: u32, standing: &[u8], segment: &Segment<'_>) -> usize
     ensures { result ≡ differing_in_order next standing.now segment.now }
 {
     let first = segment.first();
@@ -152,10 +152,22 @@ impl Stream {
         }
     }
 
+    /// Returns whether the number of this FIN counted as a byte: its sender went on from behind it,
+    /// in a segment that came before it.
+    fn counts_fin(&self, segment: &Segment<'_>) -> bool
+        ensures { result ≡ is_counted segment.now self.now }
+    {
+        segment.ends() && self.last == segment.behind().wrapping_add(1)
+    }
+
     /// Notes where a segment ends.
     fn note_numbers(&mut self, segment: &Segment<'_>)
         ensures { self.new ≡ with_numbers segment.now self.old }
     {
+        if self.counts_fin(segment) {
+            self.last = segment.behind();
+            self.length = self.length.saturating_sub(1);
+        }
         let end = self.end_of(segment);
         let further = advance(end, self.last);
         self.length = self.length.saturating_add(u64::from(further));

@@ -1,8 +1,10 @@
 //! What a connection does with its pending segments, and with those that its receiver drops.
 ghost use Rattle.std.specs.Prelude.{◌≡◌, OnErr, OnOk, true};
-ghost use Rattle.connections.specs.Connection.{belying, dropping, heeding, is_beyond_in, keeping_data, keeps_syn, known_at, lacks_of, left_by, left_if, outcome_if, outcome_of as outcome_by, pending_outcome, reached_at, taken_from, with_waiting, without_earlier, without_first, without_pending, without_syns, AcceptsKept, LeavesOutKept};
+ghost use Rattle.connections.specs.Connection.{belying, confirmed_if, dropping, heeding, hosts_of, is_beyond_in, is_taken as is_taken_by, judgement_of, keeping_data, keeps_syn, known_at, lacks_of, learning, left_by, left_if, outcome_if, outcome_of as outcome_by, pending_outcome, reached_at, taken_from, with_waiting, without_earlier, without_first, without_pending, without_syns, AcceptsKept, LeavesOutKept};
 
 use crate::connection::{Attachment, Connection, Side};
+use crate::host::later;
+use crate::numbers::is_behind;
 use crate::pending::{AckContext, PendingOutcome, PendingSegment};
 use crate::receiver::{DropReason, Judgement, edge, is_beyond};
 use crate::segment::Segment;
@@ -107,6 +109,23 @@ impl<T: Attachment> Connection<T> {
         front.reached.unwrap_or(segment.first())
     }
 
+    /// Returns the number up to which a segment's receiver acknowledged bytes of its sender, if the
+    /// segment comes behind them, and its receiver takes it.
+    fn confirmed_at(&self, segment: &Segment<'_>) -> Option<u32>
+        ensures { result ≡ confirmed_if (is_taken_by (judgement_of segment.now self.now))
+            (hosts_of segment.now self.now).0 (hosts_of segment.now self.now).1 segment.now }
+    {
+        if self.judge(segment) != Judgement::Taken {
+            return None;
+        }
+        let (sender, receiver) = self.hosts(segment);
+        let number = receiver.acknowledged?;
+        if is_behind(number, later(sender.next, segment.first())) {
+            return None;
+        }
+        Some(number)
+    }
+
     /// Returns what is known when a segment arrives that may acknowledge pending ones.
     fn known_at(&self, segment: &Segment<'_>) -> AckContext
         ensures { result ≡ known_at segment.now self.now }
@@ -117,6 +136,8 @@ impl<T: Attachment> Connection<T> {
             reached: self.reached_at(segment),
             fin: receiver.fin,
             edge: edge(receiver, sender),
+            confirmed: self.confirmed_at(segment),
+            sender_fin: sender.fin,
         }
     }
 
@@ -205,6 +226,22 @@ impl<T: Attachment> Connection<T> {
         self.stream(side).lacks(kept.end()) && !kept.is_behind_fin(self.hosts_from(side).0)
     }
 
+    /// Notes that a pending segment was taken. If its checksum is wrong, its sender's network card
+    /// writes the checksums behind the capture.
+    fn learn(&mut self, kept: &PendingSegment)
+        ensures learned { self.new ≡ learning kept.now self.old }
+        ensures weight { self.new.weight ≡ self.old.weight }
+        ensures attachment { self.new.attachment ≡ self.old.attachment }
+    {
+        if kept.reason() != Some(DropReason::Checksum) {
+            return;
+        }
+        match self.side_of(kept.source()) {
+            Side::Originator => self.originator_host.note_offload(),
+            Side::Responder => self.responder_host.note_offload(),
+        }
+    }
+
     /// Adds a pending segment to its sender's stream. A SYN's data was counted with the SYN.
     pub fn accept_pending(&mut self, alloc: Global, kept: &PendingSegment) -> Result<(), AllocError>
         ensures taken { OnOk result (AcceptsKept kept.now self.old self.new) }
@@ -213,6 +250,7 @@ impl<T: Attachment> Connection<T> {
     {
         let segment = kept.segment();
         self.forget_belied(&segment);
+        self.learn(kept);
         if kept.is_of_syn() {
             return self.put(alloc, &segment);
         }

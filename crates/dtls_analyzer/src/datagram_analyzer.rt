@@ -9,12 +9,14 @@ ghost use Rattle.tls_summary.specs.HandshakeSummary.{view_summary};
 ghost use Rattle.tls_flow.specs.Table.{outcome_at};
 ghost use Rattle.dtls_analyzer.specs.Another.{begins_another as another_begins};
 ghost use Rattle.dtls_analyzer.specs.Datagrams.{IsKnown, Analyzer, begun, first_fragment as first, received, received_all, is_late as is_late_in, is_over as is_over_in, has_finished_by, longest_with as longest_by, sealed_next, record_received, sealed_by, datagram_side_of, side_progress, taken, takes as is_taken, nothing_observed, with_side_progress};
+ghost use Rattle.dtls_analyzer.specs.Senders.{deciding_direction as decided_by};
 ghost use Rattle.tls_observer.specs.Ends.{is_13 as is_13_by, is_established as established_by, is_resumed as resumed_by};
 
 use crate::account::Account;
 use crate::another::{has_ended, has_other_hello};
 use crate::datagram_records::is_known;
 use crate::datagram_side::{DatagramSide, first_fragment, is_hello};
+use crate::sender::{deciding, hello_direction};
 use dtls_stream::Fragment;
 use raw_records::{DTLSCiphertext, DTLSRawRecord, parse_dtls13_ciphertext, read_record};
 use std::alloc::{AllocError, Global};
@@ -153,6 +155,16 @@ impl DatagramAnalyzer {
         ensures { (k : Analyzer) → IsKnown k self.now → result ≡ another_begins k datagram.now }
     {
         has_ended(self.outcome()) && has_other_hello(&self.account.handshake, datagram)
+    }
+
+    /// The direction of a datagram by the hello that it begins with, if that hello shows which side
+    /// is the client: the first ClientHello does, and until it comes the first ServerHello or a
+    /// HelloVerifyRequest before it. `None` if the datagram begins with anything else.
+    pub fn deciding_direction(&self, datagram: &[u8]) -> Option<Direction>
+        ensures { (k : Analyzer) → IsKnown k self.now
+            → result ≡ decided_by k datagram.now }
+    {
+        deciding(hello_direction(datagram), &self.account.handshake)
     }
 
     /// The state of one side.

@@ -1,13 +1,15 @@
 //! Who sends a datagram, by the hello that it begins with.
 ghost use Rattle.std.specs.Prelude.{◌≡◌};
 ghost use Rattle.raw_records.specs.RawDtlsRecord.{view_raw_record};
+ghost use Rattle.tls_summary.specs.HandshakeSummary.{view_summary};
 ghost use Rattle.dtls_analyzer.specs.Datagrams.{first_fragment as first_in};
-ghost use Rattle.dtls_analyzer.specs.Senders.{direction_of_fragment, direction_of_type as by_type, hello_direction as by_hello};
+ghost use Rattle.dtls_analyzer.specs.Senders.{decides as decides_in, deciding as deciding_in, direction_of_fragment, direction_of_type as by_type, hello_direction as by_hello};
 
 use crate::datagram_records::is_known;
 use crate::datagram_side::first_fragment;
 use raw_records::{DTLSRawRecord, read_record};
 use tls_flow::Direction;
+use tls_summary::HandshakeSummary;
 
 /// The direction of a hello by its type.
 fn direction_of_type(msg_type: u8) -> Option<Direction>
@@ -47,5 +49,35 @@ pub fn hello_direction(datagram: &[u8]) -> Option<Direction>
             None
         }
         Err(_) => None,
+    }
+}
+
+/// Whether a hello in this direction shows which side is the client, behind the messages of this
+/// summary.
+fn decides(direction: Direction, handshake: &HandshakeSummary) -> bool
+    ensures { result ≡ decides_in direction (view_summary handshake.now) }
+{
+    match direction {
+        Direction::ToServer => !handshake.client.is_some(),
+        Direction::FromServer => !handshake.client.is_some() && !handshake.server.is_some(),
+    }
+}
+
+/// The direction of a hello, if it shows which side is the client.
+pub(crate) fn deciding(
+    direction: Option<Direction>,
+    handshake: &HandshakeSummary,
+) -> Option<Direction>
+    ensures { result ≡ deciding_in direction (view_summary handshake.now) }
+{
+    match direction {
+        Some(direction) => {
+            if decides(direction, handshake) {
+                Some(direction)
+            } else {
+                None
+            }
+        }
+        None => None,
     }
 }

@@ -2,7 +2,7 @@
 ghost use Rattle.std.specs.Prelude.{◌≡◌, ℕ, true, not, None, OnOk};
 ghost use Rattle.connections.specs.declared.connection.Connection.{Connection};
 ghost use Rattle.log_captures.specs.LineCounts.{with_connection};
-ghost use Rattle.log_connections.specs.Sink.{Receives};
+ghost use Rattle.log_connections.specs.Sink.{Receives, TakesPieces};
 ghost use Rattle.log_connections.specs.declared.analysis.TlsAnalysis.{TlsAnalysis};
 ghost use Rattle.log_io.specs.Output.{TracksFailure};
 
@@ -30,7 +30,7 @@ pub trait LinePrinter<K> {
         ensures { result ≡ most self.now };
 
     /// Prints the messages or certificates of an open connection that were complete at this time,
-    /// if those are logged.
+    /// if those are logged. Nothing of the connection changes but its collector.
     fn print_pieces<W: Write>(
         &self,
         alloc: Global,
@@ -38,7 +38,8 @@ pub trait LinePrinter<K> {
         time: u64,
         out: &mut Output<W>,
     ) -> Result<(), LineError>
-        ensures { TracksFailure out.old.has_failed out.new.has_failed result };
+        ensures failure { TracksFailure out.old.has_failed out.new.has_failed result }
+        ensures taken { TakesPieces connection.old connection.new };
 
     /// Prints the last messages or certificates of a connection that is over, or its line.
     fn print_last<W: Write>(
@@ -94,6 +95,7 @@ impl<'a, K: PieceCollector, L: LinePrinter<K>, W: Write> Sink<K> for Printer<'a,
         ensures sound { not self.old.out.has_failed ≡ true
             → OnOk result (not self.new.out.has_failed ≡ true) }
         ensures uncounted { self.new.counts ≡ self.old.counts }
+        ensures taken { TakesPieces open.old open.new }
     {
         self.lines
             .print_pieces(self.alloc, open, time, &mut self.out)

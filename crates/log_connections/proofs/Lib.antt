@@ -1,7 +1,10 @@
 mod CapacityLemmas
 mod DatagramLemmas
+mod DialogueLemmas
+mod FollowLemmas
 mod FrontLemmas
 mod LogLemmas
 mod OtherLemmas
 mod PacketLemmas
 mod SinkLemmas
+mod WeightLemmas

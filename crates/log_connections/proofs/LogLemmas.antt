@@ -5,16 +5,18 @@ use Rattle.std.specs.Option.{option_and_then, option_map, unwrap_or}
 use Rattle.std.specs.Map.{set_value}
 use Rattle.std.proofs.lemmas.Map.Steps.{set_value_same}
 use Rattle.connections.proofs.TableLemmas.{comes_in, is_five_tuple-refl, stands_first, written_promoted}
-use Rattle.connections.specs.Connection.{AcceptsKept, is_closed, is_datagram_damaged, is_kept, lets_in, side_of, verdict_of, Accepts, TakesDatagramIn}
+use Rattle.connections.specs.Connection.{AcceptsKept, is_closed, is_datagram_damaged, is_kept, lets_in, shows_damage, side_of, verdict_of, Accepts, TakesDatagramIn}
 use Rattle.connections.specs.Datagram.{five_tuple_of_datagram}
 use Rattle.connections.specs.FiveTuple.{is_five_tuple}
 use Rattle.connections.specs.Lends.{with_first}
 use Rattle.connections.specs.Segment.{begins, begins_one, five_tuple_of, header_of}
-use Rattle.connections.specs.Table.{IsPut, Puts, Table, TakesDatagram, TakesSegment, at, belongs, closed_behind, ended, others, promoting, weight_of, with_other, without_if}
+use Rattle.connections.specs.Table.{HasBegun, HasBegunBy, IsPut, Puts, Table, TakesDatagram, TakesSegment, at, belongs, closed_behind, ended, others, promoting, weight_of, with_other, without_if}
 use Rattle.connections.specs.Waiting.{Kept}
 use Rattle.connections.specs.declared.connection.Connection.{Connection}
 use Rattle.connections.specs.declared.datagram.Datagram.{Datagram}
 use Rattle.connections.specs.declared.five_tuple.FiveTuple.{FiveTuple}
+use Rattle.connections.specs.declared.five_tuple.Protocol.{Protocol}
+use Rattle.connections.specs.declared.five_tuple.Protocol.TheVariants.{Tcp, Udp}
 use Rattle.connections.specs.declared.connection.Side.{Side}
 use Rattle.connections.specs.declared.connection.Verdict.{Verdict}
 use Rattle.connections.specs.declared.receiver.Judgement.{Judgement}
@@ -22,8 +24,8 @@ use Rattle.connections.specs.declared.receiver.Judgement.TheVariants as judgemen
 use Rattle.connections.specs.declared.segment.Segment.{Segment}
 use Rattle.tls_detection.specs.Front.{held_datagram}
 use Rattle.log_connections.specs.Accessors.{BeginsAnother}
-use Rattle.log_connections.specs.Analysis.{direction_of}
-use Rattle.log_connections.specs.Log.{AcceptsAt, AcceptsIf, AcceptsSegment, BeginsAnotherIn, EndsAfter, EndsClosed, AnalyzesFrom, AnalyzesKept, AnalyzesPending, AnalyzesSegment, AnalyzesSide, Logs, LogsDatagram, RefusesAt, RefusesIf, RefusesSegment, TakesIf, TakesIn, is_closed_in, is_damaged_in, verdict_in}
+use Rattle.log_connections.specs.Analysis.{IsBegun, direction_of}
+use Rattle.log_connections.specs.Log.{IsBegunBy, AcceptsAt, AcceptsIf, AcceptsSegment, BeginsAnotherIn, EndsAfter, EndsClosed, AnalyzesFrom, AnalyzesKept, AnalyzesPending, AnalyzesSegment, AnalyzesSide, Logs, LogsDatagram, RefusesAt, RefusesIf, RefusesSegment, TakesIf, TakesIn, is_closed_in, is_damaged_in, verdict_in}
 use Rattle.log_connections.specs.Sink.{EndsAs}
 use Rattle.log_connections.specs.declared.analysis.TlsAnalysis.{TlsAnalysis}
 
@@ -35,6 +37,9 @@ module _ {X : Type 0} (e : FiveTuple) where
   set_first : (x w : X) (xs : List (FiveTuple × X))
       → set_value (is_five_tuple e) ((e, x) ∷ xs) w ≡ (e, w) ∷ xs
   set_first x w xs = rw (is_five_tuple-refl e)
+
+some_found : {X : Type 0} {x : X} {o : Option X} → Some x ≡ o → o ≡ None → ⊥
+some_found found none = let both = found ∙ none in cc
 
 module _ {K : Type 0} (e : FiveTuple)
     (Takes : Option (Connection (TlsAnalysis K)) → Connection (TlsAnalysis K) → Type 0)
@@ -52,13 +57,21 @@ module _ {K : Type 0} (e : FiveTuple)
       cc
 
   -- A value written to it replaces it.
-  written_first : (d : Connection (TlsAnalysis K))
+  pub written_first : (d : Connection (TlsAnalysis K))
       → set_value (is_five_tuple e) ys d ≡ (e, d) ∷ others e xs
   written_first d = ap (λ l. set_value (is_five_tuple e) l d) put.stands
       ∙ set_first e put.its d (others e xs)
 
 module _ {K : Type 0} where
-  put_where_true : (b : Bool) (s : Segment) (old mid : Table (TlsAnalysis K)) → b ≡ true
+  -- What a connection began with that is found.
+  begun_lent : (p : Protocol) (e : FiveTuple)
+      (xs : List (FiveTuple × Connection (TlsAnalysis K))) (c d : Connection (TlsAnalysis K))
+      → Some c ≡ at e xs → c ≡ d → HasBegun IsBegun p e xs → IsBegun p d.attachment
+  begun_lent p e xs c d found same begun =
+      subst (λ z. IsBegun p z.attachment) same
+      (subst (λ o. IfSome o (λ z. IsBegun p z.attachment)) (sym found) begun)
+
+  pub put_where_true : (b : Bool) (s : Segment) (old mid : Table (TlsAnalysis K)) → b ≡ true
       → Puts b s old mid
       → IsPut (five_tuple_of s) (TakesSegment s) old.live mid.live
   put_where_true true s old mid is put = put
@@ -67,18 +80,21 @@ module _ {K : Type 0} where
   pub segment_received : (b : Bool) (s : Segment) (old mid : Table (TlsAnalysis K))
       (c d : Connection (TlsAnalysis K)) → b ≡ true
       → Puts b s old mid → mid.closed ≡ closed_behind b s old
+      → (at (five_tuple_of s) old.live ≡ None
+      → HasBegun IsBegun Tcp (five_tuple_of s) mid.live)
       → Some c ≡ at (five_tuple_of s) mid.live
       → AnalyzesSide s (side_of c s.source) c d
       → AnalyzesSegment s old
       (record mid { live = set_value (is_five_tuple (five_tuple_of s)) mid.live d })
-  segment_received b s old mid c d is puts closed found receives =
-      let put = put_where_true b s old mid is puts in record {
+  segment_received b s old mid c d is puts closed attached found receives =
+      let put = put_where_true b s old mid is puts in
+      let same = lent (five_tuple_of s) (TakesSegment s) old.live mid.live put c found in record {
         put = put.its;
         its = d;
         takes = put.takes;
+        begun = λ none. begun_lent Tcp (five_tuple_of s) mid.live c put.its found same (attached none);
         receives =
-            subst (λ z. AnalyzesSide s (side_of z s.source) z d)
-            (lent (five_tuple_of s) (TakesSegment s) old.live mid.live put c found) receives;
+            subst (λ z. AnalyzesSide s (side_of z s.source) z d) same receives;
         stands = written_first (five_tuple_of s) (TakesSegment s) old.live mid.live put d;
         closed = closed ∙ ap (λ x. closed_behind x s old) is;
       }
@@ -93,6 +109,7 @@ module _ {K : Type 0} where
     put = put;
     its = its;
     takes = subst (λ o. TakesSegment s o put) found accepts;
+    begun = λ none. absurd (some_found found none);
     receives = receives;
     stands = stands_first (five_tuple_of s) old c its found;
     closed = subst (λ o. old.closed ≡ without_if (not (is_some o)) (five_tuple_of s) old.closed)
@@ -110,6 +127,7 @@ module _ {K : Type 0} where
     put = put;
     its = its;
     takes = subst (λ o. TakesSegment s o put) found accepts;
+    begun = λ none. absurd (some_found found none);
     receives = receives;
     stands = written_promoted (five_tuple_of s) old.live c its (sym found);
     closed = subst (λ o. old.closed ≡ without_if (not (is_some o)) (five_tuple_of s) old.closed)
@@ -119,13 +137,15 @@ module _ {K : Type 0} where
   pub exchange_received : (d : Datagram) (old : Table (TlsAnalysis K))
       (c put its : Connection (TlsAnalysis K))
       → Some c ≡ at (five_tuple_of_datagram d) old.live → TakesDatagramIn d c put
+      → (shows_damage (side_of c d.source) d.checksum c ≡ true → IsBegun c.protocol put.attachment)
       → AnalyzesFrom d put its
       → LogsDatagram d old
       (promoting (five_tuple_of_datagram d) (with_other (five_tuple_of_datagram d) its old))
-  exchange_received d old c put its found takes receives = record {
+  exchange_received d old c put its found takes begun receives = record {
     put = put;
     its = its;
     takes = subst (λ o. TakesDatagram d o put) found takes;
+    begun = subst (λ o. IsBegunBy d o put) found begun;
     receives = receives;
     stands = written_promoted (five_tuple_of_datagram d) old.live c its (sym found);
     closed = refl;
@@ -147,17 +167,29 @@ module _ {K : Type 0} where
       some_lent (five_tuple_of s) (TakesSegment s) old.live mid.live
       (put_where_true b s old mid is puts) (sym none)
 
+  begun_by : (g : Datagram) (o : Option (Connection (TlsAnalysis K)))
+      (xs : List (FiveTuple × Connection (TlsAnalysis K))) (c d : Connection (TlsAnalysis K))
+      → Some c ≡ at (five_tuple_of_datagram g) xs → c ≡ d → HasBegunBy IsBegun g o xs
+      → IsBegunBy g o d
+  begun_by g None xs c d found same begun =
+      begun_lent Udp (five_tuple_of_datagram g) xs c d found same begun
+  begun_by g (Some b) xs c d found same begun =
+      λ shows. begun_lent b.protocol (five_tuple_of_datagram g) xs c d found same (begun shows)
+
   pub datagram_received : (g : Datagram) (old mid : Table (TlsAnalysis K))
       (c d : Connection (TlsAnalysis K))
       → IsPut (five_tuple_of_datagram g) (TakesDatagram g) old.live mid.live
       → mid.closed ≡ old.closed
+      → HasBegunBy IsBegun g (at (five_tuple_of_datagram g) old.live) mid.live
       → Some c ≡ at (five_tuple_of_datagram g) mid.live → AnalyzesFrom g c d
       → LogsDatagram g old
       (record mid { live = set_value (is_five_tuple (five_tuple_of_datagram g)) mid.live d })
-  datagram_received g old mid c d put closed found receives = record {
+  datagram_received g old mid c d put closed attached found receives = record {
     put = put.its;
     its = d;
     takes = put.takes;
+    begun = begun_by g (at (five_tuple_of_datagram g) old.live) mid.live c put.its found
+        (lent (five_tuple_of_datagram g) (TakesDatagram g) old.live mid.live put c found) attached;
     receives =
         subst (λ z. AnalyzesFrom g z d)
         (lent (five_tuple_of_datagram g) (TakesDatagram g) old.live mid.live put c found) receives;

@@ -17,7 +17,7 @@ use Rattle.log_connections.proofs.LogLemmas.{lent_unchanged}
 use Rattle.log_connections.proofs.SinkLemmas.{adds_none, adds_still, adds_then}
 use Rattle.log_connections.specs.Packet.{HandlesBy, IsLent, StopsBy, at_content, at_reader}
 use Rattle.log_connections.specs.Reading.{Content, Holds, NeedsMemory, Nothing, joined, one}
-use Rattle.log_connections.specs.Sink.{Adds, AreEarly, EndsAs, EndsLast, EndsRefused, IsOfSink, Receives, StaysSound, StopsRefused, as_list, at_oldest, at_own}
+use Rattle.log_connections.specs.Sink.{Adds, AreEarly, EndsAs, EndsLast, EndsRefused, IsOfSink, Receives, StaysSound, StopsRefused, TakesPieces, as_list, at_oldest, at_own}
 use Rattle.log_connections.specs.declared.analysis.TlsAnalysis.{TlsAnalysis}
 use Rattle.log_connections.specs.declared.sink.LogError.{LogError}
 use Rattle.log_connections.specs.declared.sink.LogError.TheVariants.{OutOfMemory, Sink}
@@ -27,11 +27,13 @@ module _ {K : Type 0} (e : FiveTuple) where
   pub lent_same : (o : Option (Connection (TlsAnalysis K))) (old : Table (TlsAnalysis K))
       → at e old.live ≡ o → IsLent e o old old
   lent_same None old found = refl
-  lent_same (Some c) old found = (c, sym (lent_unchanged e old c c (sym found) refl))
+  lent_same (Some c) old found = (c, refl, sym (lent_unchanged e old c c (sym found) refl))
 
   pub lent_to : (old : Table (TlsAnalysis K)) (c w : Connection (TlsAnalysis K))
-      → Some c ≡ at e old.live → IsLent e (at e old.live) old (with_other e w old)
-  lent_to old c w found = subst (λ o. IsLent e o old (with_other e w old)) found (w, refl)
+      → Some c ≡ at e old.live → TakesPieces c w
+      → IsLent e (at e old.live) old (with_other e w old)
+  lent_to old c w found takes =
+      subst (λ o. IsLent e o old (with_other e w old)) found (w, takes, refl)
 
   pub lent_none : (old new : Table (TlsAnalysis K)) → None ≡ at e old.live → new ≡ old
       → IsLent e (at e old.live) old new
@@ -96,12 +98,6 @@ module _ {K B E : Type 0} (value : B → Connection (TlsAnalysis K)) (e : FiveTu
 pub on_any : {A E P : Type 0} (r : Result A E) → P → OnOk r P
 on_any (Ok x) p = p
 on_any (Err e) p = tt
-
--- Two clauses about one result.
-pub both_ok : {A E : Type 0} (r : Result A E) (P Q R : Type 0) → (P → Q → R) → OnOk r P → OnOk r Q
-    → OnOk r R
-both_ok (Ok x) P Q R f p q = f p q
-both_ok (Err e) P Q R f p q = tt
 
 -- One of two.
 pub not_neither : (a b : Bool) → ((a ≡ false) × (b ≡ true)) ⊎ (a ≡ true)

@@ -21,6 +21,7 @@ use Rattle.tls_analyzer.specs.Analyzers.{IsReadAsNone, IsReadInSsl2, IsReadOn, I
 use Rattle.dtls_analyzer.specs.DatagramRecords.{no_datagrams, with_datagram}
 use Rattle.dtls_analyzer.specs.Datagrams.{IsKnown, received, nothing_observed}
 use Rattle.dtls_analyzer.specs.Datagrams as datagrams
+use Rattle.dtls_analyzer.specs.Senders.{deciding_direction}
 use Rattle.tls_observer.specs.Ends.{is_13}
 use Rattle.tls_analyzer.specs.Records.{no_records, with_bytes}
 use Rattle.tls_summary.specs.Fields.{connection_id_length}
@@ -32,9 +33,12 @@ use Rattle.log_connections.specs.declared.analysis.PieceKind.TheVariants as piec
 use Rattle.log_connections.specs.declared.analysis.TlsAnalysis.{TlsAnalysis}
 use Rattle.log_connections.specs.declared.analysis.TransportAnalyzer.{TransportAnalyzer}
 use Rattle.log_connections.specs.declared.analysis.TransportAnalyzer.TheVariants as transport
-use Rattle.log_connections.specs.Fronts.{At, InSsl2, Nowhere, PassesOver as Passes, Start, Waits, beginning, begun_behind, no_preambles, passing, preamble, with_preamble}
+use Rattle.preambles.specs.declared.phase.Protocol.{Protocol as Preceding}
+use Rattle.log_connections.specs.Dialogue.{is_followed, protocol_in, state_of}
+use Rattle.log_connections.specs.Fronts.{At, InSsl2, IsFollowedBy, Nowhere, PassesOver as Passes, Start, Waits, beginning, begun_behind, no_preambles, passing, preamble, with_preamble, without_dialogue}
+use Rattle.log_connections.specs.declared.fronts.Preambles.{Preambles}
 
--- The originator is the client, unless its first message is a server's: then the sides are turned.
+-- The originator is the client, unless a hello shows otherwise: then the sides are turned.
 abbrev pub direction_of : Bool → Side → Direction
 direction_of false Originator = ToServer
 direction_of false Responder = FromServer
@@ -53,6 +57,20 @@ turned_by None s opened = false
 turned_by (Some kind) s opened =
     if kind == 1 then is_responder s else kind == 2 && not (is_responder s) && not opened
 
+-- Whether the originator is the server, by a side's hello in this direction.
+abbrev pub turned_by_hello : Direction → Side → Bool
+turned_by_hello ToServer s = is_responder s
+turned_by_hello FromServer s = not (is_responder s)
+
+-- Without such a hello the sides stay.
+abbrev pub turned_from : Option Direction → Side → Bool → Bool
+turned_from None s was = was
+turned_from (Some d) s was = turned_by_hello d s
+
+abbrev pub is_other : Bool → Bool → Bool
+is_other true b = not b
+is_other false b = b
+
 -- Of neither side it is decided whether it speaks TLS.
 abbrev pub is_silent_in : TransportAnalyzer → Bool
 is_silent_in (transport.Stream x f) = is_unknown x ToServer && is_unknown x FromServer
@@ -67,10 +85,11 @@ abbrev pub stopped_if : Bool → Stream → Stream
 stopped_if true t = stopped t t.reading
 stopped_if false t = t
 
--- Where a side's TLS begins, by the next bytes of its stream. It answers if the other's began.
+-- Where a side's TLS begins, by the dialogue in front of it and the next bytes of its stream. It
+-- answers if the other's began.
 abbrev pub begins_in : Side → Direction → Bool → TransportAnalyzer → Bytes → Start
 begins_in s d last (transport.Stream x f) b =
-    beginning (is_unknown x d) x.is_tls last (preamble s f) b
+    beginning (state_of f.dialogue) (is_unknown x d) x.is_tls last (preamble s f) b
 begins_in s d last (transport.Datagrams x) b = Waits
 
 -- A side whose TLS was found and is complete, or that speaks none, is analyzed no further.
@@ -83,19 +102,31 @@ abbrev pub passing_on : Segment → Stream → Stream
 passing_on s t =
     record t { passing = if has_data s then passing_behind t.passing s else t.passing }
 
-abbrev pub is_client : Direction → Bool
-is_client ToServer = true
-is_client FromServer = false
-
 -- How many bytes came before a side's TLS. Over UDP there are none.
 abbrev pub preamble_of : Side → TransportAnalyzer → ℕ
 preamble_of s (transport.Stream x f) = preamble s f
 preamble_of s (transport.Datagrams x) = 0
 
--- A side with other bytes before its TLS is answered if the other speaks TLS.
+-- The protocol of the dialogue behind which TLS begins. Over UDP there is none.
+abbrev pub dialogue_of : TransportAnalyzer → Option Preceding
+dialogue_of (transport.Stream x f) = protocol_in f.dialogue
+dialogue_of (transport.Datagrams x) = None
+
+-- A dialogue in front of TLS goes on.
+abbrev pub is_followed_in : TransportAnalyzer → Bool
+is_followed_in (transport.Stream x f) = is_followed f.dialogue
+is_followed_in (transport.Datagrams x) = false
+
+-- No more bytes of it come.
+abbrev pub without_dialogue_in : TransportAnalyzer → TransportAnalyzer
+without_dialogue_in (transport.Stream x f) = transport.Stream x (without_dialogue f)
+without_dialogue_in (transport.Datagrams x) = transport.Datagrams x
+
+-- A side with other bytes before its TLS is answered if they are a dialogue's, or the other speaks
+-- TLS.
 abbrev pub is_answered : Side → Side → Bool → TransportAnalyzer → Bool
 is_answered s other turned (transport.Stream x f) =
-    preamble s f == 0 || is_tls_on x (direction_of turned other)
+    preamble s f == 0 || is_some (protocol_in f.dialogue) || is_tls_on x (direction_of turned other)
 is_answered s other turned (transport.Datagrams t) = true
 
 -- Whether it is TLS, which both sides have to speak if other bytes came before it; or DTLS.
@@ -111,6 +142,12 @@ IsSilent Tcp (transport.Stream x f) = IsNew x × (f ≡ no_preambles)
 IsSilent Tcp (transport.Datagrams t) = ⊥
 IsSilent Udp (transport.Stream x f) = ⊥
 IsSilent Udp (transport.Datagrams t) = IsKnown nothing_observed t
+
+-- The direction in which the hello of a datagram shows that it is sent, if the hello decides that.
+abbrev pub Decides : Option Direction → Bytes → TransportAnalyzer → Type 0
+Decides o datagram (transport.Stream x f) = o ≡ None
+Decides o datagram (transport.Datagrams t) =
+    (k : datagrams.Analyzer) → IsKnown k t → o ≡ deciding_direction k datagram
 
 -- All but chains are passed on as they come.
 abbrev pub are_passed : PieceKind → Bool
@@ -226,6 +263,24 @@ module _ {K : Type 0} where
   unfoldable pub AnalyzesHello : Side → ssl2.ClientHello → TlsAnalysis K → TlsAnalysis K → Type 0
   AnalyzesHello s hello a b = AnalyzesHelloIn a.transport b.transport s hello a b
 
+  -- The dialogue in front of TLS was followed by the next bytes of both streams. What it passed is
+  -- skipped, and no more.
+  abbrev pub FollowsOnceIn : TransportAnalyzer → Stream → Stream → Stream → Stream
+      → TlsAnalysis K → TlsAnalysis K → Type 0
+  FollowsOnceIn (transport.Stream x f) t t' u u' a b = (g : Preambles) × (n : ℕ × ℕ)
+      × IsFollowedBy (next_bytes t t.reading) (next_bytes u u.reading) f g n
+      × (t' ≡ handing_on n.0 t) × (u' ≡ handing_on n.1 u)
+      × (b ≡ record a { transport = transport.Stream x g })
+  FollowsOnceIn (transport.Datagrams x) t t' u u' a b = (t' ≡ t) × (u' ≡ u) × (b ≡ a)
+
+  unfoldable pub FollowsOnce : Stream → Stream → Stream → Stream → TlsAnalysis K → TlsAnalysis K
+      → Type 0
+  FollowsOnce t t' u u' a b = FollowsOnceIn a.transport t t' u u' a b
+
+  -- No more bytes of a dialogue in front of TLS come.
+  abbrev pub undialogued : TlsAnalysis K → TlsAnalysis K
+  undialogued a = record a { transport = without_dialogue_in a.transport }
+
   abbrev pub AnalyzesBy : Start → Side → Bool → Stream → Stream → TlsAnalysis K → TlsAnalysis K
       → Type 0
   AnalyzesBy Waits s opened t u a b = (u ≡ t) × (b ≡ a)
@@ -309,26 +364,26 @@ module _ {K : Type 0} where
     pub same : b ≡ record a { tunnels = b.tunnels; collector = b.collector }
 
   -- The records in a side's datagram are counted.
-  abbrev pub counted : Direction → Bytes → Bool → ℕ → TlsAnalysis K → TlsAnalysis K
-  counted d b d13 id_length a = record a {
+  abbrev pub counted : Side → Bytes → Bool → ℕ → TlsAnalysis K → TlsAnalysis K
+  counted s b d13 id_length a = record a {
     by_originator =
-        if is_client d then with_datagram d13 id_length b a.by_originator else a.by_originator;
+        if is_responder s then a.by_originator else with_datagram d13 id_length b a.by_originator;
     by_responder =
-        if is_client d then a.by_responder else with_datagram d13 id_length b a.by_responder;
+        if is_responder s then with_datagram d13 id_length b a.by_responder else a.by_responder;
   }
 
   -- How the records are written follows from the state after the datagram.
-  abbrev pub counting_datagram : Direction → Bytes → datagrams.Analyzer → TlsAnalysis K
+  abbrev pub counting_datagram : Side → Direction → Bytes → datagrams.Analyzer → TlsAnalysis K
       → TlsAnalysis K
-  counting_datagram d b k a = counted d b (is_13 (outcome_at k.flow.state))
+  counting_datagram s d b k a = counted s b (is_13 (outcome_at k.flow.state))
       (connection_id_length d k.handshake) a
 
-  -- A side's datagram, or the DTLS datagram inside it, was analyzed.
-  abbrev pub AnalyzesDatagramIn : TransportAnalyzer → TransportAnalyzer → Direction → Bytes
+  -- A side's DTLS datagram was analyzed.
+  abbrev pub AnalyzesHeldIn : TransportAnalyzer → TransportAnalyzer → Side → Direction → Bytes
       → TlsAnalysis K → TlsAnalysis K → Type 0
-  AnalyzesDatagramIn (transport.Datagrams t) (transport.Datagrams u) d datagram a b =
+  AnalyzesHeldIn (transport.Datagrams t) (transport.Datagrams u) s d datagram a b =
       ((k : datagrams.Analyzer) → IsKnown k t → IsKnown (received k d datagram) u
-      × (b ≡ record (counting_datagram d datagram (received k d datagram) a) {
+      × (b ≡ record (counting_datagram s d datagram (received k d datagram) a) {
         transport = b.transport;
         collector = b.collector;
       }))
@@ -338,8 +393,31 @@ module _ {K : Type 0} where
         by_originator = b.by_originator;
         by_responder = b.by_responder;
       })
-  AnalyzesDatagramIn (transport.Datagrams t) (transport.Stream y g) d datagram a b = ⊥
-  AnalyzesDatagramIn (transport.Stream x f) y d datagram a b = b ≡ a
+  AnalyzesHeldIn (transport.Datagrams t) (transport.Stream y g) s d datagram a b = ⊥
+  AnalyzesHeldIn (transport.Stream x f) y s d datagram a b = b ≡ a
 
-  abbrev pub AnalyzesDatagram : Direction → Bytes → TlsAnalysis K → TlsAnalysis K → Type 0
-  AnalyzesDatagram d datagram a b = AnalyzesDatagramIn a.transport b.transport d datagram a b
+  abbrev pub AnalyzesHeld : Side → Bytes → TlsAnalysis K → TlsAnalysis K → Type 0
+  AnalyzesHeld s datagram a b =
+      AnalyzesHeldIn a.transport b.transport s (direction_of a.is_turned s) datagram a b
+
+  -- If the sides turn, what was analyzed of their datagrams before belongs to no handshake: the
+  -- analyzer begins anew. Else nothing changes.
+  abbrev pub TurnsIf : Bool → Bool → TlsAnalysis K → TlsAnalysis K → Type 0
+  TurnsIf false turned a b = b ≡ a
+  TurnsIf true turned a b = IsSilent Udp b.transport
+      × (b ≡ record a { transport = b.transport; is_turned = turned })
+
+  abbrev pub TurnsTo : Bool → TlsAnalysis K → TlsAnalysis K → Type 0
+  TurnsTo turned a b = TurnsIf (is_other a.is_turned turned) turned a b
+
+  -- The hello that a side's datagram begins with may show which side is the client.
+  pub record SeesHello (s : Side) (datagram : Bytes) (a b : TlsAnalysis K) : Type 0 where
+    pub direction : Option Direction
+    pub decides : Decides direction datagram a.transport
+    pub turns : TurnsTo (turned_from direction s a.is_turned) a b
+
+  -- A side's datagram, or the DTLS datagram inside it, was analyzed.
+  pub record AnalyzesDatagram (s : Side) (datagram : Bytes) (a b : TlsAnalysis K) : Type 0 where
+    pub seen : TlsAnalysis K
+    pub sees : SeesHello s datagram a seen
+    pub analyzes : AnalyzesHeld s datagram seen b

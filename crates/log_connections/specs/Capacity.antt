@@ -1,6 +1,11 @@
 -- How much memory is accounted for the analysis of a connection, in bytes.
-use Rattle.std.specs.Prelude.{ℕ, ◌*◌, ◌-◌, ◌^◌, min, Option, Some, None}
+use Rattle.std.specs.Prelude.{ℕ, ◌+◌, ◌*◌, ◌-◌, ◌^◌, ◌<◌, ◌≤◌, min, IfSome, Option, Some, None}
 use Rattle.std.specs.Global.{Box}
+use Rattle.connections.specs.Connection.{held_by}
+use Rattle.connections.specs.Memory.{most_weight}
+use Rattle.connections.specs.Table.{Table, at}
+use Rattle.connections.specs.declared.connection.Connection.{Connection}
+use Rattle.connections.specs.declared.five_tuple.FiveTuple.{FiveTuple}
 use Rattle.tls_observer.specs.Capacity.{plus}
 use Rattle.tls_analyzer.specs.Capacity.{capacity_of}
 use Rattle.tunnels.specs.declared.tunnel.Tunnels.{Tunnels}
@@ -40,3 +45,15 @@ module _ {K : Type 0} where
   abbrev pub least_bytes_of : TlsAnalysis K → ℕ
   least_bytes_of a = plus (plus (plus (least_of_transport a.transport a.received)
       (of_collector (λ _. 0) a.collector)) (of_tunnels a.tunnels)) ANALYSIS_COST
+
+module _ {K : Type 0} (M : K → ℕ) where
+  -- A connection's accounted memory is at least the bytes that its streams store, as long as no
+  -- machine has more with what is accounted for the others, and at most what was captured of it can
+  -- take.
+  pub record IsWeighed (others : ℕ) (c : Connection (TlsAnalysis K)) : Type 0 where
+    pub enough : others + held_by c < 2 ^ 63 → held_by c ≤ c.weight
+    pub within : c.weight ≤ most_weight (most_bytes_of M) c
+
+  -- So it is for the connection of this five-tuple, if one is open.
+  abbrev pub IsWeighedAt : FiveTuple → Table (TlsAnalysis K) → Type 0
+  IsWeighedAt e t = IfSome (at e t.live) (λ c. IsWeighed (t.held - c.weight) c)

@@ -1,5 +1,5 @@
 -- Where TLS begins in a side's stream.
-use Rattle.std.specs.Prelude.{ℕ, ◌+◌, ◌-◌, ◌^◌, ◌==◌, min, Bool, true, false, not, ◌&&◌, ◌||◌, nat_le, nat_lt, if◌then◌else◌, Option, Some, None, Ok, Err, length}
+use Rattle.std.specs.Prelude.{◌≡◌, ℕ, ◌+◌, ◌-◌, ◌^◌, ◌==◌, min, Bool, true, false, not, ◌&&◌, ◌||◌, nat_le, nat_lt, if◌then◌else◌, Option, Some, None, Ok, Err, length}
 use Rattle.layouts.specs.Bytes.{Bytes}
 use Rattle.layouts.specs.Meaning.{Answer}
 use Rattle.layouts.specs.Reading.{reading}
@@ -9,6 +9,8 @@ use Rattle.tls_detection.specs.Front.{begins_tls}
 use Rattle.tls_detection.specs.Place.{place_behind}
 use Rattle.connections.specs.declared.connection.Side.{Side}
 use Rattle.connections.specs.declared.connection.Side.TheVariants.{Originator, Responder}
+use Rattle.log_connections.specs.Dialogue.{State, GoesOn, Tls, Plain, Unknown, Steps, protocol_in, state_of, stepped, without_more}
+use Rattle.log_connections.specs.declared.dialogue.Dialogue.TheVariants as dialogue
 use Rattle.log_connections.specs.declared.fronts.Preambles.{Preambles}
 use Rattle.log_connections.specs.declared.fronts.Beginning.{Beginning}
 use Rattle.log_connections.specs.declared.fronts.Beginning.TheVariants as beginnings
@@ -74,14 +76,26 @@ beginning_at_once answers last skipped b =
     if begins_there b last then At 0
     else beginning_by (reading client_hello b) answers last skipped b
 
--- Where TLS begins on a side, if it is sought there: by the side's next bytes after those that were
--- skipped, which may be its last. A side answers if the other side's TLS began. If it isn't sought,
--- it began before.
-abbrev pub beginning : Bool → Bool → Bool → ℕ → Bytes → Start
-beginning sought answers last skipped b =
-    if not sought then At 0
-    else if skipped == 0 then beginning_at_once answers last skipped b
+-- Where a search finds TLS: by the side's next bytes after those that were skipped, which may be its
+-- last. A side answers if the other side's TLS began.
+abbrev pub beginning_by_search : Bool → Bool → ℕ → Bytes → Start
+beginning_by_search answers last skipped b =
+    if skipped == 0 then beginning_at_once answers last skipped b
     else beginning_behind answers last skipped b
+
+-- Where TLS begins on a side. Behind a dialogue that is known it begins with the next byte, whatever
+-- that is; and nowhere if the dialogue goes on without it. While the dialogue is followed, both sides
+-- wait. Where none is known, TLS is searched for.
+abbrev pub beginning_in : State → Bool → Bool → ℕ → Bytes → Start
+beginning_in (GoesOn tunnel p i j) answers last skipped b = Waits
+beginning_in (Tls p) answers last skipped b = At 0
+beginning_in Plain answers last skipped b = Nowhere
+beginning_in Unknown answers last skipped b = beginning_by_search answers last skipped b
+
+-- The same, if TLS is sought there. If it isn't, it began before.
+abbrev pub beginning : State → Bool → Bool → Bool → ℕ → Bytes → Start
+beginning s sought answers last skipped b =
+    if not sought then At 0 else beginning_in s answers last skipped b
 
 abbrev pub preamble : Side → Preambles → ℕ
 preamble Originator f = f.originator
@@ -91,9 +105,9 @@ abbrev pub with_preamble : Side → ℕ → Preambles → Preambles
 with_preamble Originator n f = record f { originator = n }
 with_preamble Responder n f = record f { responder = n }
 
--- No bytes were skipped.
+-- No bytes were skipped or read.
 abbrev pub no_preambles : Preambles
-no_preambles = record { originator = 0; responder = 0 }
+no_preambles = record { originator = 0; responder = 0; dialogue = dialogue.New }
 
 -- This many more bytes of a side are skipped.
 abbrev pub passing : Side → ℕ → Preambles → Preambles
@@ -103,3 +117,20 @@ passing s n f = with_preamble s (behind (preamble s f) n) f
 abbrev pub begun_behind : Bool → Side → ℕ → Preambles → Preambles
 begun_behind true s n f = passing s n f
 begun_behind false s n f = f
+
+-- Both sides' next bytes lead the dialogue on. Those that it passes are skipped.
+abbrev pub IsPassedBy : Steps → Preambles → Preambles → ℕ × ℕ → Type 0
+IsPassedBy step f g n =
+    (state_of g.dialogue ≡ step.state)
+    × (g ≡ record (passing Responder step.server (passing Originator step.client f)) {
+      dialogue = g.dialogue;
+    })
+    × (n ≡ (step.client, step.server))
+
+abbrev pub IsFollowedBy : Bytes → Bytes → Preambles → Preambles → ℕ × ℕ → Type 0
+IsFollowedBy originator responder f g n =
+    IsPassedBy (stepped (state_of f.dialogue) originator responder) f g n
+
+-- No more bytes of the dialogue come.
+abbrev pub without_dialogue : Preambles → Preambles
+without_dialogue f = record f { dialogue = without_more f.dialogue }

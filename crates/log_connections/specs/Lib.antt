@@ -1,3 +1,4 @@
+pub mod Dialogue
 pub mod Fronts
 pub mod Analysis
 pub mod Accessors

@@ -1,6 +1,6 @@
 -- What an arrival does to the log: its connection accepts it, and that connection's analysis
 -- processes it.
-use Rattle.std.specs.Prelude.{◌≡◌, ⊤, ℕ, ◌+◌, Bool, true, false, if◌then◌else◌, Option, Some, None, is_some, List, ◌∷◌}
+use Rattle.std.specs.Prelude.{◌≡◌, ⊤, ℕ, ◌+◌, Bool, true, false, if◌then◌else◌, IfNone, IfSome, Option, Some, None, is_some, List, ◌∷◌, ◌&&◌}
 use Rattle.std.specs.Option.{option_map}
 use Rattle.arrivals.specs.Arrival.{five_tuple_in, source_of}
 use Rattle.arrivals.specs.Counts.{nothing_counted, one_more}
@@ -8,12 +8,12 @@ use Rattle.arrivals.specs.declared.arrival.Arrival.{Arrival}
 use Rattle.arrivals.specs.declared.arrival.Arrival.TheVariants as arrival
 use Rattle.arrivals.specs.declared.counts.Counts.{Counts}
 use Rattle.arrivals.specs.declared.reader.ArrivalReader.{ArrivalReader}
-use Rattle.connections.specs.Connection.{AcceptsKept, has_opening, is_datagram_damaged, lets_in, side_of, verdict_of}
+use Rattle.connections.specs.Connection.{AcceptsKept, has_opening, is_datagram_damaged, lets_in, shows_damage, side_of, verdict_of}
 use Rattle.connections.specs.Datagram.{five_tuple_of_datagram}
 use Rattle.connections.specs.Memory.{IsSettled}
-use Rattle.connections.specs.Segment.{five_tuple_of, has_data, header_of, is_refused}
-use Rattle.connections.specs.Stream.{with_more_disagreeing}
-use Rattle.connections.specs.Table.{BeginsAfter, ComesFirst, DropsDatagram, Replaced, Restarts, Table, TakesDatagram, TakesSegment, at, belongs, changing, closed_behind, ended, others, pending_outcome_in, with_dropped_segment, with_waiting_segment, without_ended, without_pending_segment}
+use Rattle.connections.specs.Segment.{begins, five_tuple_of, has_data, header_of, is_refused}
+use Rattle.connections.specs.Stream.{with_more_disagreeing, is_cut_short}
+use Rattle.connections.specs.Table.{BeginsAfter, ComesFirst, DropsDatagram, HasBegun, Replaced, Restarts, Table, TakesDatagram, TakesSegment, at, belongs, changing, closed_behind, ended, others, pending_outcome_in, with_dropped_segment, with_waiting_segment, without_ended, without_pending_segment}
 use Rattle.connections.specs.Waiting.{Kept}
 use Rattle.connections.specs.declared.connection.Connection.{Connection}
 use Rattle.connections.specs.declared.connection.Side.{Side}
@@ -21,6 +21,7 @@ use Rattle.connections.specs.declared.connection.Side.TheVariants.{Originator, R
 use Rattle.connections.specs.declared.connection.Verdict.{Verdict}
 use Rattle.connections.specs.declared.datagram.Datagram.{Datagram}
 use Rattle.connections.specs.declared.five_tuple.FiveTuple.{FiveTuple}
+use Rattle.connections.specs.declared.five_tuple.Protocol.TheVariants.{Tcp, Udp}
 use Rattle.connections.specs.declared.pending.PendingOutcome.TheVariants as outcome
 use Rattle.connections.specs.declared.pending.TheConstants.{MAX_PENDING}
 use Rattle.connections.specs.declared.receiver.Judgement.{Judgement}
@@ -28,8 +29,8 @@ use Rattle.connections.specs.declared.receiver.Judgement.TheVariants as judgemen
 use Rattle.connections.specs.declared.segment.Segment.{Segment}
 use Rattle.tls_detection.specs.Front.{held_datagram}
 use Rattle.log_connections.specs.Accessors.{BeginsAnother}
-use Rattle.log_connections.specs.Analysis.{AnalyzesDatagram, AnalyzesOn, direction_of}
-use Rattle.log_connections.specs.Capacity.{most_bytes_of}
+use Rattle.log_connections.specs.Analysis.{AnalyzesDatagram, AnalyzesOn, IsBegun, direction_of, AnalyzesStream, FollowsOnce, is_followed_in, undialogued}
+use Rattle.log_connections.specs.Capacity.{IsWeighedAt, most_bytes_of}
 use Rattle.log_connections.specs.Sink.{EndsAs}
 use Rattle.log_connections.specs.declared.analysis.TlsAnalysis.{TlsAnalysis}
 use Rattle.log_connections.specs.declared.exchanges.Delivery.{Delivery}
@@ -80,23 +81,76 @@ module _ {K : Type 0} where
 
   -- The next bytes of a side's stream are analyzed. Everything else in the connection stays, the
   -- other side's stream included.
-  abbrev pub AnalyzesSide : Segment → Side → Connection (TlsAnalysis K) → Connection (TlsAnalysis K)
+  abbrev pub AnalyzesSender : Segment → Side → Connection (TlsAnalysis K) → Connection (TlsAnalysis K)
       → Type 0
-  AnalyzesSide s Originator c c' =
+  AnalyzesSender s Originator c c' =
       (a : TlsAnalysis K) × IsReady c.attachment a
       × AnalyzesOn Originator (has_opening c) s c.from_originator c'.from_originator a c'.attachment
       × (c' ≡ record c { from_originator = c'.from_originator; attachment = c'.attachment })
-  AnalyzesSide s Responder c c' =
+  AnalyzesSender s Responder c c' =
       (a : TlsAnalysis K) × IsReady c.attachment a
       × AnalyzesOn Responder (has_opening c) s c.from_responder c'.from_responder a c'.attachment
       × (c' ≡ record c { from_responder = c'.from_responder; attachment = c'.attachment })
 
-  -- The segment's connection takes it, and the next bytes of its sender's stream are analyzed. All
-  -- other connections stay.
+  -- The bytes of the other side that waited are analyzed. Everything else stays.
+  abbrev pub AnalyzesWaiting : Side → Connection (TlsAnalysis K) → Connection (TlsAnalysis K)
+      → Type 0
+  AnalyzesWaiting Originator c d =
+      AnalyzesStream Responder (has_opening c)
+      (is_cut_short c.from_responder c.from_responder.reading) c.from_responder d.from_responder
+      c.attachment d.attachment
+      × (d ≡ record c { from_responder = d.from_responder; attachment = d.attachment })
+  AnalyzesWaiting Responder c d =
+      AnalyzesStream Originator (has_opening c)
+      (is_cut_short c.from_originator c.from_originator.reading) c.from_originator d.from_originator
+      c.attachment d.attachment
+      × (d ≡ record c { from_originator = d.from_originator; attachment = d.attachment })
+
+  -- The dialogue in front of TLS is followed, and one behind that, as that behind a tunnel. Then the
+  -- other side's bytes are analyzed that waited for the sender's.
+  pub record FollowsDialogue (side : Side) (c d : Connection (TlsAnalysis K)) : Type 0 where
+    pub first : Connection (TlsAnalysis K)
+    pub second : Connection (TlsAnalysis K)
+    pub follows :
+        FollowsOnce c.from_originator first.from_originator c.from_responder first.from_responder
+        c.attachment first.attachment
+    pub follows_next :
+        FollowsOnce first.from_originator second.from_originator first.from_responder
+        second.from_responder first.attachment second.attachment
+    pub same :
+        second ≡ record c {
+          from_originator = second.from_originator;
+          from_responder = second.from_responder;
+          attachment = second.attachment;
+        }
+    pub waiting : AnalyzesWaiting side second d
+
+  -- A dialogue is followed from the connection's opening on, if that was captured.
+  abbrev pub FollowsOpened : Bool → Side → Connection (TlsAnalysis K) → Connection (TlsAnalysis K)
+      → Type 0
+  FollowsOpened true side c d = FollowsDialogue side c d
+  FollowsOpened false side c d = d ≡ record c { attachment = undialogued c.attachment }
+
+  abbrev pub FollowsIf : Bool → Side → Connection (TlsAnalysis K) → Connection (TlsAnalysis K)
+      → Type 0
+  FollowsIf true side c d = FollowsOpened (has_opening c) side c d
+  FollowsIf false side c d = d ≡ c
+
+  -- A segment's data leads the dialogue in front of TLS on, if one is followed. Then the next bytes
+  -- of its sender are analyzed.
+  abbrev pub AnalyzesSide : Segment → Side → Connection (TlsAnalysis K) → Connection (TlsAnalysis K)
+      → Type 0
+  AnalyzesSide s side c c' = (d : Connection (TlsAnalysis K))
+      × FollowsIf (has_data s && is_followed_in c.attachment.transport) side c d
+      × AnalyzesSender s side d c'
+
+  -- The segment's connection takes it, and the next bytes of its sender's stream are analyzed. One
+  -- that begins has analyzed nothing before. All other connections stay.
   pub record AnalyzesSegment (s : Segment) (old new : Table (TlsAnalysis K)) : Type 0 where
     pub put : Connection (TlsAnalysis K)
     pub its : Connection (TlsAnalysis K)
     pub takes : TakesSegment s (at (five_tuple_of s) old.live) put
+    pub begun : at (five_tuple_of s) old.live ≡ None → IsBegun Tcp put.attachment
     pub receives : AnalyzesSide s (side_of put s.source) put its
     pub stands : new.live ≡ (five_tuple_of s, its) ∷ others (five_tuple_of s) old.live
     pub closed : new.closed ≡ closed_behind true s old
@@ -193,18 +247,23 @@ module _ {K : Type 0} where
       (mid : Table (TlsAnalysis K)) × AnalyzesAllAcknowledged s old mid × TakesIn s mid new over
   TakesBehind false s old new over = TakesIn s old new over
 
-  -- Everything before a segment was damaged: its connection restarts and takes it.
+  -- Everything before a segment was damaged: its connection restarts, with nothing analyzed, and
+  -- takes it.
   abbrev pub TakesAnew : Segment → Table (TlsAnalysis K) → Table (TlsAnalysis K)
       → Option (Connection (TlsAnalysis K)) → Type 0
   TakesAnew s old new over =
       (mid : Table (TlsAnalysis K)) × Restarts s old mid × TakesIn s mid new over
+      × IfSome (at (five_tuple_of s) old.live)
+      (λ c. HasBegun IsBegun c.protocol (five_tuple_of s) mid.live)
 
-  -- Another connection begins in place of the open one, which ends, and analyzes the segment.
+  -- Another connection begins in place of the open one, which ends, with nothing analyzed, and
+  -- analyzes the segment.
   pub record TakesInAnother (s : Segment) (old new : Table (TlsAnalysis K))
       (over : Option (Connection (TlsAnalysis K))) : Type 0 where
     pub was : Option (Connection (TlsAnalysis K))
     pub mid : Table (TlsAnalysis K)
     pub replaced : Replaced s old mid was
+    pub begun : IfSome was (λ _. HasBegun IsBegun Tcp (five_tuple_of s) mid.live)
     pub logs : Logs (belongs s mid) s mid new
     pub ends : EndsAs was over
 
@@ -273,15 +332,23 @@ module _ {K : Type 0} where
       → Type 0
   AnalyzesFrom d c c' =
       (a : TlsAnalysis K) × IsReady c.attachment a
-      × AnalyzesDatagram (direction_of c.attachment.is_turned (side_of c d.source))
-      (held_datagram d.payload.now) a c'.attachment
+      × AnalyzesDatagram (side_of c d.source) (held_datagram d.payload.now) a c'.attachment
       × (c' ≡ record c { attachment = c'.attachment })
+
+  -- An exchange that a datagram begins, or restarts because it shows that everything before was
+  -- damaged, has analyzed nothing before.
+  abbrev pub IsBegunBy : Datagram → Option (Connection (TlsAnalysis K)) → Connection (TlsAnalysis K)
+      → Type 0
+  IsBegunBy d None put = IsBegun Udp put.attachment
+  IsBegunBy d (Some c) put =
+      shows_damage (side_of c d.source) d.checksum c ≡ true → IsBegun c.protocol put.attachment
 
   -- The datagram's exchange takes and analyzes it. All others stay.
   pub record LogsDatagram (d : Datagram) (old new : Table (TlsAnalysis K)) : Type 0 where
     pub put : Connection (TlsAnalysis K)
     pub its : Connection (TlsAnalysis K)
     pub takes : TakesDatagram d (at (five_tuple_of_datagram d) old.live) put
+    pub begun : IsBegunBy d (at (five_tuple_of_datagram d) old.live) put
     pub receives : AnalyzesFrom d put its
     pub stands : new.live ≡ (five_tuple_of_datagram d, its) ∷ others
         (five_tuple_of_datagram d) old.live
@@ -327,6 +394,7 @@ module _ {K : Type 0} where
       (over : Option (Connection (TlsAnalysis K))) : Type 0 where
     pub mid : Table (TlsAnalysis K)
     pub begins : BeginsAfter d (at (five_tuple_of_datagram d) old.live) old mid
+    pub begun : HasBegun IsBegun Udp (five_tuple_of_datagram d) mid.live
     pub logs : LogsDatagram d mid new
     pub was : over ≡ at (five_tuple_of_datagram d) old.live
 
@@ -395,7 +463,59 @@ module _ {K : Type 0} where
   abbrev pub with_disagreeing : Arrival → ℕ → Table (TlsAnalysis K) → Table (TlsAnalysis K)
   with_disagreeing a n t = changing (five_tuple_in a) (disagreeing_of a n) t
 
+-- What holds where the memory of an arrival's connection is accounted anew, which is wherever its
+-- bytes may change and it is still open then. A segment without data that is let in at once, and one
+-- that is dropped and not kept, bring no bytes.
+module _ {C : Type 0} (over : Option C) (Weighed : Type 0) where
+  abbrev pub WhereJudged : Judgement → Segment → Type 0
+  WhereJudged judgement.Taken s = IfNone over Weighed
+  WhereJudged judgement.Again s = IfNone over Weighed
+  WhereJudged (judgement.Waiting r) s = IfNone over Weighed
+  WhereJudged (judgement.Dropped r) s = begins s ≡ true → IfNone over Weighed
+
+  abbrev pub WhereBegun : Bool → Bool → Judgement → Segment → Type 0
+  WhereBegun true begins_another j s = IfNone over Weighed
+  WhereBegun false true j s = Weighed
+  WhereBegun false false j s = WhereJudged j s
+
+  abbrev pub WhereLetIn : Bool → Verdict → Segment → Type 0
+  WhereLetIn true v s = has_data s ≡ true → IfNone over Weighed
+  WhereLetIn false v s = WhereBegun v.shows_damage v.begins_another v.judgement s
+
+  abbrev pub WhereSegment : Option Verdict → Segment → Type 0
+  WhereSegment None s = IfNone over Weighed
+  WhereSegment (Some v) s = WhereLetIn (lets_in v) v s
+
+-- The same of a segment that its open connection analyzes, or doesn't; and of a datagram.
+abbrev pub WhereReceived : Reception → Type 0 → Segment → Type 0
+WhereReceived (reception.Received closed) Weighed s = has_data s ≡ true → Weighed
+WhereReceived (reception.Judged verdict) Weighed s = ⊤
+WhereReceived reception.NoneOpen Weighed s = ⊤
+
+-- A datagram with a wrong checksum is only counted.
+abbrev pub WhereDatagram : Option Bool → Type 0 → Type 0
+WhereDatagram None Weighed = Weighed
+WhereDatagram (Some true) Weighed = ⊤
+WhereDatagram (Some false) Weighed = Weighed
+
+abbrev pub WhereDelivered : Delivery → Type 0 → Type 0
+WhereDelivered delivery.Received Weighed = Weighed
+WhereDelivered delivery.Damaged Weighed = ⊤
+WhereDelivered delivery.BeginsAnother Weighed = ⊤
+WhereDelivered delivery.NoneOpen Weighed = ⊤
+
+module _ {K : Type 0} where
+  abbrev pub WhereWeighed : Arrival → Table (TlsAnalysis K) → Option (Connection (TlsAnalysis K))
+      → Type 0 → Type 0
+  WhereWeighed (arrival.Segment s) old over Weighed = WhereSegment over Weighed (verdict_in s old) s
+  WhereWeighed (arrival.Datagram d) old over Weighed = WhereDatagram (is_damaged_in d old) Weighed
+
 module _ {K : Type 0} (M : K → ℕ) where
+  -- The accounted memory of this five-tuple's connection bounds what it takes, unless it is to be
+  -- updated.
+  abbrev pub IsWeighedUnless : Bool → FiveTuple → Table (TlsAnalysis K) → Type 0
+  IsWeighedUnless is_due e t = is_due ≡ false → IsWeighedAt M e t
+
   -- The accounted memory of this five-tuple's connection is updated, if that is due. M is the most
   -- that its collector takes.
   abbrev pub Settles : Bool → FiveTuple → Table (TlsAnalysis K) → Table (TlsAnalysis K) → Type 0
@@ -403,9 +523,11 @@ module _ {K : Type 0} (M : K → ℕ) where
   Settles false e old new = new ≡ old
 
   -- An arrival is added to its connection and analyzed. The connection that it ended was removed.
+  -- The memory of one whose bytes may have changed is accounted anew.
   pub record Accepts (a : Arrival) (old new : Table (TlsAnalysis K))
       (over : Option (Connection (TlsAnalysis K))) : Type 0 where
     pub mid : Table (TlsAnalysis K)
     pub takes : Takes a old mid over
     pub is_due : Bool
     pub settles : Settles is_due (five_tuple_in a) mid new
+    pub weighs : WhereWeighed a old over (IsWeighedAt M (five_tuple_in a) new)

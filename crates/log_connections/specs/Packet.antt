@@ -5,23 +5,31 @@ use Rattle.arrivals.specs.Fragments.{ReadsWhole, datagram_of}
 use Rattle.arrivals.specs.declared.arrival.Arrival.{Arrival}
 use Rattle.arrivals.specs.declared.fragments.CompletedDatagram.{CompletedDatagram}
 use Rattle.arrivals.specs.declared.reader.ArrivalReader.{ArrivalReader}
-use Rattle.connections.specs.Memory.{IsAccounted, open_part, total}
-use Rattle.connections.specs.Table.{NoneIsOver, Table, at, with_other}
+use Rattle.connections.specs.Memory.{FitsClosed, IsAccounted, open_part, total}
+use Rattle.connections.specs.Table.{IsForgotten, NoneIsOver, NoneToForget, Table, at, with_other}
 use Rattle.connections.specs.declared.five_tuple.FiveTuple.{FiveTuple}
 use Rattle.connections.specs.declared.connection.Connection.{Connection}
 use Rattle.packets.specs.Section.{Packet}
+use Rattle.log_connections.specs.Analysis.{are_passed}
 use Rattle.log_connections.specs.Log.{Accepts, KeepsOthers, Refuses, uncounted, with_disagreeing}
 use Rattle.log_connections.specs.Reading.{Content, Holds, HoldsInside, InFragments, NeedsMemory, Nothing, Whole}
-use Rattle.log_connections.specs.Sink.{Adds, EndsAfterRefusal, IsOverLimit, IsIdle, IsOfMemory, IsOfSink, PassesAllButLast, PassesEnded, StopsAfterRefusal}
+use Rattle.log_connections.specs.Sink.{Adds, EndsAfterRefusal, IsOverLimit, IsIdle, IsOfMemory, IsOfSink, PassesAllButLast, PassesEnded, StopsAfterRefusal, TakesPieces}
+use Rattle.log_connections.specs.declared.analysis.PieceKind.{PieceKind}
 use Rattle.log_connections.specs.declared.analysis.TlsAnalysis.{TlsAnalysis}
 use Rattle.log_connections.specs.declared.sink.LogError.{LogError}
+
+-- Pieces of connections are passed on with each packet, and not with the connection.
+abbrev pub passes_on : Option PieceKind → Bool
+passes_on None = false
+passes_on (Some kind) = are_passed kind
 
 module _ {K : Type 0} where
   -- The sink was lent an open connection, to take its pieces. All others stay.
   abbrev pub IsLent : FiveTuple → Option (Connection (TlsAnalysis K)) → Table (TlsAnalysis K)
       → Table (TlsAnalysis K) → Type 0
   IsLent e None old new = new ≡ old
-  IsLent e (Some c) old new = (c' : Connection (TlsAnalysis K)) × (new ≡ with_other e c' old)
+  IsLent e (Some c) old new = (c' : Connection (TlsAnalysis K)) × TakesPieces c c'
+      × (new ≡ with_other e c' old)
 
   -- Bytes that disagreed are counted in the arrival's connection, unless they were.
   abbrev pub noted_if : Bool → Arrival → ℕ → Table (TlsAnalysis K) → Table (TlsAnalysis K)
@@ -73,7 +81,8 @@ module _ {K : Type 0} (M : K → ℕ) where
         → StopsArriving a error old new before after
 
   -- First the connections end that timed out before the arrival, then it is accepted, and then the
-  -- longest-idle ones end that exceed the memory limit.
+  -- longest-idle ones end that exceed the memory limit. Of the closed ones those are forgotten that
+  -- were closed long before, and those that exceed the limit.
   pub record Processes (a : Arrival) (limit : ℕ) (old new : Table (TlsAnalysis K))
       (before after : Option (List (Connection (TlsAnalysis K)))) : Type 0 where
     pub awake : Table (TlsAnalysis K)
@@ -82,9 +91,12 @@ module _ {K : Type 0} (M : K → ℕ) where
     pub second : Option (List (Connection (TlsAnalysis K)))
     pub idle : PassesEnded (IsIdle (time_of a)) old.live awake.live before first
     pub none_idle : NoneIsOver (time_of a) awake.live
+    pub forgotten : IsForgotten (time_of a) old.closed awake.closed
+    pub none_to_forget : NoneToForget (time_of a) awake.closed
     pub arrives : Arrives a awake full first second
     pub evicted : PassesEnded (IsOverLimit full limit) full.live new.live second after
-    pub within : IsAccounted full → total new.live ≤ open_part limit
+    pub within : IsAccounted old → total new.live ≤ open_part limit
+    pub closed : FitsClosed limit full.closed new.closed
 
   -- The sink refused one of the connections that timed out, or of those that exceed the limit, or
   -- processing stopped at the arrival. No connection is lost but the one that the sink refused.

@@ -6,7 +6,7 @@ use Rattle.connections.specs.Table.{IsOver, NoneIsOver, Table, at, others}
 use Rattle.connections.specs.declared.five_tuple.FiveTuple.{FiveTuple}
 use Rattle.connections.specs.declared.connection.Connection.{Connection}
 use Rattle.connections.specs.declared.connection.Side.TheVariants.{Originator, Responder}
-use Rattle.log_connections.specs.Analysis.{AnalyzesStream, IsCutIn, is_done}
+use Rattle.log_connections.specs.Analysis.{AnalyzesStream, IsCutIn, is_done, undialogued}
 use Rattle.log_connections.specs.declared.analysis.TlsAnalysis.{TlsAnalysis}
 use Rattle.log_connections.specs.declared.sink.LogError.{LogError}
 use Rattle.log_connections.specs.declared.sink.LogError.TheVariants.{OutOfMemory, Sink}
@@ -45,14 +45,14 @@ module _ {X : Type 0} where
   Receives old new (Err e) x = Adds old new []
 
 module _ {K : Type 0} where
-  -- The last bytes of both streams, which were held back, were analyzed, and it may be marked as
-  -- ended early. All else stays.
+  -- A dialogue in front of TLS that goes on is over. The last bytes of both streams, which were held
+  -- back, were analyzed, and it may be marked as ended early. All else stays.
   pub record AnalyzesLast (c c' : Connection (TlsAnalysis K)) : Type 0 where
     pub between : TlsAnalysis K
     pub last : TlsAnalysis K
     pub originator :
         AnalyzesStream Originator (has_opening c) true c.from_originator c'.from_originator
-        c.attachment between
+        (undialogued c.attachment) between
     pub responder :
         AnalyzesStream Responder
         (has_opening c) true c.from_responder c'.from_responder between last
@@ -67,8 +67,9 @@ module _ {K : Type 0} where
   -- All else stays.
   pub data IsCutOff (c c' : Connection (TlsAnalysis K)) : Type 0 where
     at_originator :
-        (last : TlsAnalysis K) → is_done Originator c.from_originator c.attachment ≡ false
-        → IsCutIn c.attachment last
+        (last : TlsAnalysis K)
+        → is_done Originator c.from_originator (undialogued c.attachment) ≡ false
+        → IsCutIn (undialogued c.attachment) last
         → c' ≡ record c {
           attachment = record last { is_ended_early = c'.attachment.is_ended_early };
         }
@@ -76,7 +77,7 @@ module _ {K : Type 0} where
     at_responder :
         (between last : TlsAnalysis K)
         → AnalyzesStream Originator (has_opening c) true c.from_originator c'.from_originator
-        c.attachment between
+        (undialogued c.attachment) between
         → is_done Responder c.from_responder between ≡ false → IsCutIn between last
         → c' ≡ record c {
           from_originator = c'.from_originator;
@@ -126,6 +127,12 @@ module _ {K : Type 0} where
   Evicts limit t u (Some c') =
       (c : Connection (TlsAnalysis K)) × IsLastEnded t.live u.live c c'
       × (open_part limit < t.held)
+
+  -- A sink that is lent a connection changes nothing but its collector.
+  abbrev pub TakesPieces : Connection (TlsAnalysis K) → Connection (TlsAnalysis K) → Type 0
+  TakesPieces c c' = c' ≡ record c {
+    attachment = record c.attachment { collector = c'.attachment.collector };
+  }
 
   -- It is marked as ended early.
   abbrev pub marked_early : Connection (TlsAnalysis K) → Connection (TlsAnalysis K)

@@ -7,13 +7,14 @@ ghost use Rattle.connections.specs.Stream.{is_cut_short};
 ghost use Rattle.ssl2_hello.specs.ClientHello.{view_client_hello as view_ssl2_hello};
 ghost use Rattle.tls_summary.specs.HandshakeSummary.{view_summary};
 ghost use Rattle.log_connections.specs.Accessors.{BeginsAnother, HasHandshake, HasHistory, HasOutcome, HasStop, IsEstablishedBy, IsResumedBy, LacksFront, records_of};
-ghost use Rattle.log_connections.specs.Analysis.{AnalyzesAt, AnalyzesDatagram, AnalyzesFurther, AnalyzesHello, AnalyzesNone, AnalyzesStream, IsBegun as IsBegunAs, IsCut, IsCutIn, IsPrepared, IsTlsBy, Keeps, PassesOver, are_passed as are_passed_on, begins_in, counted, counting, direction_of as direction_by, is_answered as is_answered_in, is_done as is_done_in, is_over_in, is_responder as is_responder_side, is_silent_in, noted_tunnels, preamble_of, stopped_if, tunnels_in, turned, turned_by as turned_by_message};
+ghost use Rattle.log_connections.specs.Analysis.{AnalyzesAt, AnalyzesDatagram, AnalyzesFurther, AnalyzesHeld, AnalyzesHello, AnalyzesNone, AnalyzesStream, Decides, IsBegun as IsBegunAs, IsCut, IsCutIn, IsPrepared, IsTlsBy, Keeps, PassesOver, SeesHello, TurnsTo, are_passed as are_passed_on, begins_in, counted, counting, direction_of as direction_by, is_answered as is_answered_in, is_done as is_done_in, is_over_in, is_responder as is_responder_side, is_silent_in, noted_tunnels, preamble_of, stopped_if, tunnels_in, turned, turned_by as turned_by_message, FollowsOnce, dialogue_of, is_followed_in, without_dialogue_in};
 ghost use Rattle.log_connections.specs.Capacity.{buffers_of as buffers_by, least_bytes_of, least_of_transport, most_bytes_of, most_of_transport, of_collector as of_collector_in, of_tunnels as of_tunnels_in};
 ghost use Rattle.log_connections.specs.Fronts.{view_beginning};
 ghost use Rattle.log_connections.specs.Lends.{lends_collector};
 
 use crate::fronts::{Beginning, Preambles, begins_at};
 use crate::piece_observer::PieceObserver;
+use crate::turning::{is_other, turned_from};
 use connections::{Attachment, Protocol, Side, Stream};
 use dtls_analyzer::{DatagramAnalyzer, DatagramRecordCounter};
 use ssl2_hello::Ssl2ClientHello;
@@ -159,7 +160,7 @@ fn of_tunnels(tunnels: &Option<Box<Tunnels>>) -> usize
 
 /// Returns what is behind the first `n` bytes.
 #[tactic(auto, using(crate::proofs::FrontLemmas::behind_all))]
-fn behind(bytes: &[u8], n: usize) -> &[u8]
+pub(crate) fn behind(bytes: &[u8], n: usize) -> &[u8]
     ensures { result.now ≡ drop n bytes.now }
 {
     if n == 0 {
@@ -181,7 +182,7 @@ fn direction_of(is_turned: bool, side: Side) -> Direction
 }
 
 /// Returns whether a side is the responder.
-fn is_responder(side: Side) -> bool
+pub(crate) fn is_responder(side: Side) -> bool
     ensures { result ≡ is_responder_side side }
 {
     matches!(side, Side::Responder)
@@ -264,14 +265,16 @@ impl<K: PieceCollector> TlsAnalysis<K> {
         }
     }
 
-    /// Returns whether a side with other bytes before its TLS is answered in TLS. A lone hello may
-    /// be part of another protocol's content, such as a file.
+    /// Returns whether a side with other bytes before its TLS is answered in TLS, or TLS begins behind
+    /// a dialogue. A lone hello may be part of another protocol's content, such as a file.
     fn is_answered(&self, side: Side, other: Side) -> bool
         ensures { result ≡ is_answered_in side other self.now.is_turned self.now.transport }
     {
         match &self.transport {
             TransportAnalyzer::Stream(analyzer, preambles) => {
-                preambles.of(side) == 0 || analyzer.is_tls_on(self.direction(other))
+                preambles.of(side) == 0
+                    || preambles.dialogue.protocol().is_some()
+                    || analyzer.is_tls_on(self.direction(other))
             }
             TransportAnalyzer::Datagrams(_) => true,
         }
@@ -449,8 +452,8 @@ impl<K: PieceCollector> TlsAnalysis<K> {
         }
     }
 
-    /// Returns the direction in which a side speaks: the originator is the client, unless its first
-    /// message is a server's.
+    /// Returns the direction in which a side speaks: the originator is the client, unless a hello
+    /// shows otherwise.
     pub(crate) fn direction(&self, side: Side) -> Direction
         ensures { result ≡ direction_by self.now.is_turned side }
     {
@@ -464,6 +467,50 @@ impl<K: PieceCollector> TlsAnalysis<K> {
         match &self.transport {
             TransportAnalyzer::Stream(_, preambles) => preambles.of(side),
             TransportAnalyzer::Datagrams(_) => 0,
+        }
+    }
+
+    /// Returns the protocol of the dialogue behind which TLS begins, if one is known.
+    pub fn dialogue(&self) -> Option<preambles::Protocol>
+        ensures { result ≡ dialogue_of self.now.transport }
+    {
+        match &self.transport {
+            TransportAnalyzer::Stream(_, preambles) => preambles.dialogue.protocol(),
+            TransportAnalyzer::Datagrams(_) => None,
+        }
+    }
+
+    /// Returns whether a dialogue in front of TLS goes on.
+    pub(crate) fn is_followed(&self) -> bool
+        ensures { result ≡ is_followed_in self.now.transport }
+    {
+        match &self.transport {
+            TransportAnalyzer::Stream(_, preambles) => preambles.dialogue.is_followed(),
+            TransportAnalyzer::Datagrams(_) => false,
+        }
+    }
+
+    /// Follows the dialogue in front of TLS by the next bytes of both streams, and skips those that
+    /// it passed.
+    pub(crate) fn follow(&mut self, originator: &mut Stream, responder: &mut Stream)
+        ensures { FollowsOnce originator.old originator.new responder.old responder.new self.old
+            self.new }
+    {
+        let TransportAnalyzer::Stream(_, preambles) = &mut self.transport else {
+            return;
+        };
+        let (client, server) = preambles.follow(originator.available(), responder.available());
+        originator.take(client);
+        responder.take(server);
+    }
+
+    /// Ends a dialogue in front of TLS that goes on, since no more bytes of it come.
+    pub(crate) fn end_dialogue(&mut self)
+        ensures { self.new ≡ record self.old
+            { transport = without_dialogue_in self.old.transport } }
+    {
+        if let TransportAnalyzer::Stream(_, preambles) = &mut self.transport {
+            preambles.end_dialogue();
         }
     }
 
@@ -607,6 +654,7 @@ impl<K: PieceCollector> TlsAnalysis<K> {
     {
         match &self.transport {
             TransportAnalyzer::Stream(analyzer, preambles) => begins_at(
+                &preambles.dialogue,
                 analyzer.is_unknown(self.direction(side)),
                 analyzer.is_tls(),
                 are_last,
@@ -696,32 +744,56 @@ impl<K: PieceCollector> TlsAnalysis<K> {
     }
 
     /// Counts the records in a side's datagram.
-    fn count_datagram(
-        &mut self,
-        direction: Direction,
-        payload: &[u8],
-        connection_id_len: usize,
-        is_13: bool,
-    )
-        ensures { self.new ≡ counted direction payload.now is_13 connection_id_len self.old }
+    fn count_datagram(&mut self, side: Side, payload: &[u8], connection_id_len: usize, is_13: bool)
+        ensures { self.new ≡ counted side payload.now is_13 connection_id_len self.old }
     {
-        match direction {
-            Direction::ToServer => self.by_originator.add(payload, connection_id_len, is_13),
-            Direction::FromServer => self.by_responder.add(payload, connection_id_len, is_13),
+        match side {
+            Side::Originator => self.by_originator.add(payload, connection_id_len, is_13),
+            Side::Responder => self.by_responder.add(payload, connection_id_len, is_13),
         }
     }
 
-    /// Analyzes a side's datagram, or the DTLS datagram inside it.
-    pub(crate) fn analyze_datagram(
+    /// Returns the direction of a datagram, if the hello that it begins with shows which side is
+    /// the client.
+    fn deciding_direction(&self, datagram: &[u8]) -> Option<Direction>
+        ensures { Decides result datagram.now self.now.transport }
+    {
+        match &self.transport {
+            TransportAnalyzer::Stream(_, _) => None,
+            TransportAnalyzer::Datagrams(analyzer) => analyzer.deciding_direction(datagram),
+        }
+    }
+
+    /// Turns the sides, if they aren't already. Forgets what was analyzed of their datagrams, which
+    /// belongs to no handshake.
+    fn turn(&mut self, is_turned: bool)
+        ensures { TurnsTo is_turned self.old self.new }
+    {
+        if !is_other(self.is_turned, is_turned) {
+            return;
+        }
+        self.is_turned = is_turned;
+        self.transport = TransportAnalyzer::Datagrams(DatagramAnalyzer::new(self.alloc));
+    }
+
+    /// Decides which side is the client, if the hello that a side's datagram begins with shows it.
+    fn see_hello(&mut self, side: Side, datagram: &[u8])
+        ensures { SeesHello side datagram.now self.old self.new }
+    {
+        let direction = self.deciding_direction(datagram);
+        self.turn(turned_from(direction, side, self.is_turned));
+    }
+
+    /// Analyzes a side's DTLS datagram.
+    fn analyze_held(
         &mut self,
-        direction: Direction,
-        payload: &[u8],
+        side: Side,
+        datagram: &[u8],
         known: &mut CertificateCache,
     ) -> Result<(), AllocError>
-        ensures { OnOk result
-            (AnalyzesDatagram direction (held_datagram_of payload.now) self.old self.new) }
+        ensures { OnOk result (AnalyzesHeld side datagram.now self.old self.new) }
     {
-        let payload = held_datagram(payload);
+        let direction = self.direction(side);
         let TransportAnalyzer::Datagrams(analyzer) = &mut self.transport else {
             return Ok(());
         };
@@ -729,7 +801,7 @@ impl<K: PieceCollector> TlsAnalysis<K> {
             collector: mem::replace(&mut self.collector, None),
             known,
         };
-        let is_received = analyzer.analyze_with(self.alloc, direction, payload, &mut observer);
+        let is_received = analyzer.analyze_with(self.alloc, direction, datagram, &mut observer);
         let PieceObserver {
             collector,
             known: _,
@@ -740,7 +812,23 @@ impl<K: PieceCollector> TlsAnalysis<K> {
         // records)
         let id_len = analyzer.handshake().connection_id_len(direction);
         let is_13 = analyzer.is_13();
-        self.count_datagram(direction, payload, id_len, is_13);
+        self.count_datagram(side, datagram, id_len, is_13);
         Ok(())
+    }
+
+    /// Analyzes a side's datagram, or the DTLS datagram inside it. The first ClientHello shows which
+    /// side is the client, whoever sent the connection's first datagram.
+    pub(crate) fn analyze_datagram(
+        &mut self,
+        side: Side,
+        payload: &[u8],
+        known: &mut CertificateCache,
+    ) -> Result<(), AllocError>
+        ensures { OnOk result
+            (AnalyzesDatagram side (held_datagram_of payload.now) self.old self.new) }
+    {
+        let datagram = held_datagram(payload);
+        self.see_hello(side, datagram);
+        self.analyze_held(side, datagram, known)
     }
 }

@@ -4,8 +4,8 @@ ghost use Rattle.std.specs.Option.{option_map};
 ghost use Rattle.packets.specs.Section.{view_packet};
 ghost use Rattle.arrivals.specs.Arrival.{five_tuple_in};
 ghost use Rattle.arrivals.specs.Fragments.{fragment_in};
-ghost use Rattle.connections.specs.Memory.{IsAccounted, open_part, total};
-ghost use Rattle.connections.specs.Table.{NoneIsOver, at};
+ghost use Rattle.connections.specs.Memory.{FitsClosed, IsAccounted, open_part, total};
+ghost use Rattle.connections.specs.Table.{IsForgotten, NoneIsOver, NoneToForget, at};
 ghost use Rattle.log_connections.specs.Found.{IsCounted};
 ghost use Rattle.log_connections.specs.Log.{uncounted};
 ghost use Rattle.log_connections.specs.Packet.{Arrives, Handles, HandlesBy, HandlesInside, IsLent, Processes, Stops, StopsArriving, StopsBy, StopsHandling, noted_if};
@@ -41,6 +41,8 @@ impl<K: PieceCollector> Log<K> {
             (λ error. StopsHandling K.most_bytes (view_packet packet.entry) self.old.memory
             self.old.arrivals error self.old.connections self.new.connections
             (S.received sink.old) (S.received sink.new)) }
+        ensures accounted { IsAccounted self.old.connections
+            → IsAccounted self.new.connections }
         ensures memory { self.new.memory ≡ self.old.memory }
         ensures sound { StaysSound (S.is_sound sink.old) (S.is_sound sink.new) result }
     {
@@ -66,6 +68,8 @@ impl<K: PieceCollector> Log<K> {
             (λ error. StopsHandling K.most_bytes (view_packet packet.entry) self.old.memory
             self.old.arrivals error self.old.connections self.new.connections
             (S.received sink.old) (S.received sink.new)) }
+        ensures accounted { IsAccounted self.old.connections
+            → IsAccounted self.new.connections }
         ensures memory { self.new.memory ≡ self.old.memory }
         ensures sound { StaysSound (S.is_sound sink.old) (S.is_sound sink.new) result }
     {
@@ -91,6 +95,8 @@ impl<K: PieceCollector> Log<K> {
             (is_some (fragment_in (view_packet packet.entry)) ≡ true) self.old.memory error
             self.old.connections self.new.connections (S.received sink.old)
             (S.received sink.new)) }
+        ensures accounted { IsAccounted self.old.connections
+            → IsAccounted self.new.connections }
         ensures memory { self.new.memory ≡ self.old.memory }
         ensures sound { StaysSound (S.is_sound sink.old) (S.is_sound sink.new) result }
     {
@@ -115,6 +121,8 @@ impl<K: PieceCollector> Log<K> {
             (HoldsWhole (view_packet packet.entry) self.old.arrivals joined)
             (is_some joined ≡ true) self.old.memory error self.old.connections
             self.new.connections (S.received sink.old) (S.received sink.new)) }
+        ensures accounted { IsAccounted self.old.connections
+            → IsAccounted self.new.connections }
         ensures memory { self.new.memory ≡ self.old.memory }
         ensures sound { StaysSound (S.is_sound sink.old) (S.is_sound sink.new) result }
     {
@@ -147,6 +155,8 @@ impl<K: PieceCollector> Log<K> {
             (HoldsInside (view_packet packet.entry) joined.now self.old.arrivals) ⊤
             self.old.memory error self.old.connections self.new.connections
             (S.received sink.old) (S.received sink.new)) }
+        ensures accounted { IsAccounted self.old.connections
+            → IsAccounted self.new.connections }
         ensures memory { self.new.memory ≡ self.old.memory }
         ensures sound { StaysSound (S.is_sound sink.old) (S.is_sound sink.new) result }
     {
@@ -164,6 +174,8 @@ impl<K: PieceCollector> Log<K> {
     fn note_unless(&mut self, is_noted: bool, arrival: &Arrival<'_>, count: u64)
         ensures noted { self.new.connections
             ≡ noted_if is_noted arrival.now count self.old.connections }
+        ensures accounted { IsAccounted self.old.connections
+            → IsAccounted self.new.connections }
         ensures memory { self.new.memory ≡ self.old.memory }
         ensures reader { uncounted self.new.arrivals ≡ uncounted self.old.arrivals }
     {
@@ -184,6 +196,8 @@ impl<K: PieceCollector> Log<K> {
         ensures stopped { IfErr result
             (λ error. Stops K.most_bytes arrival.now self.old.memory error self.old.connections
             self.new.connections (S.received sink.old) (S.received sink.new)) }
+        ensures accounted { IsAccounted self.old.connections
+            → IsAccounted self.new.connections }
         ensures memory { self.new.memory ≡ self.old.memory }
         ensures reader { uncounted self.new.arrivals ≡ uncounted self.old.arrivals }
         ensures sound { StaysSound (S.is_sound sink.old) (S.is_sound sink.new) result }
@@ -206,6 +220,8 @@ impl<K: PieceCollector> Log<K> {
         ensures stopped { IfErr result
             (λ error. StopsArriving K.most_bytes arrival.now error self.old.connections
             self.new.connections (S.received sink.old) (S.received sink.new)) }
+        ensures accounted { IsAccounted self.old.connections
+            → IsAccounted self.new.connections }
         ensures memory { self.new.memory ≡ self.old.memory }
         ensures reader { uncounted self.new.arrivals ≡ uncounted self.old.arrivals }
         ensures sound { StaysSound (S.is_sound sink.old) (S.is_sound sink.new) result }
@@ -248,6 +264,11 @@ impl<K: PieceCollector> Log<K> {
             (PassesAllButLast (IsIdle time) self.old.connections.live self.new.connections.live
             (S.received sink.old) (S.received sink.new)) }
         ensures failed { IfErr result (λ error. IsOfSink error) }
+        ensures forgotten { IsForgotten time self.old.connections.closed
+            self.new.connections.closed }
+        ensures none_to_forget { OnOk result (NoneToForget time self.new.connections.closed) }
+        ensures accounted { IsAccounted self.old.connections
+            → IsAccounted self.new.connections }
         ensures memory { self.new.memory ≡ self.old.memory }
         ensures reader { uncounted self.new.arrivals ≡ uncounted self.old.arrivals }
         ensures sound { StaysSound (S.is_sound sink.old) (S.is_sound sink.new) result }
@@ -270,6 +291,8 @@ impl<K: PieceCollector> Log<K> {
         ensures lent { IsLent (five_tuple_in arrival.now)
             (at (five_tuple_in arrival.now) self.old.connections.live) self.old.connections
             self.new.connections }
+        ensures accounted { IsAccounted self.old.connections
+            → IsAccounted self.new.connections }
         ensures memory { self.new.memory ≡ self.old.memory }
         ensures reader { uncounted self.new.arrivals ≡ uncounted self.old.arrivals }
         ensures failed { IfErr result (λ error. IsOfSink error) }
@@ -295,6 +318,10 @@ impl<K: PieceCollector> Log<K> {
             self.old.connections.live self.new.connections.live
             (S.received sink.old) (S.received sink.new)) }
         ensures failed { IfErr result (λ error. IsOfSink error) }
+        ensures closed { OnOk result (FitsClosed self.old.memory self.old.connections.closed
+            self.new.connections.closed) }
+        ensures accounted { IsAccounted self.old.connections
+            → IsAccounted self.new.connections }
         ensures memory { self.new.memory ≡ self.old.memory }
         ensures reader { uncounted self.new.arrivals ≡ uncounted self.old.arrivals }
         ensures within { OnOk result (IsAccounted self.old.connections
@@ -350,6 +377,8 @@ impl<K: PieceCollector> Log<K> {
             (λ error. StopsAfterRefusal (five_tuple_in arrival.now)
             (option_map (λ b. b.value) over) self.old.connections self.new.connections
             (S.received sink.old) (S.received sink.new) error) }
+        ensures accounted { IsAccounted self.old.connections
+            → IsAccounted self.new.connections }
         ensures memory { self.new.memory ≡ self.old.memory }
         ensures reader { uncounted self.new.arrivals ≡ uncounted self.old.arrivals }
         ensures sound { StaysSound (S.is_sound sink.old) (S.is_sound sink.new) result }
@@ -371,6 +400,8 @@ impl<K: PieceCollector> Log<K> {
         ensures stopped { IfErr result
             (λ error. StopsRefused (five_tuple_in arrival.now) self.old.connections.live
             self.new.connections.live (S.received sink.old) (S.received sink.new) error) }
+        ensures accounted { IsAccounted self.old.connections
+            → IsAccounted self.new.connections }
         ensures memory { self.new.memory ≡ self.old.memory }
         ensures reader { uncounted self.new.arrivals ≡ uncounted self.old.arrivals }
         ensures sound { StaysSound (S.is_sound sink.old) (S.is_sound sink.new) result }
@@ -398,6 +429,8 @@ impl<K: PieceCollector> Log<K> {
             (S.received sink.old) (S.received sink.new)) }
         ensures failed { IfErr result (λ error. IsOfSink error) }
         ensures sound { StaysSound (S.is_sound sink.old) (S.is_sound sink.new) result }
+        ensures accounted { IsAccounted self.old.connections
+            → IsAccounted self.new.connections }
     {
         self.arrivals.count_cut();
         while let Some(over) = self.take_remaining() {

@@ -1,6 +1,8 @@
 //! How connections end: the last bytes of those that are removed from the table.
 ghost use Rattle.std.specs.Prelude.{◌≡◌, ◌<◌, IfSome, OnErr, OnOk, length};
 ghost use Rattle.std.specs.Option.{option_map};
+ghost use Rattle.connections.specs.Memory.{IsAccounted};
+ghost use Rattle.connections.specs.Table.{IsForgotten, NoneToForget};
 ghost use Rattle.log_connections.specs.Log.{uncounted};
 ghost use Rattle.log_connections.specs.Sink.{EndsAs, EndsIdle, EndsLast, AnalyzesLast, IsCutOff, IsEnded};
 
@@ -20,6 +22,7 @@ fn analyze_last<K: PieceCollector>(
 {
     let is_opened = connection.has_opening();
     let analysis = &mut connection.attachment;
+    analysis.end_dialogue();
     let stream = &mut connection.from_originator;
     analysis.analyze_stream(stream, Side::Originator, is_opened, true, known)?;
     let stream = &mut connection.from_responder;
@@ -33,6 +36,11 @@ impl<K: PieceCollector> Log<K> {
             (option_map (λ b. b.value) result) }
         ensures fewer { IfSome result (λ _.
             length self.new.connections.live < length self.old.connections.live) }
+        ensures forgotten { IsForgotten time self.old.connections.closed
+            self.new.connections.closed }
+        ensures none_to_forget { NoneToForget time self.new.connections.closed }
+        ensures accounted { IsAccounted self.old.connections
+            → IsAccounted self.new.connections }
         ensures memory { self.new.memory ≡ self.old.memory }
         ensures reader { uncounted self.new.arrivals ≡ uncounted self.old.arrivals }
     {
@@ -48,6 +56,11 @@ impl<K: PieceCollector> Log<K> {
             (option_map (λ b. b.value) result) }
         ensures fewer { IfSome result (λ _.
             length self.new.connections.live < length self.old.connections.live) }
+        ensures forgotten { IsForgotten time self.old.connections.closed
+            self.new.connections.closed }
+        ensures none_to_forget { NoneToForget time self.new.connections.closed }
+        ensures accounted { IsAccounted self.old.connections
+            → IsAccounted self.new.connections }
         ensures memory { self.new.memory ≡ self.old.memory }
         ensures reader { uncounted self.new.arrivals ≡ uncounted self.old.arrivals }
     {
@@ -61,6 +74,8 @@ impl<K: PieceCollector> Log<K> {
             (option_map (λ b. b.value) result) }
         ensures fewer { IfSome result (λ _.
             length self.new.connections.live < length self.old.connections.live) }
+        ensures accounted { IsAccounted self.old.connections
+            → IsAccounted self.new.connections }
     {
         let taken = self.connections.take_remaining();
         self.with_last(taken)
@@ -75,6 +90,7 @@ impl<K: PieceCollector> Log<K> {
         ensures ended { EndsAs (option_map (λ b. b.value) taken)
             (option_map (λ b. b.value) result) }
         ensures connections { self.new.connections ≡ self.old.connections }
+        ensures unsettled { self.new.is_unsettled ≡ self.old.is_unsettled }
         ensures memory { self.new.memory ≡ self.old.memory }
         ensures reader { uncounted self.new.arrivals ≡ uncounted self.old.arrivals }
     {
@@ -87,6 +103,7 @@ impl<K: PieceCollector> Log<K> {
     fn analyze_removed(&mut self, over: &mut Connection<TlsAnalysis<K>>)
         ensures ended { IsEnded over.old over.new }
         ensures connections { self.new.connections ≡ self.old.connections }
+        ensures unsettled { self.new.is_unsettled ≡ self.old.is_unsettled }
         ensures memory { self.new.memory ≡ self.old.memory }
         ensures reader { uncounted self.new.arrivals ≡ uncounted self.old.arrivals }
     {

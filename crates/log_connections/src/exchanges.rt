@@ -1,9 +1,11 @@
 //! What a capture's UDP datagrams add to the log.
-ghost use Rattle.std.specs.Prelude.{◌≡◌, IfErr, IfOk, OnErr, OnOk};
+ghost use Rattle.std.specs.Prelude.{◌≡◌, None, IfErr, IfOk, OnErr, OnOk};
 ghost use Rattle.std.specs.Option.{option_map};
 ghost use Rattle.connections.specs.Datagram.{five_tuple_of_datagram};
+ghost use Rattle.connections.specs.Memory.{IsAccounted};
 ghost use Rattle.connections.specs.Segment.{is_refused};
-ghost use Rattle.log_connections.specs.Log.{AcceptsDatagram, BeginsUnless, AnalyzesFrom, IsDelivered, KeepsOthers, LogsDatagram, LogsExchange, LogsInAnother, RefusesDatagram, RefusesInNext, uncounted};
+ghost use Rattle.connections.specs.Table.{at};
+ghost use Rattle.log_connections.specs.Log.{AcceptsDatagram, BeginsUnless, AnalyzesFrom, IsDelivered, IsWeighedUnless, KeepsOthers, LogsDatagram, LogsExchange, LogsInAnother, RefusesDatagram, RefusesInNext, WhereDatagram, WhereDelivered, is_damaged_in, uncounted};
 ghost use Rattle.log_connections.specs.declared.exchanges.Delivery.TheVariants as delivered;
 
 use crate::analysis::{PieceCollector, PieceKind, TlsAnalysis};
@@ -34,13 +36,13 @@ fn analyze_from<K: PieceCollector>(
     tunnels: &Tunnels,
     known: &mut CertificateCache,
 ) -> Result<(), AllocError>
-    ensures { OnOk result (AnalyzesFrom datagram.now exchange.old exchange.new) }
+    ensures analysis { OnOk result (AnalyzesFrom datagram.now exchange.old exchange.new) }
+    ensures weight { exchange.new.weight ≡ exchange.old.weight }
 {
     let side = exchange.side_of(datagram.source);
     let analysis = &mut exchange.attachment;
-    let direction = analysis.direction(side);
     analysis.prepare(tunnels, kept)?;
-    analysis.analyze_datagram(direction, datagram.payload, known)
+    analysis.analyze_datagram(side, datagram.payload, known)
 }
 
 impl<K: PieceCollector> Log<K> {
@@ -56,6 +58,11 @@ impl<K: PieceCollector> Log<K> {
             (IsDelivered delivered.Received datagram.now self.old.connections) }
         ensures others { KeepsOthers (five_tuple_of_datagram datagram.now) self.old.connections.live
             self.new.connections.live }
+        ensures weighed { IfOk result (λ delivery. WhereDelivered delivery
+            (IsWeighedUnless K.most_bytes self.new.is_unsettled
+            (five_tuple_of_datagram datagram.now) self.new.connections)) }
+        ensures accounted { IsAccounted self.old.connections
+            → IsAccounted self.new.connections }
         ensures memory { self.new.memory ≡ self.old.memory }
         ensures reader { uncounted self.new.arrivals ≡ uncounted self.old.arrivals }
     {
@@ -96,6 +103,11 @@ impl<K: PieceCollector> Log<K> {
             self.old.connections self.new.connections (option_map (λ b. b.value) refused.over)) }
         ensures others { KeepsOthers (five_tuple_of_datagram datagram.now) self.old.connections.live
             self.new.connections.live }
+        ensures weighed { OnOk result (WhereDatagram (is_damaged_in datagram.now
+            self.old.connections) (IsWeighedUnless K.most_bytes self.new.is_unsettled
+            (five_tuple_of_datagram datagram.now) self.new.connections)) }
+        ensures accounted { IsAccounted self.old.connections
+            → IsAccounted self.new.connections }
         ensures memory { self.new.memory ≡ self.old.memory }
         ensures reader { uncounted self.new.arrivals ≡ uncounted self.old.arrivals }
     {
@@ -124,6 +136,10 @@ impl<K: PieceCollector> Log<K> {
             self.old.connections self.new.connections (option_map (λ b. b.value) refused.over)) }
         ensures others { KeepsOthers (five_tuple_of_datagram datagram.now) self.old.connections.live
             self.new.connections.live }
+        ensures weighed { OnOk result (IsWeighedUnless K.most_bytes self.new.is_unsettled
+            (five_tuple_of_datagram datagram.now) self.new.connections) }
+        ensures accounted { IsAccounted self.old.connections
+            → IsAccounted self.new.connections }
         ensures memory { self.new.memory ≡ self.old.memory }
         ensures reader { uncounted self.new.arrivals ≡ uncounted self.old.arrivals }
     {
@@ -140,6 +156,11 @@ impl<K: PieceCollector> Log<K> {
             self.old.connections self.new.connections) }
         ensures others { KeepsOthers (five_tuple_of_datagram datagram.now) self.old.connections.live
             self.new.connections.live }
+        ensures weighed { OnOk result (at (five_tuple_of_datagram datagram.now) self.old.connections.live
+            ≡ None → (IsWeighedUnless K.most_bytes self.new.is_unsettled
+            (five_tuple_of_datagram datagram.now) self.new.connections)) }
+        ensures accounted { IsAccounted self.old.connections
+            → IsAccounted self.new.connections }
         ensures memory { self.new.memory ≡ self.old.memory }
         ensures reader { uncounted self.new.arrivals ≡ uncounted self.old.arrivals }
     {
@@ -156,6 +177,10 @@ impl<K: PieceCollector> Log<K> {
             (LogsDatagram datagram.now self.old.connections self.new.connections) }
         ensures others { KeepsOthers (five_tuple_of_datagram datagram.now) self.old.connections.live
             self.new.connections.live }
+        ensures weighed { OnOk result (IsWeighedUnless K.most_bytes self.new.is_unsettled
+            (five_tuple_of_datagram datagram.now) self.new.connections) }
+        ensures accounted { IsAccounted self.old.connections
+            → IsAccounted self.new.connections }
         ensures memory { self.new.memory ≡ self.old.memory }
         ensures reader { uncounted self.new.arrivals ≡ uncounted self.old.arrivals }
     {

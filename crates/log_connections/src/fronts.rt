@@ -1,7 +1,9 @@
-//! The search for the beginning of TLS in a side's stream.
+//! Where TLS begins in a side's stream: behind a dialogue that is known, or else by a search.
 ghost use Rattle.std.specs.Prelude.{◌≡◌};
-ghost use Rattle.log_connections.specs.Fronts.{begins_there, beginning as begins, beginning_at_once, beginning_behind, begun_behind, found as found_in, is_waiting, may_begin as may_begin_in, no_preambles, passing, preamble as preamble_in, view_beginning, with_preamble};
+ghost use Rattle.log_connections.specs.Dialogue.{state_of};
+ghost use Rattle.log_connections.specs.Fronts.{IsFollowedBy, begins_there, beginning as begins, beginning_at_once, beginning_behind, beginning_by_search, beginning_in, begun_behind, found as found_in, is_waiting, may_begin as may_begin_in, no_preambles, passing, preamble as preamble_in, view_beginning, with_preamble, without_dialogue};
 
+use crate::dialogue::Dialogue;
 use connections::Side;
 use ssl2_hello::{Ssl2ClientHello, begins_ssl2_hello, parse_ssl2_client_hello};
 use tls_detection::{HEADER_LEN, HELLO_FRONT_LEN, begins_tls, place_behind};
@@ -12,11 +14,12 @@ const PREAMBLE_LIMIT: u64 = 65_536;
 /// How many bytes are held back because TLS may begin in them.
 const WAITING_LEN: usize = HELLO_FRONT_LEN - 1;
 
-/// How many bytes of each side were skipped before its TLS.
+/// How many bytes of each side were skipped before its TLS, and the dialogue in them.
 #[derive(Clone, Copy)]
 pub(crate) struct Preambles {
     originator: u64,
     responder: u64,
+    pub(crate) dialogue: Dialogue,
 }
 
 /// Where TLS begins on a side, by its next bytes.
@@ -98,24 +101,54 @@ fn begins_at_once(answers: bool, are_last: bool, skipped: u64, bytes: &[u8]) -> 
     }
 }
 
-/// Returns where a side's TLS begins, if it `is_sought`, by the bytes behind those that were
-/// `skipped`, which are its last if they `are_last`. A side `answers` if the other's TLS began.
-pub(crate) fn begins_at(
-    is_sought: bool,
-    answers: bool,
-    are_last: bool,
-    skipped: u64,
-    bytes: &[u8],
-) -> Beginning<'_>
-    ensures { view_beginning result ≡ begins is_sought answers are_last skipped bytes.now }
+/// Returns where a search finds a side's TLS, by the bytes behind those that were `skipped`.
+fn begins_by_search(answers: bool, are_last: bool, skipped: u64, bytes: &[u8]) -> Beginning<'_>
+    ensures { view_beginning result
+        ≡ beginning_by_search answers are_last skipped bytes.now }
 {
-    if !is_sought {
-        return Beginning::At(0);
-    }
     if skipped == 0 {
         return begins_at_once(answers, are_last, skipped, bytes);
     }
     begins_behind(answers, are_last, skipped, bytes)
+}
+
+/// Returns where a side's TLS begins that is sought, by the dialogue in front of it.
+fn begins_in<'a>(
+    dialogue: &Dialogue,
+    answers: bool,
+    are_last: bool,
+    skipped: u64,
+    bytes: &'a [u8],
+) -> Beginning<'a>
+    ensures { view_beginning result
+        ≡ beginning_in (state_of dialogue.now) answers are_last skipped bytes.now }
+{
+    match dialogue {
+        Dialogue::New | Dialogue::GoesOn(_) => Beginning::Waits,
+        Dialogue::Tls(_) => Beginning::At(0),
+        Dialogue::Plain => Beginning::Nowhere,
+        Dialogue::Unknown => begins_by_search(answers, are_last, skipped, bytes),
+    }
+}
+
+/// Returns where a side's TLS begins, if it `is_sought`, by the dialogue and the bytes behind those
+/// that were `skipped`, which are its last if they `are_last`. A side `answers` if the other's TLS
+/// began.
+pub(crate) fn begins_at<'a>(
+    dialogue: &Dialogue,
+    is_sought: bool,
+    answers: bool,
+    are_last: bool,
+    skipped: u64,
+    bytes: &'a [u8],
+) -> Beginning<'a>
+    ensures { view_beginning result
+        ≡ begins (state_of dialogue.now) is_sought answers are_last skipped bytes.now }
+{
+    if !is_sought {
+        return Beginning::At(0);
+    }
+    begins_in(dialogue, answers, are_last, skipped, bytes)
 }
 
 impl Preambles {
@@ -123,6 +156,7 @@ impl Preambles {
     pub(crate) const NONE: Preambles = Preambles {
         originator: 0,
         responder: 0,
+        dialogue: Dialogue::New,
     };
 
     /// Returns how many bytes of a side were skipped.
@@ -166,5 +200,24 @@ impl Preambles {
         ensures { self.new ≡ with_preamble side 0 self.old }
     {
         self.set(side, 0);
+    }
+
+    /// Follows the dialogue by the next bytes of the originator and of the responder, and skips
+    /// those that it passed. Returns how many they are.
+    pub(crate) fn follow(&mut self, originator: &[u8], responder: &[u8]) -> (usize, usize)
+        ensures { IsFollowedBy originator.now responder.now self.old self.new result }
+    {
+        let step = self.dialogue.step(originator, responder);
+        self.pass(Side::Originator, step.client);
+        self.pass(Side::Responder, step.server);
+        self.dialogue = step.dialogue;
+        (step.client, step.server)
+    }
+
+    /// Ends a dialogue that goes on, since no more bytes of it come.
+    pub(crate) fn end_dialogue(&mut self)
+        ensures { self.new ≡ without_dialogue self.old }
+    {
+        self.dialogue = self.dialogue.without_more();
     }
 }

@@ -14,15 +14,18 @@
 #![tactic(auto)]
 
 mod analysis;
+mod dialogue;
 mod drive;
 mod ending;
 mod exchanges;
+mod following;
 mod found;
 mod fronts;
 mod log;
 mod memory;
 mod piece_observer;
 mod sink;
+mod turning;
 
 pub use analysis::{ANALYSIS_COST, PieceCollector, PieceKind, TlsAnalysis};
 pub use exchanges::Delivery;

@@ -1,15 +1,18 @@
 //! What a capture's arrivals add to the log.
-ghost use Rattle.std.specs.Prelude.{◌≡◌, ◌-◌, ◌^◌, [], IfErr, IfOk, IfSome, OnErr, OnOk, Some, is_some, true};
+ghost use Rattle.std.specs.Prelude.{◌≡◌, ◌-◌, ◌^◌, [], IfErr, IfNone, IfOk, IfSome, OnErr, OnOk, Some, is_some, true};
 ghost use Rattle.std.specs.Option.{option_map};
 ghost use Rattle.arrivals.specs.Arrival.{five_tuple_in};
 ghost use Rattle.arrivals.specs.Reader.{IsNew};
 ghost use Rattle.connections.specs.Connection.{is_for_checksum, lets_in, side_of};
-ghost use Rattle.connections.specs.Segment.{five_tuple_of};
+ghost use Rattle.connections.specs.Memory.{IsAccounted};
+ghost use Rattle.connections.specs.Segment.{begins, five_tuple_of};
 ghost use Rattle.connections.specs.Table.{at, belongs, with_dropped_segment, with_waiting_segment};
 ghost use Rattle.log_connections.specs.Analysis.{AnalyzesNext, AnalyzesOn};
-ghost use Rattle.log_connections.specs.Log.{Accepts, AcceptsBy, AcceptsJudged, AcceptsSegment, EndsAfter, EndsClosed, AnalyzesAllAcknowledged, AnalyzesOne, AnalyzesPending, AnalyzesSide, IsClosedAs, IsReceived, KeepsOthers, Logs, LogsOpen, Refuses, RefusesIf, RefusesInAnother, RefusesSegment, Settles, Takes, TakesAnew, TakesBehind, TakesIn, TakesInAnother, damaged_if, disagreeing_from, is_closed_in, uncounted, verdict_in, with_disagreeing, with_stray};
+ghost use Rattle.log_connections.specs.Log.{Accepts, AcceptsBy, AcceptsJudged, AcceptsSegment, EndsAfter, EndsClosed, IsWeighedUnless, AnalyzesAllAcknowledged, AnalyzesOne, AnalyzesPending, AnalyzesSide, IsClosedAs, IsReceived, KeepsOthers, Logs, LogsOpen, Refuses, RefusesIf, RefusesInAnother, RefusesSegment, Settles, Takes, TakesAnew, TakesBehind, TakesIn, TakesInAnother, WhereBegun, WhereJudged, WhereReceived, WhereSegment, WhereWeighed, damaged_if, disagreeing_from, is_closed_in, uncounted, verdict_in, with_disagreeing, with_stray, AnalyzesSender};
+ghost use Rattle.log_connections.specs.Packet.{passes_on};
 
 use crate::analysis::{PieceCollector, PieceKind, TlsAnalysis};
+use crate::following::follow_front;
 use crate::memory::SPARE;
 use arrivals::{Arrival, ArrivalReader, add_one};
 use connections::{
@@ -109,16 +112,17 @@ fn analyze_side<K: PieceCollector>(
 
 /// Analyzes the next bytes of the segment's sender. Keeps the pieces if they are to be taken.
 #[inline(always)]
-fn analyze<K: PieceCollector>(
+fn analyze_sender<K: PieceCollector>(
     connection: &mut Connection<TlsAnalysis<K>>,
     segment: &Segment<'_>,
     kept: Option<PieceKind>,
     tunnels: &Tunnels,
     known: &mut CertificateCache,
 ) -> Result<(), AllocError>
-    ensures { OnOk result
-        (AnalyzesSide segment.now (side_of connection.old segment.now.source) connection.old
+    ensures analysis { OnOk result
+        (AnalyzesSender segment.now (side_of connection.old segment.now.source) connection.old
         connection.new) }
+    ensures weight { connection.new.weight ≡ connection.old.weight }
 {
     let (side, is_opened) = (connection.side_of(segment.source), connection.has_opening());
     let analysis = &mut connection.attachment;
@@ -133,6 +137,25 @@ fn analyze<K: PieceCollector>(
             analyze_side(analysis, stream, side, is_opened, segment, known)
         }
     }
+}
+
+/// Follows the dialogue in front of TLS by the data of a segment, if one goes on, and analyzes the
+/// next bytes of its sender.
+#[inline(always)]
+fn analyze<K: PieceCollector>(
+    connection: &mut Connection<TlsAnalysis<K>>,
+    segment: &Segment<'_>,
+    kept: Option<PieceKind>,
+    tunnels: &Tunnels,
+    known: &mut CertificateCache,
+) -> Result<(), AllocError>
+    ensures analysis { OnOk result
+        (AnalyzesSide segment.now (side_of connection.old segment.now.source) connection.old
+        connection.new) }
+    ensures weight { connection.new.weight ≡ connection.old.weight }
+{
+    follow_front(connection, segment, known)?;
+    analyze_sender(connection, segment, kept, tunnels, known)
 }
 
 /// Counts bytes that disagreed in the fragments of a packet of this sender.
@@ -191,6 +214,8 @@ impl<K: PieceCollector> Log<K> {
             self.new.connections (option_map (λ b. b.value) refused.over)) }
         ensures others { KeepsOthers (five_tuple_in arrival.now) self.old.connections.live
             self.new.connections.live }
+        ensures accounted { IsAccounted self.old.connections
+            → IsAccounted self.new.connections }
         ensures memory { self.new.memory ≡ self.old.memory }
         ensures reader { uncounted self.new.arrivals ≡ uncounted self.old.arrivals }
     {
@@ -204,6 +229,8 @@ impl<K: PieceCollector> Log<K> {
     fn settle(&mut self, arrival: &Arrival<'_>)
         ensures settled { Settles K.most_bytes self.old.is_unsettled (five_tuple_in arrival.now)
             self.old.connections self.new.connections }
+        ensures accounted { IsAccounted self.old.connections
+            → IsAccounted self.new.connections }
         ensures memory { self.new.memory ≡ self.old.memory }
         ensures reader { uncounted self.new.arrivals ≡ uncounted self.old.arrivals }
     {
@@ -225,6 +252,11 @@ impl<K: PieceCollector> Log<K> {
             self.new.connections (option_map (λ b. b.value) refused.over)) }
         ensures others { KeepsOthers (five_tuple_in arrival.now) self.old.connections.live
             self.new.connections.live }
+        ensures weighed { IfOk result (λ over. WhereWeighed arrival.now self.old.connections
+            (option_map (λ b. b.value) over) (IsWeighedUnless K.most_bytes self.new.is_unsettled
+            (five_tuple_in arrival.now) self.new.connections)) }
+        ensures accounted { IsAccounted self.old.connections
+            → IsAccounted self.new.connections }
         ensures memory { self.new.memory ≡ self.old.memory }
         ensures reader { uncounted self.new.arrivals ≡ uncounted self.old.arrivals }
     {
@@ -246,6 +278,10 @@ impl<K: PieceCollector> Log<K> {
             (λ closed. closed ≡ is_closed_in segment.now self.new.connections)) }
         ensures others { KeepsOthers (five_tuple_of segment.now) self.old.connections.live
             self.new.connections.live }
+        ensures weighed { OnOk result (IsWeighedUnless K.most_bytes self.new.is_unsettled
+            (five_tuple_of segment.now) self.new.connections) }
+        ensures accounted { IsAccounted self.old.connections
+            → IsAccounted self.new.connections }
         ensures memory { self.new.memory ≡ self.old.memory }
         ensures reader { uncounted self.new.arrivals ≡ uncounted self.old.arrivals }
     {
@@ -276,6 +312,10 @@ impl<K: PieceCollector> Log<K> {
             (λ closed. closed ≡ is_closed_in segment.now self.new.connections)) }
         ensures others { KeepsOthers (five_tuple_of segment.now) self.old.connections.live
             self.new.connections.live }
+        ensures weighed { OnOk result (IsWeighedUnless K.most_bytes self.new.is_unsettled
+            (five_tuple_of segment.now) self.new.connections) }
+        ensures accounted { IsAccounted self.old.connections
+            → IsAccounted self.new.connections }
         ensures memory { self.new.memory ≡ self.old.memory }
         ensures reader { uncounted self.new.arrivals ≡ uncounted self.old.arrivals }
     {
@@ -309,6 +349,8 @@ impl<K: PieceCollector> Log<K> {
             (AnalyzesPending five_tuple.now kept.now self.old.connections self.new.connections) }
         ensures others { KeepsOthers five_tuple.now self.old.connections.live
             self.new.connections.live }
+        ensures accounted { IsAccounted self.old.connections
+            → IsAccounted self.new.connections }
         ensures memory { self.new.memory ≡ self.old.memory }
         ensures reader { uncounted self.new.arrivals ≡ uncounted self.old.arrivals }
     {
@@ -331,6 +373,8 @@ impl<K: PieceCollector> Log<K> {
             (AnalyzesAllAcknowledged segment.now self.old.connections self.new.connections) }
         ensures others { KeepsOthers (five_tuple_of segment.now) self.old.connections.live
             self.new.connections.live }
+        ensures accounted { IsAccounted self.old.connections
+            → IsAccounted self.new.connections }
         ensures memory { self.new.memory ≡ self.old.memory }
         ensures reader { uncounted self.new.arrivals ≡ uncounted self.old.arrivals }
     {
@@ -350,6 +394,8 @@ impl<K: PieceCollector> Log<K> {
             (λ was_one. AnalyzesOne segment.now self.old.connections self.new.connections was_one) }
         ensures others { KeepsOthers (five_tuple_of segment.now) self.old.connections.live
             self.new.connections.live }
+        ensures accounted { IsAccounted self.old.connections
+            → IsAccounted self.new.connections }
         ensures memory { self.new.memory ≡ self.old.memory }
         ensures reader { uncounted self.new.arrivals ≡ uncounted self.old.arrivals }
     {
@@ -373,6 +419,11 @@ impl<K: PieceCollector> Log<K> {
             self.new.connections (option_map (λ b. b.value) over)) }
         ensures others { KeepsOthers (five_tuple_of segment.now) self.old.connections.live
             self.new.connections.live }
+        ensures weighed { IfOk result (λ over. IfNone (option_map (λ b. b.value) over)
+            (IsWeighedUnless K.most_bytes self.new.is_unsettled
+            (five_tuple_of segment.now) self.new.connections)) }
+        ensures accounted { IsAccounted self.old.connections
+            → IsAccounted self.new.connections }
         ensures memory { self.new.memory ≡ self.old.memory }
         ensures reader { uncounted self.new.arrivals ≡ uncounted self.old.arrivals }
     {
@@ -407,6 +458,9 @@ impl<K: PieceCollector> Log<K> {
             self.new.connections (option_map (λ b. b.value) over)) }
         ensures others { KeepsOthers (five_tuple_of segment.now) self.old.connections.live
             self.new.connections.live }
+        ensures unsettled { self.new.is_unsettled ≡ self.old.is_unsettled }
+        ensures accounted { IsAccounted self.old.connections
+            → IsAccounted self.new.connections }
         ensures memory { self.new.memory ≡ self.old.memory }
         ensures reader { uncounted self.new.arrivals ≡ uncounted self.old.arrivals }
     {
@@ -429,6 +483,9 @@ impl<K: PieceCollector> Log<K> {
             self.new.connections (option_map (λ b. b.value) over)) }
         ensures others { KeepsOthers (five_tuple_of segment.now) self.old.connections.live
             self.new.connections.live }
+        ensures unsettled { self.new.is_unsettled ≡ self.old.is_unsettled }
+        ensures accounted { IsAccounted self.old.connections
+            → IsAccounted self.new.connections }
         ensures memory { self.new.memory ≡ self.old.memory }
         ensures reader { uncounted self.new.arrivals ≡ uncounted self.old.arrivals }
     {
@@ -448,6 +505,10 @@ impl<K: PieceCollector> Log<K> {
             self.old.connections self.new.connections (option_map (λ b. b.value) refused.over)) }
         ensures others { KeepsOthers (five_tuple_of segment.now) self.old.connections.live
             self.new.connections.live }
+        ensures weighed { OnOk result (IsWeighedUnless K.most_bytes self.new.is_unsettled
+            (five_tuple_of segment.now) self.new.connections) }
+        ensures accounted { IsAccounted self.old.connections
+            → IsAccounted self.new.connections }
         ensures memory { self.new.memory ≡ self.old.memory }
         ensures reader { uncounted self.new.arrivals ≡ uncounted self.old.arrivals }
     {
@@ -474,6 +535,11 @@ impl<K: PieceCollector> Log<K> {
             (λ reception. IsClosedAs reception (is_closed_in segment.now self.new.connections)) }
         ensures others { KeepsOthers (five_tuple_of segment.now) self.old.connections.live
             self.new.connections.live }
+        ensures weighed { IfOk result (λ reception. WhereReceived reception
+            (IsWeighedUnless K.most_bytes self.new.is_unsettled
+            (five_tuple_of segment.now) self.new.connections) segment.now) }
+        ensures accounted { IsAccounted self.old.connections
+            → IsAccounted self.new.connections }
         ensures memory { self.new.memory ≡ self.old.memory }
         ensures reader { uncounted self.new.arrivals ≡ uncounted self.old.arrivals }
     {
@@ -510,6 +576,12 @@ impl<K: PieceCollector> Log<K> {
             self.new.connections (option_map (λ b. b.value) refused.over)) }
         ensures others { KeepsOthers (five_tuple_of segment.now) self.old.connections.live
             self.new.connections.live }
+        ensures weighed { IfOk result (λ over. WhereSegment (option_map (λ b. b.value) over)
+            (IsWeighedUnless K.most_bytes self.new.is_unsettled
+            (five_tuple_of segment.now) self.new.connections)
+            (verdict_in segment.now self.old.connections) segment.now) }
+        ensures accounted { IsAccounted self.old.connections
+            → IsAccounted self.new.connections }
         ensures memory { self.new.memory ≡ self.old.memory }
         ensures reader { uncounted self.new.arrivals ≡ uncounted self.old.arrivals }
     {
@@ -524,7 +596,7 @@ impl<K: PieceCollector> Log<K> {
         }
     }
 
-    /// Counts a segment that its receiver drops as damaged, if its checksum is the reason.
+    /// Counts a segment as damaged if its checksum is the reason against it.
     fn count_dropped(&mut self, reason: DropReason)
         ensures { self.new ≡ record self.old {
           arrivals = record self.old.arrivals {
@@ -550,6 +622,12 @@ impl<K: PieceCollector> Log<K> {
             (option_map (λ b. b.value) refused.over)) }
         ensures others { KeepsOthers (five_tuple_of segment.now) self.old.connections.live
             self.new.connections.live }
+        ensures weighed { IfOk result (λ over. WhereBegun (option_map (λ b. b.value) over)
+            (IsWeighedUnless K.most_bytes self.new.is_unsettled
+            (five_tuple_of segment.now) self.new.connections)
+            verdict.shows_damage verdict.begins_another verdict.judgement segment.now) }
+        ensures accounted { IsAccounted self.old.connections
+            → IsAccounted self.new.connections }
         ensures memory { self.new.memory ≡ self.old.memory }
         ensures reader { uncounted self.new.arrivals ≡ uncounted self.old.arrivals }
     {
@@ -572,6 +650,11 @@ impl<K: PieceCollector> Log<K> {
             self.new.connections (option_map (λ b. b.value) over)) }
         ensures others { KeepsOthers (five_tuple_of segment.now) self.old.connections.live
             self.new.connections.live }
+        ensures weighed { IfOk result (λ over. IfNone (option_map (λ b. b.value) over)
+            (IsWeighedUnless K.most_bytes self.new.is_unsettled
+            (five_tuple_of segment.now) self.new.connections)) }
+        ensures accounted { IsAccounted self.old.connections
+            → IsAccounted self.new.connections }
         ensures memory { self.new.memory ≡ self.old.memory }
         ensures reader { uncounted self.new.arrivals ≡ uncounted self.old.arrivals }
     {
@@ -591,6 +674,12 @@ impl<K: PieceCollector> Log<K> {
             self.old.connections self.new.connections (option_map (λ b. b.value) over)) }
         ensures others { KeepsOthers (five_tuple_of segment.now) self.old.connections.live
             self.new.connections.live }
+        ensures weighed { IfOk result (λ over. WhereJudged (option_map (λ b. b.value) over)
+            (IsWeighedUnless K.most_bytes self.new.is_unsettled
+            (five_tuple_of segment.now) self.new.connections)
+            judgement segment.now) }
+        ensures accounted { IsAccounted self.old.connections
+            → IsAccounted self.new.connections }
         ensures memory { self.new.memory ≡ self.old.memory }
         ensures reader { uncounted self.new.arrivals ≡ uncounted self.old.arrivals }
     {
@@ -614,6 +703,9 @@ impl<K: PieceCollector> Log<K> {
             (self.new.connections ≡ with_dropped_segment reason segment.now self.old.connections) }
         ensures others { KeepsOthers (five_tuple_of segment.now) self.old.connections.live
             self.new.connections.live }
+        ensures due { self.new.is_unsettled ≡ begins segment.now }
+        ensures accounted { IsAccounted self.old.connections
+            → IsAccounted self.new.connections }
         ensures memory { self.new.memory ≡ self.old.memory }
         ensures reader { uncounted self.new.arrivals ≡ uncounted self.old.arrivals }
     {
@@ -623,15 +715,19 @@ impl<K: PieceCollector> Log<K> {
     }
 
     /// Keeps a segment until its receiver shows whether it took it, or counts it as dropped for
-    /// this reason.
+    /// this reason. A wrong checksum counts as one, whichever it is.
     fn keep_waiting(&mut self, segment: &Segment<'_>, reason: DropReason) -> Result<(), AllocError>
         ensures waits { OnOk result
             (self.new.connections ≡ with_waiting_segment reason segment.now self.old.connections) }
         ensures others { KeepsOthers (five_tuple_of segment.now) self.old.connections.live
             self.new.connections.live }
+        ensures due { self.new.is_unsettled ≡ true }
+        ensures accounted { IsAccounted self.old.connections
+            → IsAccounted self.new.connections }
         ensures memory { self.new.memory ≡ self.old.memory }
         ensures reader { uncounted self.new.arrivals ≡ uncounted self.old.arrivals }
     {
+        self.count_dropped(reason);
         self.is_unsettled = true;
         self.connections.wait(segment, reason)
     }
@@ -648,6 +744,11 @@ impl<K: PieceCollector> Log<K> {
             self.new.connections (option_map (λ b. b.value) over)) }
         ensures others { KeepsOthers (five_tuple_of segment.now) self.old.connections.live
             self.new.connections.live }
+        ensures weighed { IfOk result (λ over. IfNone (option_map (λ b. b.value) over)
+            (IsWeighedUnless K.most_bytes self.new.is_unsettled
+            (five_tuple_of segment.now) self.new.connections)) }
+        ensures accounted { IsAccounted self.old.connections
+            → IsAccounted self.new.connections }
         ensures memory { self.new.memory ≡ self.old.memory }
         ensures reader { uncounted self.new.arrivals ≡ uncounted self.old.arrivals }
     {
@@ -665,6 +766,8 @@ impl<K: PieceCollector> Log<K> {
             ≡ with_disagreeing arrival.now count self.old.connections }
         ensures is_open { result
             ≡ is_some (at (five_tuple_in arrival.now) self.old.connections.live) }
+        ensures accounted { IsAccounted self.old.connections
+            → IsAccounted self.new.connections }
         ensures memory { self.new.memory ≡ self.old.memory }
         ensures reader { uncounted self.new.arrivals ≡ uncounted self.old.arrivals }
     {
@@ -676,7 +779,9 @@ impl<K: PieceCollector> Log<K> {
     }
 
     /// Returns whether pieces are passed on with each packet.
-    pub(crate) fn passes_pieces(&self) -> bool {
+    pub(crate) fn passes_pieces(&self) -> bool
+        ensures { result ≡ passes_on self.now.kept }
+    {
         match self.kept {
             Some(pieces) => pieces.are_passed(),
             None => false,

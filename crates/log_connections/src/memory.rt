@@ -2,7 +2,7 @@
 ghost use Rattle.std.specs.Prelude.{◌≡◌, ◌<◌, IfSome, length};
 ghost use Rattle.std.specs.Option.{option_map};
 ghost use Rattle.arrivals.specs.Arrival.{five_tuple_in};
-ghost use Rattle.connections.specs.Memory.{IsAccounted};
+ghost use Rattle.connections.specs.Memory.{FitsClosed, IsAccounted};
 ghost use Rattle.connections.specs.Table.{at, others};
 ghost use Rattle.log_connections.specs.Log.{uncounted};
 ghost use Rattle.log_connections.specs.Sink.{AreEarly, EndsAs, Evicts, EndsLast, marked_early};
@@ -28,6 +28,7 @@ impl<K: PieceCollector> Log<K> {
     pub(crate) fn mark_early(&mut self, over: &mut Connection<TlsAnalysis<K>>)
         ensures marked { over.new ≡ marked_early over.old }
         ensures connections { self.new.connections ≡ self.old.connections }
+        ensures unsettled { self.new.is_unsettled ≡ self.old.is_unsettled }
         ensures memory { self.new.memory ≡ self.old.memory }
         ensures reader { uncounted self.new.arrivals ≡ uncounted self.old.arrivals }
     {
@@ -62,6 +63,8 @@ impl<K: PieceCollector> Log<K> {
         ensures early { AreEarly (option_map (λ b. b.value) result) }
         ensures fewer { IfSome result (λ _.
             length self.new.connections.live < length self.old.connections.live) }
+        ensures closed { FitsClosed self.old.memory self.old.connections.closed
+            self.new.connections.closed }
         ensures accounted { IsAccounted self.old.connections → IsAccounted self.new.connections }
         ensures memory { self.new.memory ≡ self.old.memory }
         ensures reader { uncounted self.new.arrivals ≡ uncounted self.old.arrivals }
@@ -84,6 +87,8 @@ impl<K: PieceCollector> Log<K> {
         ensures others { self.new.connections.live ≡ others (five_tuple_in arrival.now)
             self.old.connections.live }
         ensures early { AreEarly (option_map (λ b. b.value) result) }
+        ensures accounted { IsAccounted self.old.connections
+            → IsAccounted self.new.connections }
         ensures memory { self.new.memory ≡ self.old.memory }
         ensures reader { uncounted self.new.arrivals ≡ uncounted self.old.arrivals }
     {
@@ -97,6 +102,8 @@ impl<K: PieceCollector> Log<K> {
         ensures oldest { EndsLast self.old.connections.live self.new.connections.live
             (option_map (λ b. b.value) result) }
         ensures early { AreEarly (option_map (λ b. b.value) result) }
+        ensures accounted { IsAccounted self.old.connections
+            → IsAccounted self.new.connections }
         ensures memory { self.new.memory ≡ self.old.memory }
         ensures reader { uncounted self.new.arrivals ≡ uncounted self.old.arrivals }
     {

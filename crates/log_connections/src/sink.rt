@@ -1,7 +1,7 @@
 //! Who receives what a log finds.
 ghost use Rattle.std.specs.Prelude.{◌≡◌, Bool, true, List, [], Option, None, IfErr, OnOk};
 ghost use Rattle.connections.specs.declared.connection.Connection.{Connection};
-ghost use Rattle.log_connections.specs.Sink.{Adds, IsOfSink, Receives, StaysSound};
+ghost use Rattle.log_connections.specs.Sink.{Adds, IsOfSink, Receives, StaysSound, TakesPieces};
 ghost use Rattle.log_connections.specs.declared.analysis.TlsAnalysis.{TlsAnalysis};
 
 use crate::analysis::TlsAnalysis;
@@ -30,13 +30,14 @@ pub trait Sink<K> {
         ensures sound { is_sound self.old ≡ true → OnOk result (is_sound self.new ≡ true) };
 
     /// Receives an open connection after its packet of this time, if messages or certificates are
-    /// kept. It takes the pieces from the collector.
+    /// kept. It takes the pieces from the collector, and changes nothing else.
     fn pieces(
         &mut self,
         open: &mut Connection<TlsAnalysis<K>>,
         time: u64,
     ) -> Result<(), Self::Error>
         ensures received { Adds (received self.old) (received self.new) [] }
+        ensures taken { TakesPieces open.old open.new }
         ensures sound { is_sound self.old ≡ true → OnOk result (is_sound self.new ≡ true) };
 }
 
@@ -82,6 +83,7 @@ pub(crate) fn hand_pieces<K, S: Sink<K>>(
     sink: &mut S,
 ) -> Result<(), LogError<S::Error>>
     ensures received { Adds (S.received sink.old) (S.received sink.new) [] }
+    ensures taken { TakesPieces open.old open.new }
     ensures failed { IfErr result (λ error. IsOfSink error) }
     ensures sound { StaysSound (S.is_sound sink.old) (S.is_sound sink.new) result }
 {

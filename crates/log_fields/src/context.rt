@@ -1,4 +1,7 @@
 //! What the fields of a connection's line are computed from.
+ghost use Rattle.std.specs.Prelude.{◌≡◌};
+ghost use Rattle.log_fields.specs.Values.{party_of};
+
 use crate::summary::{Party, Summary};
 use connections::{Protocol, Side};
 use log_certificates::{ReadCertificate, certificate_of};
@@ -92,7 +95,11 @@ impl<'a> FieldContext<'a> {
         suites: &'a Suites,
         digests: &'a RefCell<DigestCache>,
         summary: &'a Summary<'a>,
-    ) -> FieldContext<'a> {
+    ) -> FieldContext<'a>
+        ensures summary { result.summary.now ≡ summary.entry.now }
+        ensures handshake { result.handshake.now ≡ summary.entry.now.handshake.now }
+        ensures suites { result.suites.now ≡ suites.entry.now }
+    {
         let handshake = summary.handshake;
         FieldContext {
             alloc,
@@ -107,7 +114,10 @@ impl<'a> FieldContext<'a> {
     }
 
     /// Returns the connection at its first packet.
-    pub fn first_moment(&self) -> Moment<'a> {
+    pub fn first_moment(&self) -> Moment<'a>
+        ensures summary { result.summary.now ≡ self.now.summary.now }
+        ensures time { result.time ≡ self.now.summary.now.first_time }
+    {
         Moment {
             alloc: self.alloc,
             summary: self.summary,
@@ -116,7 +126,10 @@ impl<'a> FieldContext<'a> {
     }
 
     /// Returns a side of it.
-    pub fn sender(&self, side: Side) -> SideContext<'a> {
+    pub fn sender(&self, side: Side) -> SideContext<'a>
+        ensures protocol { result.protocol ≡ self.now.summary.now.protocol }
+        ensures party { result.party.now ≡ party_of side self.now.summary.now }
+    {
         SideContext {
             alloc: self.alloc,
             protocol: self.summary.protocol,

@@ -126,9 +126,10 @@ pub enum SideTraffic {
     Preamble,
 }
 
-/// The tunnels around a connection.
+/// What is around a connection, and in front of its TLS.
 #[derive(Clone, Copy)]
 pub enum Encapsulation {
+    FoundBy,
     Tunnels,
     TunnelIds,
 }
@@ -349,6 +350,13 @@ macro_rules! rows {
                     |sender| Ok(some_count(sender.party.preamble));
             }
             Encapsulation {
+                /// how TLS was found behind these bytes: by the dialogue of `ftp`, `http_connect`,
+                /// `imap`, `irc`, `ldap`, `lmtp`, `mysql`, `nntp`, `pop3`, `postgresql`, `proxy`,
+                /// `rdp`, `sieve`, `smtp`, `socks4`, `socks5` or `xmpp`, of several the last one;
+                /// or by `search` (docs/CAPTURES.md, "Where TLS begins")
+                /// absent: there are no such bytes; DTLS
+                "found_by": Text =
+                    FoundBy => |context| Ok(some_name(context.summary.found_by()));
                 /// the tunnels that the connection came in, from outside in: `ipv4`, `ipv6`, `gre`,
                 /// `erspan`, `mpls`, `pbb`, `vxlan`, `geneve`, `gtp`, `teredo` (docs/CAPTURES.md,
                 /// "Tunnels")
@@ -392,8 +400,7 @@ macro_rules! rows {
                 /// RFC: 3749, 2
                 /// Zeek: the same; with `--format zeek` by name, as there
                 "client_comp_methods": Methods = Compressions =>
-                    |context| some_numbers(
-                        Numbers::Codes(context.handshake.client_compressions().bytes()));
+                    |context| compressions_cell(context.handshake);
                 /// the types of its extensions, in order
                 /// RFC: 8446, 4.2
                 /// Zeek: the same

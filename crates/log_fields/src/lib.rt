@@ -5,7 +5,8 @@
 //! those of a message, and [`CERTIFICATE_FIELDS`](columns::CERTIFICATE_FIELDS) those of a
 //! certificate. Fields have the names in Zeek's logs where these have them.
 //!
-//! This crate has no clauses, only tests.
+//! Clauses give the values of most fields by the definitions of the crates below
+//! (`specs/Values.antt`). Those of certificates, chains and fingerprints are only tested.
 #![tactic(auto)]
 
 pub mod columns;

@@ -1,4 +1,10 @@
 //! The summary of a connection.
+ghost use Rattle.std.specs.Prelude.{◌≡◌, ◌==◌};
+ghost use Rattle.std.specs.Option.{option_map};
+ghost use Rattle.log_fields.specs.Names.{found_by_text, gap_text};
+ghost use Rattle.log_fields.specs.Values.{has_gap as has_gap_of, party_of};
+
+use crate::names::{dialogue_name, search_name};
 use connections::{Dropped, End, Protocol, Side, Stream, Traffic};
 use tls_flow::{Outcome, Stop};
 use tls_summary::HandshakeSummary;
@@ -25,7 +31,9 @@ pub struct Party<'a> {
 
 impl Party<'_> {
     /// Returns whether bytes of its stream, or its first messages, are missing.
-    fn has_gap(&self) -> bool {
+    fn has_gap(&self) -> bool
+        ensures { result ≡ has_gap_of self.now }
+    {
         self.lacks_front || self.stream.has_gap()
     }
 }
@@ -62,21 +70,40 @@ pub struct Summary<'a> {
     pub is_resumed: bool,
     /// Whether it was ended early, when memory ran short.
     pub is_ended_early: bool,
+    /// The protocol of the dialogue behind which TLS begins, if one is known.
+    pub dialogue: Option<preambles::Protocol>,
     /// The tunnels around it, outermost first.
     pub tunnels: &'a [Tunnel],
 }
 
 impl<'a> Summary<'a> {
     /// Returns a side.
-    pub fn party(&self, side: Side) -> &Party<'a> {
+    pub fn party(&self, side: Side) -> &Party<'a>
+        ensures { result.now ≡ party_of side self.now }
+    {
         match side {
             Side::Originator => &self.originator,
             Side::Responder => &self.responder,
         }
     }
 
+    /// Returns the name of what found TLS behind other bytes, if any came before it.
+    pub fn found_by(&self) -> Option<&'static str>
+        ensures { option_map (λ t. t.now) result
+            ≡ found_by_text self.now.dialogue (self.now.originator.preamble == 0)
+            (self.now.responder.preamble == 0) }
+    {
+        match self.dialogue {
+            Some(protocol) => Some(dialogue_name(protocol)),
+            None => search_name(self.originator.preamble, self.responder.preamble),
+        }
+    }
+
     /// Returns which sides have missing bytes, if any has.
-    pub fn gap(&self) -> Option<&'static str> {
+    pub fn gap(&self) -> Option<&'static str>
+        ensures { option_map (λ t. t.now) result
+            ≡ gap_text (has_gap_of self.now.originator) (has_gap_of self.now.responder) }
+    {
         match (self.originator.has_gap(), self.responder.has_gap()) {
             (true, true) => Some("both"),
             (true, false) => Some("orig"),

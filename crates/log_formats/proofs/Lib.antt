@@ -1,1 +1,2 @@
 mod CachedLemmas
+pub mod ListLemmas

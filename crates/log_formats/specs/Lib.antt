@@ -1,2 +1,5 @@
-pub mod Cached
 pub mod Suites
+pub mod Cached
+pub mod Texts
+pub mod Lists
+pub mod Data

@@ -1,4 +1,8 @@
 //! The value of a field.
+ghost use Rattle.std.specs.Prelude.{◌≡◌, Option, IfOk, OnOk};
+ghost use Rattle.json_objects.specs.Data.{Data};
+ghost use Rattle.log_formats.specs.Data.{value_of};
+
 use crate::lists::{Numbers, Texts};
 use crate::text::Text;
 use serde::{Described, Serialize, Serializer};
@@ -85,11 +89,18 @@ pub enum Cell<'a> {
 /// A consumer of a field's value. A cell is made and taken in one place, so that it isn't passed by
 /// value in between.
 pub trait TakesCell<'a> {
+    /// The consumer before and after it takes a value.
+    ghost HasTaken: { Option Data → Self → Self → Type 0 };
+
     /// Takes the value; `None` if the field is missing.
-    fn take(&mut self, cell: Option<Cell<'a>>) -> Result<(), AllocError>;
+    fn take(&mut self, cell: Option<Cell<'a>>) -> Result<(), AllocError>
+        ensures { (value : Option Data) → value_of cell.entry ≡ value
+            → OnOk result (HasTaken value self.old self.new) };
 
     /// Takes the value, or returns the error of computing it.
-    fn take_result(&mut self, cell: Result<Option<Cell<'a>>, AllocError>) -> Result<(), AllocError>;
+    fn take_result(&mut self, cell: Result<Option<Cell<'a>>, AllocError>) -> Result<(), AllocError>
+        ensures { (value : Option Data) → IfOk cell.entry (λ c. value_of c ≡ value)
+            → OnOk result (HasTaken value self.old self.new) };
 }
 
 /// A consumer that keeps the value.
@@ -100,6 +111,8 @@ pub struct KeptCell<'a> {
 }
 
 impl<'a> TakesCell<'a> for KeptCell<'a> {
+    ghost HasTaken = { λ value old new. value_of new.cell ≡ value };
+
     fn take(&mut self, cell: Option<Cell<'a>>) -> Result<(), AllocError> {
         self.cell = cell;
         Ok(())

@@ -1,4 +1,11 @@
 //! Lists in a line. Their items are parsed when they are written.
+ghost use Rattle.std.specs.Prelude.{◌≡◌, length};
+ghost use Rattle.layouts.specs.Items.{items_in};
+ghost use Rattle.log_formats.specs.Data.{value_of};
+ghost use Rattle.log_formats.specs.Data.{some_numbers as numbers_if_any, some_texts as texts_if_any};
+ghost use Rattle.log_formats.specs.Lists.{is_empty as is_empty_list, numbers_of, texts_of};
+ghost use Rattle.log_formats.specs.Cached.{share_groups};
+
 use crate::cell::Cell;
 use crate::suites::Suites;
 use crate::text::{Text, extension, group};
@@ -34,13 +41,18 @@ pub enum Texts<'a> {
 }
 
 /// Returns whether a list has no items.
-fn has_none<'a, T: InPlace<'a>>(list: Items<'a, T>) -> bool {
+fn has_none<'a, T: InPlace<'a>>(list: Items<'a, T>) -> bool
+    ensures { result ≡ is_empty_list (items_in T.layout list.entry.bytes.now) }
+{
     let mut walk = list;
     walk.next().is_none()
 }
 
 /// Returns whether there are no key shares.
-fn has_no_share(bytes: &[u8]) -> bool {
+#[tactic(auto, using(crate::proofs::ListLemmas::empty_map))]
+fn has_no_share(bytes: &[u8]) -> bool
+    ensures { result ≡ is_empty_list (share_groups bytes.now) }
+{
     let mut walk: Items<KeyShareEntry> = Items::new(bytes);
     walk.next().is_none()
 }
@@ -128,7 +140,10 @@ fn hand_specs<T: TakesTexts>(
 
 impl Texts<'_> {
     /// Returns whether the list is empty.
-    pub fn is_empty(&self) -> bool {
+    #[tactic(auto, using(crate::proofs::ListLemmas::empty_map, crate::proofs::ListLemmas::empty_length))]
+    pub fn is_empty(&self) -> bool
+        ensures { result ≡ is_empty_list (texts_of self.now) }
+    {
         match self {
             Texts::Owned(all) => all.is_empty(),
             Texts::Versions(list) => has_none(*list),
@@ -198,7 +213,10 @@ impl<S: Serializer> TakesTexts for Sends<'_, S> {
 }
 
 /// Returns a list of texts as a value; `None` if it is empty.
-pub fn some_texts(texts: Texts<'_>) -> Option<Cell<'_>> {
+#[tactic(auto, unfolding(crate::specs::Data::some_texts))]
+pub fn some_texts(texts: Texts<'_>) -> Option<Cell<'_>>
+    ensures { value_of result ≡ texts_if_any (texts_of texts.entry) }
+{
     if texts.is_empty() {
         return None;
     }
@@ -234,7 +252,9 @@ impl Numbers<'_> {
     }
 
     /// Returns how many numbers there are.
-    pub fn len(&self) -> usize {
+    pub fn len(&self) -> usize
+        ensures { result ≡ length (numbers_of self.now) }
+    {
         match self {
             Numbers::Codes(codes) => codes.len(),
             Numbers::Owned(all) => all.len(),
@@ -243,7 +263,10 @@ impl Numbers<'_> {
 }
 
 /// Returns a list of numbers as a value; `None` if it is empty.
-pub fn some_numbers(numbers: Numbers<'_>) -> Option<Cell<'_>> {
+#[tactic(auto, using(crate::proofs::ListLemmas::empty_length), unfolding(crate::specs::Data::some_numbers))]
+pub fn some_numbers(numbers: Numbers<'_>) -> Option<Cell<'_>>
+    ensures { value_of result ≡ numbers_if_any (numbers_of numbers.entry) }
+{
     if numbers.len() == 0 {
         return None;
     }

@@ -1,5 +1,8 @@
 //! Names of cipher suites.
 ghost use Rattle.std.specs.Prelude.{◌≡◌};
+ghost use Rattle.std.specs.Option.{option_map};
+ghost use Rattle.log_formats.specs.Data.{some_suite, value_of};
+ghost use Rattle.log_formats.specs.Texts.{spec_text as spec_text_of, suite_text, text_bytes};
 ghost use Rattle.log_formats.specs.Suites.{are_numbered as are_numbered_in};
 
 use crate::cell::Cell;
@@ -89,7 +92,10 @@ impl Suites {
     }
 
     /// Returns a suite's name, or else its number.
-    pub fn text(&self, suite: TlsCipherSuiteID) -> Text<'_> {
+    #[tactic(auto, unfolding(crate::specs::Texts::suite_text))]
+    pub fn text(&self, suite: TlsCipherSuiteID) -> Text<'_>
+        ensures { text_bytes result ≡ suite_text self.now suite.0 }
+    {
         match self.names.get(&suite.0) {
             Some(name) => Text::Plain(name.as_str()),
             None => match self.others {
@@ -100,7 +106,10 @@ impl Suites {
     }
 
     /// Returns a suite's name or number, if there is a suite.
-    pub fn some_text(&self, suite: Option<TlsCipherSuiteID>) -> Option<Cell<'_>> {
+    #[tactic(auto, unfolding(crate::specs::Data::some_suite))]
+    pub fn some_text(&self, suite: Option<TlsCipherSuiteID>) -> Option<Cell<'_>>
+        ensures { value_of result ≡ some_suite self.now (option_map (λ s. s.0) suite) }
+    {
         match suite {
             Some(suite) => Some(Cell::Text(self.text(suite))),
             None => None,
@@ -108,7 +117,10 @@ impl Suites {
     }
 
     /// Returns a CipherSpec's name: that of its TLS suite, or else its number in 6 digits.
-    pub fn spec_text(&self, spec: CipherSpec) -> Text<'_> {
+    #[tactic(auto, unfolding(crate::specs::Texts::spec_text))]
+    pub fn spec_text(&self, spec: CipherSpec) -> Text<'_>
+        ensures { text_bytes result ≡ spec_text_of self.now spec.0 }
+    {
         match spec.suite() {
             Some(suite) => self.text(suite),
             None => Text::LongCode(spec.0),

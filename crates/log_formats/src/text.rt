@@ -1,4 +1,15 @@
 //! Texts: our names, numbers in hexadecimal, and what a peer sent.
+ghost use Rattle.std.specs.Prelude.{◌≡◌, ◌++◌, ◌∷◌, [], Some, IfOk, OnOk, IsOkAnd};
+ghost use Rattle.std.specs.Option.{option_map};
+ghost use Rattle.std.specs.String.{string_bytes};
+ghost use Rattle.log_formats.specs.Data.{cell_data, marked, text_data, value_of};
+ghost use Rattle.log_formats.specs.Data.{some_digits as digits_of, some_escaped as escaped_of};
+ghost use Rattle.log_formats.specs.Data.{some_group as group_of, some_text as text_of};
+ghost use Rattle.log_formats.specs.Data.{some_version as version_of};
+ghost use Rattle.log_formats.specs.Texts.{extension_text, group_text, text_bytes};
+ghost use Rattle.log_formats.specs.Texts.{typed_text as typed_text_of};
+ghost use Rattle.log_formats.specs.Texts.{name_or_number as name_or_number_of};
+
 use crate::cell::Cell;
 use crate::versions::zeek_version;
 use serde::{Described, Serialize, Serializer};
@@ -6,6 +17,7 @@ use std::alloc::{AllocError, Global};
 use std::fmt::{self, Display, Formatter};
 use std::net::{IpAddr, Ipv4Addr};
 use std::str;
+use text_forms::escaped::escaped_text;
 use tls_base::{NamedGroup, SignatureScheme, TlsExtensionType, TlsVersion};
 
 /// How many bytes are written in hexadecimal at once: as many as a fingerprint or a session id has.
@@ -26,8 +38,6 @@ pub enum Text<'a> {
     Digits(&'a [u8]),
     /// What a peer sent. Bytes other than printable ASCII are escaped as `\xff`, and `\` as `\\`.
     Escaped(&'a [u8]),
-    /// What a peer sent, behind the number of its type, such as `1:name`.
-    Typed(u8, &'a [u8]),
     /// One of our names behind a position, such as `0:verify`.
     Placed(usize, &'a str),
     /// A signature scheme's name, or else its number.
@@ -120,10 +130,6 @@ impl Display for Text<'_> {
             Text::LongCode(code) => write!(f, "0x{:06x}", *code),
             Text::Digits(bytes) => write_digits(f, bytes),
             Text::Escaped(bytes) => write_escaped(f, bytes),
-            Text::Typed(kind, name) => {
-                write!(f, "{kind}:")?;
-                write_escaped(f, name)
-            }
             Text::Placed(place, name) => write!(f, "{place}:{name}"),
             Text::Scheme(scheme) => write_scheme(f, *scheme),
             Text::Version(version) => write_version(f, *version),
@@ -246,7 +252,9 @@ impl Serialize for Text<'_> {
 }
 
 /// Returns the name, or else the number.
-pub fn name_or_number<'a>(name: Option<&'a str>, n: u16) -> Text<'a> {
+pub fn name_or_number<'a>(name: Option<&'a str>, n: u16) -> Text<'a>
+    ensures { text_bytes result ≡ name_or_number_of (option_map (λ t. t.now) name.entry) n }
+{
     match name {
         Some(name) => Text::Plain(name),
         None => Text::Code(n),
@@ -254,27 +262,48 @@ pub fn name_or_number<'a>(name: Option<&'a str>, n: u16) -> Text<'a> {
 }
 
 /// Returns a group's name or number.
-pub fn group<'a>(group: NamedGroup) -> Text<'a> {
+#[tactic(auto, unfolding(crate::specs::Texts::group_text))]
+pub fn group<'a>(group: NamedGroup) -> Text<'a>
+    ensures { text_bytes result ≡ group_text group.0 }
+{
     name_or_number(group.registered_name(), group.0)
 }
 
 /// Returns an extension type's name or number.
-pub fn extension<'a>(kind: TlsExtensionType) -> Text<'a> {
+#[tactic(auto, unfolding(crate::specs::Texts::extension_text))]
+pub fn extension<'a>(kind: TlsExtensionType) -> Text<'a>
+    ensures { text_bytes result ≡ extension_text kind.0 }
+{
     name_or_number(kind.registered_name(), kind.0)
 }
 
 /// Returns an owned text as a value.
-pub fn some_text<'a>(text: Result<String, AllocError>) -> Result<Option<Cell<'a>>, AllocError> {
+pub fn some_text<'a>(text: Result<String, AllocError>) -> Result<Option<Cell<'a>>, AllocError>
+    ensures { IfOk result
+        (λ cell. IsOkAnd text (λ t. value_of cell ≡ Some (text_data (string_bytes t)))) }
+{
     Ok(Some(Cell::Text(Text::Owned(text?))))
 }
 
+/// Returns an owned text as the value of a field.
+pub fn owned_text<'a>(text: String) -> Option<Cell<'a>>
+    ensures { value_of result ≡ Some (text_data (string_bytes text)) }
+{
+    Some(Cell::Text(Text::Owned(text)))
+}
+
 /// Returns one of our names as a value.
-pub fn name_cell<'a>(name: &'static str) -> Cell<'a> {
+pub fn name_cell<'a>(name: &'static str) -> Cell<'a>
+    ensures { cell_data result ≡ text_data name.entry.now }
+{
     Cell::Text(Text::Plain(name))
 }
 
 /// Returns one of our names as a value, if there is one.
-pub fn some_name<'a>(name: Option<&'static str>) -> Option<Cell<'a>> {
+#[tactic(auto, unfolding(crate::specs::Data::some_text))]
+pub fn some_name<'a>(name: Option<&'static str>) -> Option<Cell<'a>>
+    ensures { value_of result ≡ text_of (option_map (λ t. t.now) name.entry) }
+{
     match name {
         Some(name) => Some(Cell::Text(Text::Plain(name))),
         None => None,
@@ -282,7 +311,10 @@ pub fn some_name<'a>(name: Option<&'static str>) -> Option<Cell<'a>> {
 }
 
 /// Returns a version as a value, if there is one.
-pub fn some_version<'a>(chosen: Option<TlsVersion>) -> Option<Cell<'a>> {
+#[tactic(auto, unfolding(crate::specs::Data::some_version))]
+pub fn some_version<'a>(chosen: Option<TlsVersion>) -> Option<Cell<'a>>
+    ensures { value_of result ≡ version_of (option_map (λ v. v.0) chosen) }
+{
     match chosen {
         Some(chosen) => Some(Cell::Text(Text::Version(chosen))),
         None => None,
@@ -290,7 +322,10 @@ pub fn some_version<'a>(chosen: Option<TlsVersion>) -> Option<Cell<'a>> {
 }
 
 /// Returns a group as a value, if there is one.
-pub fn some_group<'a>(chosen: Option<NamedGroup>) -> Option<Cell<'a>> {
+#[tactic(auto, unfolding(crate::specs::Data::some_group))]
+pub fn some_group<'a>(chosen: Option<NamedGroup>) -> Option<Cell<'a>>
+    ensures { value_of result ≡ group_of (option_map (λ g. g.0) chosen) }
+{
     match chosen {
         Some(chosen) => Some(Cell::Text(group(chosen))),
         None => None,
@@ -298,7 +333,10 @@ pub fn some_group<'a>(chosen: Option<NamedGroup>) -> Option<Cell<'a>> {
 }
 
 /// Returns what a peer sent as a value, if it sent something.
-pub fn some_escaped(bytes: Option<&[u8]>) -> Option<Cell<'_>> {
+#[tactic(auto, unfolding(crate::specs::Data::some_escaped))]
+pub fn some_escaped(bytes: Option<&[u8]>) -> Option<Cell<'_>>
+    ensures { value_of result ≡ escaped_of (option_map (λ b. b.now) bytes.entry) }
+{
     match bytes {
         Some(bytes) => Some(Cell::Text(Text::Escaped(bytes))),
         None => None,
@@ -306,7 +344,10 @@ pub fn some_escaped(bytes: Option<&[u8]>) -> Option<Cell<'_>> {
 }
 
 /// Returns bytes in hexadecimal as a value, if there are any.
-pub fn some_digits(bytes: Option<&[u8]>) -> Option<Cell<'_>> {
+#[tactic(auto, unfolding(crate::specs::Data::some_digits))]
+pub fn some_digits(bytes: Option<&[u8]>) -> Option<Cell<'_>>
+    ensures { value_of result ≡ digits_of (option_map (λ b. b.now) bytes.entry) }
+{
     match bytes {
         Some(bytes) => Some(Cell::Text(Text::Digits(bytes))),
         None => None,
@@ -314,12 +355,22 @@ pub fn some_digits(bytes: Option<&[u8]>) -> Option<Cell<'_>> {
 }
 
 /// Appends a text to a list.
-pub fn add_text(
-    texts: &mut Vec<String>,
-    text: Result<String, AllocError>,
-) -> Result<(), AllocError> {
+pub fn add_text(texts: &mut Vec<String>, text: Result<String, AllocError>) -> Result<(), AllocError>
+    ensures { OnOk result (IsOkAnd text (λ t. texts.new.items ≡ texts.old.items ++ t ∷ [])) }
+{
     texts.push(text?)?;
     Ok(())
+}
+
+/// Returns what a peer sent, behind the number of its type, such as `1:name`.
+pub fn typed_text(alloc: Global, kind: u8, name: &[u8]) -> Result<String, AllocError>
+    ensures { IfOk result (λ text. string_bytes text ≡ typed_text_of kind name.now) }
+{
+    let mut text = String::new(alloc);
+    text.push_str(itoa::Buffer::new().format(kind))?;
+    text.push(':')?;
+    text.push_str(escaped_text(alloc, name)?.as_str())?;
+    Ok(text)
 }
 
 /// Returns bytes in hexadecimal.
@@ -328,7 +379,10 @@ pub fn hexadecimal(alloc: Global, bytes: &[u8]) -> Result<String, AllocError> {
 }
 
 /// Returns true as a value, or `None` instead of false.
-pub fn some_mark<'a>(is_there: bool) -> Option<Cell<'a>> {
+#[tactic(auto, unfolding(crate::specs::Data::marked))]
+pub fn some_mark<'a>(is_there: bool) -> Option<Cell<'a>>
+    ensures { value_of result ≡ marked is_there }
+{
     if is_there {
         return Some(Cell::Mark(true));
     }

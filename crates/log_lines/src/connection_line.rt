@@ -1,5 +1,7 @@
 //! The line of a connection as a JSON object. Each field is written as soon as it is computed. The
 //! text of a list or certificate that was written before is copied from a cache.
+ghost use Rattle.std.specs.Prelude.{⊤};
+
 use crate::style::Style;
 use log_fields::connection::compute;
 use log_fields::context::FieldContext;
@@ -70,6 +72,9 @@ impl FieldWriter<'_> {
 }
 
 impl<'a> TakesCell<'a> for FieldWriter<'_> {
+    // (no clause says yet what the line gets)
+    ghost HasTaken = { λ value old new. ⊤ };
+
     #[inline(always)]
     fn take(&mut self, cell: Option<Cell<'a>>) -> Result<(), AllocError> {
         match &cell {

@@ -8,7 +8,7 @@ use Rattle.arrivals.specs.declared.arrival.Arrival.{Arrival}
 use Rattle.arrivals.specs.declared.arrival.Arrival.TheVariants as arrival
 use Rattle.connections.proofs.DropLemmas.{dropping_alone, waiting_alone}
 use Rattle.connections.proofs.TableLemmas.{at_first, at_written, is_five_tuple-refl, others-first}
-use Rattle.connections.specs.Connection.{adds_nothing, counted, counted_from, counts_from, dropped_from, dropping, judgement_of, keeping_data, keeping_data_if, is_taken, noting, noting_from, part_by, side_of, silent, verdict_of, with_waiting, Accepts as TakesIn, PutsData, PutsFrom, PutsPart, TakesBehind as CountsBehind}
+use Rattle.connections.specs.Connection.{adds_nothing, counted, counted_from, counts_from, dropped_from, dropping, has_opening, judgement_of, keeping_data, keeping_data_if, is_taken, noting, noting_from, part_by, side_of, silent, verdict_of, with_waiting, Accepts as TakesIn, PutsData, PutsFrom, PutsPart, TakesBehind as CountsBehind}
 use Rattle.connections.specs.Datagram.{five_tuple_of_datagram}
 use Rattle.connections.specs.FiveTuple.{is_five_tuple}
 use Rattle.connections.specs.Memory.{IsSettled}
@@ -26,10 +26,11 @@ use Rattle.connections.specs.declared.receiver.Judgement.{Judgement}
 use Rattle.connections.specs.declared.receiver.Judgement.TheVariants as judgement
 use Rattle.connections.specs.declared.segment.Segment.{Segment}
 use Rattle.connections.specs.Waiting.{Kept}
+use Rattle.log_connections.specs.Analysis.{is_followed_in}
 use Rattle.log_connections.specs.declared.analysis.TlsAnalysis.{TlsAnalysis}
 use Rattle.log_connections.specs.declared.exchanges.Delivery.{Delivery}
 use Rattle.log_connections.specs.declared.exchanges.Delivery.TheVariants as delivery
-use Rattle.log_connections.specs.Log.{Accepts, AcceptsAt, AcceptsDelivered, AcceptsIf, AcceptsJudged, BeginsUnless, AnalyzesAcknowledged, AnalyzesKept, AnalyzesOne, AnalyzesPending, AnalyzesSegment, AnalyzesSide, Logs, LogsDatagram, Settles, Takes, TakesBehind, TakesIf, enough, had, no_more, none, one_then, taken}
+use Rattle.log_connections.specs.Log.{Accepts, AcceptsAt, AcceptsDelivered, AcceptsIf, AcceptsJudged, BeginsUnless, AnalyzesAcknowledged, AnalyzesKept, AnalyzesOne, AnalyzesPending, AnalyzesSegment, AnalyzesSender, AnalyzesSide, AnalyzesWaiting, FollowsIf, FollowsOpened, Logs, LogsDatagram, Settles, Takes, TakesBehind, TakesIf, enough, had, no_more, none, one_then, taken}
 
 module _ {T : Type 0} where
   -- The connection of a five-tuple ended; it came first, with this last time; it changed in its
@@ -215,12 +216,35 @@ module _ {K : Type 0} (f : FiveTuple) where
       left (ap (λ t. t.live) same ∙ ap (others f) stands ∙ others-first f (others f base) its)
 
 module _ {K : Type 0} (s : Segment) where
+  sender_time : (side : Side) (c c' : Connection (TlsAnalysis K)) → AnalyzesSender s side c c'
+      → c'.last_time ≡ c.last_time
+  sender_time Originator c c' h =
+      ap {A = Connection (TlsAnalysis K)} (λ x. x.last_time) h.3
+  sender_time Responder c c' h =
+      ap {A = Connection (TlsAnalysis K)} (λ x. x.last_time) h.3
+
+  waiting_time : (side : Side) (c d : Connection (TlsAnalysis K)) → AnalyzesWaiting side c d
+      → d.last_time ≡ c.last_time
+  waiting_time Originator c d h = ap {A = Connection (TlsAnalysis K)} (λ x. x.last_time) h.1
+  waiting_time Responder c d h = ap {A = Connection (TlsAnalysis K)} (λ x. x.last_time) h.1
+
+  opened_time : (b : Bool) (side : Side) (c d : Connection (TlsAnalysis K))
+      → FollowsOpened b side c d → d.last_time ≡ c.last_time
+  opened_time true side c d h =
+      waiting_time side h.second d h.waiting
+      ∙ ap {A = Connection (TlsAnalysis K)} (λ x. x.last_time) h.same
+  opened_time false side c d h = ap {A = Connection (TlsAnalysis K)} (λ x. x.last_time) h
+
+  followed_time : (b : Bool) (side : Side) (c d : Connection (TlsAnalysis K))
+      → FollowsIf b side c d → d.last_time ≡ c.last_time
+  followed_time true side c d h = opened_time (has_opening c) side c d h
+  followed_time false side c d h = ap {A = Connection (TlsAnalysis K)} (λ x. x.last_time) h
+
   analyzed_time : (side : Side) (c c' : Connection (TlsAnalysis K)) → AnalyzesSide s side c c'
       → c'.last_time ≡ c.last_time
-  analyzed_time Originator c c' h =
-      ap {A = Connection (TlsAnalysis K)} (λ x. x.last_time) h.3
-  analyzed_time Responder c c' h =
-      ap {A = Connection (TlsAnalysis K)} (λ x. x.last_time) h.3
+  analyzed_time side c c' h =
+      sender_time side h.0 c' h.2
+      ∙ followed_time (has_data s && is_followed_in c.attachment.transport) side c h.0 h.1
 
   segment_time : (old new : Table (TlsAnalysis K)) (h : AnalyzesSegment s old new)
       → h.its.last_time ≡ s.time

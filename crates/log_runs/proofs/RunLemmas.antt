@@ -51,7 +51,7 @@ module _ {K : Type 0} (e : FiveTuple) where
       → count_of e new.live ≡ count_of e old.live
   lent_count f None old new same = ap (λ t. count_of e t.live) same
   lent_count f (Some c) old new lent =
-      ap (λ t. count_of e t.live) lent.1 ∙ count-written e f old.live lent.0
+      ap (λ t. count_of e t.live) lent.2 ∙ count-written e f old.live lent.0
 
   noted_count : (b : Bool) (a : Arrival) (n : ℕ) (t : Table (TlsAnalysis K))
       → count_of e (noted_if b a n t).live ≡ count_of e t.live

@@ -27,7 +27,7 @@ use Rattle.log_runs.proofs.OwnLemmas.Agrees.{standing}
 use Rattle.log_runs.proofs.PlaceLemmas.{Placed, accepts_placed, placed_same, then_written}
 use Rattle.log_runs.specs.Parts.{is_of_part}
 use Rattle.log_runs.specs.Runs.{HandlesEach, IsRun, ended_in, log_of, none_yet, one_more, outs_by, outs_in, outs_of, outs_over, refused_in}
-use Rattle.log_runs.specs.Sharing.{Behavior, BehavesIn, BehavesOf, BehavesOver, Distinct, HasRoom, HasRoomOver, InOrder, InTime, IsPlain, KeepsTime, KeepsTimeOf, PlainRun, RoomOf, arrivals_in, arrivals_of, arrivals_over, is_idle, last_time, of_part, own, recent, time_behind, views}
+use Rattle.log_runs.specs.Sharing.{Behavior, BehavesIn, BehavesOf, BehavesOver, Distinct, HasRoom, HasRoomOver, InOrder, InTime, IsPlain, PlainRun, RoomOf, arrivals_in, arrivals_of, arrivals_over, is_idle, last_time, of_part, own, recent, time_behind, views}
 
 snoc_nil : {X : Type 0} (xs : List X) (x : X) → xs ++ x ∷ [] ≡ [] → ⊥
 snoc_nil [] x h = cc
@@ -72,26 +72,26 @@ module _ {K : Type 0} where
   lent_placed : (f : FiveTuple) (time : ℕ)
       (base : List (FiveTuple × Connection (TlsAnalysis K)))
       (o : Option (Connection (TlsAnalysis K))) (mid new : Table (TlsAnalysis K))
-      → at f (others f base) ≡ None → at f mid.live ≡ o → (lent : IsLent f o mid new)
-      → KeepsTimeOf f o mid new lent → Placed f time base mid.live
+      → at f (others f base) ≡ None → at f mid.live ≡ o → IsLent f o mid new → Placed f time base mid.live
       → Placed f time base new.live
-  lent_placed f time base None mid new single missed lent keeps p =
+  lent_placed f time base None mid new single missed lent p =
       placed_same (ap (λ t. t.live) lent) p
-  lent_placed f time base (Some c) mid new single found lent keeps p =
-      then_written c lent.0 single found keeps (ap (λ t. t.live) lent.1) p
+  lent_placed f time base (Some c) mid new single found lent p =
+      then_written c lent.0 single found (ap (λ x. x.last_time) lent.1)
+      (ap (λ t. t.live) lent.2) p
 
 module _ {K : Type 0} {M : K → ℕ} {a : Arrival} where
   arrives_placed : {old new : Table (TlsAnalysis K)}
       {before after : Option (List (Connection (TlsAnalysis K)))}
-      (h : Arrives M a old new before after) → refused_in h ≡ [] → KeepsTime h
+      (h : Arrives M a old new before after) → refused_in h ≡ []
       → Distinct old.live → Placed (five_tuple_in a) (time_of a) old.live new.live
-  arrives_placed {old} {new} (ends over accepts received) held keeps d =
+  arrives_placed {old} {new} (ends over accepts received) held d =
       accepts_placed M a old new (Some over) (alone (five_tuple_in a) old.live d) accepts
-  arrives_placed {old} {new} (goes_on mid accepts lent received) held keeps d =
+  arrives_placed {old} {new} (goes_on mid accepts lent received) held d =
       lent_placed (five_tuple_in a) (time_of a) old.live (at (five_tuple_in a) mid.live) mid new
-      (alone (five_tuple_in a) old.live d) refl lent keeps
+      (alone (five_tuple_in a) old.live d) refl lent
       (accepts_placed M a old mid None (alone (five_tuple_in a) old.live d) accepts)
-  arrives_placed (is_refused mid over refuses others ended) held keeps d = cc
+  arrives_placed (is_refused mid over refuses others ended) held d = cc
 
   module _ {V A : Type 0} (b : Behavior K V A) where
     arrives_apart : {old new : Table (TlsAnalysis K)}
@@ -114,7 +114,7 @@ module _ {K : Type 0} {M : K → ℕ} {a : Arrival} where
         → InTime s old.live → Distinct new.live × InTime (time_of a) new.live
     in_order_behind room s le d i =
         let on = ended_order s p.idle.ended d i in
-        let placed = arrives_placed p.arrives room.none_refused room.times on.0 in (
+        let placed = arrives_placed p.arrives room.none_refused on.0 in (
           subst (λ l. Distinct l) (sym (full_is room)) (distinct_placed placed on.0),
           subst (λ l. InTime (time_of a) l) (sym (full_is room))
               (in_time_placed s placed le on.1),
@@ -135,7 +135,7 @@ module _ {K : Type 0} {M : K → ℕ} {a : Arrival} where
         → Placed (five_tuple_in a) (time_of a) p.awake.live new.live
     placed_behind room d s i =
         placed_same (full_is room)
-        (arrives_placed p.arrives room.none_refused room.times
+        (arrives_placed p.arrives room.none_refused
         (ended_order s p.idle.ended d i).0)
 
 module _ {K V A : Type 0} (b : Behavior K V A) where

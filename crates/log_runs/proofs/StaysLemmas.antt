@@ -138,7 +138,7 @@ module _ {K : Type 0} (M : K → ℕ) (e : FiveTuple) where
       → IsLent f o old new → at e new.live ≡ at e old.live
   lent_stays f apart None old new same = ap (λ t. at e t.live) same
   lent_stays f apart (Some c) old new lent =
-      ap (λ t. at e t.live) lent.1
+      ap (λ t. at e t.live) lent.2
       ∙ at_by_rest f e apart old.live _ (rest-written f old.live lent.0)
 
   refused_stays : (f : FiveTuple) → is_five_tuple f e ≡ false

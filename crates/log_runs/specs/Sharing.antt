@@ -11,8 +11,7 @@ use Rattle.connections.specs.declared.connection.Connection.{Connection}
 use Rattle.connections.specs.declared.five_tuple.FiveTuple.{FiveTuple}
 use Rattle.connections.specs.declared.table.TheConstants.{IDLE_LIMIT, MAX_CONNECTIONS}
 use Rattle.packets.specs.Section.{Packet}
-use Rattle.log_connections.specs.Packet.{Arrives, HandlesContent, IsLent, Processes, ends, goes_on}
-use Rattle.log_connections.specs.Packet.Arrives.{is_refused}
+use Rattle.log_connections.specs.Packet.{HandlesContent, Processes}
 use Rattle.log_connections.specs.Reading.{Content, InFragments, Nothing, Whole}
 use Rattle.log_connections.specs.Sink.{EndInTurn, as_list}
 use Rattle.log_connections.specs.Sink.EndInTurn.{none, one}
@@ -88,30 +87,15 @@ module _ {K V A : Type 0} (b : Behavior K V A) where
           (f : FiveTuple) → is_five_tuple (five_tuple_in a) f ≡ false
           → at f new.closed ≡ recent (time_of a) (at f old.closed)
 
--- A sink doesn't change the last time of a connection that it is lent.
-abbrev pub KeepsTimeOf : {K : Type 0} (e : FiveTuple) (o : Option (Connection (TlsAnalysis K)))
-    (old new : Table (TlsAnalysis K)) → IsLent e o old new → Type 0
-KeepsTimeOf e None old new lent = ⊤
-KeepsTimeOf e (Some c) old new lent = lent.0.last_time ≡ c.last_time
-
 module _ {K : Type 0} {M : K → ℕ} where
-  abbrev pub KeepsTime : {a : Arrival} {old new : Table (TlsAnalysis K)}
-      {before after : Option (List (Connection (TlsAnalysis K)))}
-      → Arrives M a old new before after → Type 0
-  KeepsTime (ends over accepts received) = ⊤
-  KeepsTime {a} {old} {new} (goes_on mid accepts lent received) =
-      KeepsTimeOf (five_tuple_in a) (at (five_tuple_in a) mid.live) mid new lent
-  KeepsTime (is_refused mid over refuses others ended) = ⊤
-
   -- No limit is reached: there aren't too many connections, none ends for memory, and none is
-  -- refused. A sink leaves times as they are.
+  -- refused.
   pub record HasRoom {a : Arrival} {limit : ℕ} {old new : Table (TlsAnalysis K)}
       {before after : Option (List (Connection (TlsAnalysis K)))}
       (p : Processes M a limit old new before after) : Type 0 where
     pub few : length old.live ≤ MAX_CONNECTIONS
     pub none_refused : refused_in p.arrives ≡ []
     pub none_evicted : ended_in p.evicted.ended ≡ []
-    pub times : KeepsTime p.arrives
 
 -- The same of a packet's content, reassembled datagrams aside.
 module _ {K : Type 0} (M : K → ℕ) (limit : ℕ) (old new : Table (TlsAnalysis K))

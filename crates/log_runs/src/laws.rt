@@ -151,8 +151,7 @@ pub fn only_idle_connections_time_out<K>()
 {}
 
 /// Where times don't run back, the connections stay in the order of their last packets, and each
-/// that is idle is over before an arrival is accepted. This is where no limit is reached, and no
-/// sink changes times.
+/// that is idle is over before an arrival is accepted. This is where no limit is reached.
 pub fn connections_stay_in_the_order_of_their_packets<K>()
     ensures order { (M : K → ℕ) (a : Arrival) (limit : ℕ) (old new : Table (TlsAnalysis K))
         (before after : Option (List (Connection (TlsAnalysis K))))

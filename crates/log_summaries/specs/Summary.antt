@@ -7,7 +7,7 @@ use Rattle.connections.specs.declared.connection.Side.TheVariants.{Originator, R
 use Rattle.connections.specs.declared.five_tuple.End.{End}
 use Rattle.tls_summary.specs.HandshakeSummary.{view_summary}
 use Rattle.log_connections.specs.Accessors.{HasHandshake, HasHistory, HasOutcome, HasStop, IsEstablishedBy, IsResumedBy, LacksFront, records_of}
-use Rattle.log_connections.specs.Analysis.{direction_of, preamble_of, tunnels_in}
+use Rattle.log_connections.specs.Analysis.{dialogue_of, direction_of, preamble_of, tunnels_in}
 use Rattle.log_connections.specs.declared.analysis.TlsAnalysis.{TlsAnalysis}
 use Rattle.log_fields.specs.declared.summary.Party.{Party}
 use Rattle.log_fields.specs.declared.summary.Summary.{Summary}
@@ -47,4 +47,5 @@ pub record IsSummary (c : Connection (TlsAnalysis CollectedPieces)) (s : Summary
   pub ended_early : s.is_ended_early ≡ c.attachment.is_ended_early
   pub client_chain : s.client_chain.now ≡ chain_in ToServer (collector_of c.attachment)
   pub server_chain : s.server_chain.now ≡ chain_in FromServer (collector_of c.attachment)
+  pub dialogue : s.dialogue ≡ dialogue_of c.attachment.transport
   pub tunnels : s.tunnels.now ≡ tunnels_in c.attachment.tunnels

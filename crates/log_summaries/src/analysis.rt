@@ -220,6 +220,7 @@ pub fn summary(connection: &Connection<Analysis>) -> Summary<'_>
         is_established: analysis.is_established(),
         is_resumed: analysis.is_resumed(),
         is_ended_early: analysis.is_ended_early,
+        dialogue: analysis.dialogue(),
         tunnels: analysis.tunnels(),
     }
 }

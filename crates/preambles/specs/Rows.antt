@@ -1,5 +1,5 @@
 -- The grammar of dialogues: for each phase, which side it reads, how far, and what follows.
-use Rattle.std.specs.Prelude.{ℕ, Bool, ◌&&◌, ◌||◌, ◌==◌, nat_le, if◌then◌else◌, List, [], ◌∷◌, codes, Option, Some, None}
+use Rattle.std.specs.Prelude.{ℕ, Bool, true, false, ◌&&◌, ◌||◌, ◌==◌, nat_le, if◌then◌else◌, List, [], ◌∷◌, codes, Option, Some, None}
 use Rattle.std.specs.Str.{bytes_eq}
 use Rattle.preambles.specs.Lines.{answer, behind_answer, greeting, greeting_rest, irc_answer, is_starttls}
 use Rattle.preambles.specs.Ldap.{ldap_frame, ldap_next, ldap_reads}
@@ -152,3 +152,16 @@ next p b = packet_next p b
 unfoldable pub outcome_of : Phase → Outcome
 outcome_of (Over o) = o
 outcome_of p = Undecided
+
+-- What was read before these phases shows the protocol: a greeting, or a line that no other protocol
+-- begins with. Any number of lines may follow. In front of the others a few packets were read.
+unfoldable pub recognizes : Phase → Bool
+recognizes (GreetingRest d c) = true
+recognizes (Command d) = true
+recognizes (Value d) = true
+recognizes (Reply d c) = true
+recognizes (Listing d) = true
+recognizes IrcCommand = true
+recognizes IrcReply = true
+recognizes (Connect q) = true
+recognizes p = false

@@ -2,11 +2,11 @@
 ghost use Rattle.std.specs.Prelude.{◌≡◌, ◌≤◌, ◌<◌, ℕ, List, drop, length, false};
 ghost use Rattle.preambles.specs.Fronts.{bytes_of};
 ghost use Rattle.preambles.specs.Walk.{begun, cased as cased_of, enter as begin, is_due as due, is_end as end, keeps as kept_in, kept_with as kept_bytes_with, left_in, read as read_of, step as step_of, view, walk_behind, IsNextDue};
-ghost use Rattle.preambles.specs.Rows.{outcome_of as outcome, reads};
+ghost use Rattle.preambles.specs.Rows.{outcome_of as outcome, reads, recognizes as recognized};
 
 use crate::front::Front;
 use crate::phase::{Frame, Outcome, Phase, Side};
-use crate::rows::{frame_of, is_text, next, outcome_of, reads as side_read};
+use crate::rows::{frame_of, is_text, next, outcome_of, reads as side_read, recognizes};
 
 /// Whether a byte is the last of its line or packet; `is_first` says that none is kept before it.
 #[tactic(auto, unfolding(crate::specs::Walk::is_end))]
@@ -110,6 +110,14 @@ impl Preamble {
         ensures { result ≡ reads (view self.now).phase }
     {
         side_read(self.phase)
+    }
+
+    /// Returns whether the bytes that were read show the protocol, of which any number of lines may
+    /// follow. Until then a dialogue that turns out to be none was a few lines or packets long.
+    pub fn is_recognized(&self) -> bool
+        ensures { result ≡ recognized (view self.now).phase }
+    {
+        recognizes(self.phase)
     }
 
     /// Whether the bytes of a side are read next.

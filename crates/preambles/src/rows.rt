@@ -1,6 +1,6 @@
 //! Each phase's row: which side it reads, how far, and what follows.
 ghost use Rattle.std.specs.Prelude.{◌≡◌};
-ghost use Rattle.preambles.specs.Rows.{first_byte as behind_first_byte, packet_next as behind_packet, packet_reads as side_of_packet, first_line as first_line_of, first_unit, frame_of as frame, irc_command as behind_irc_command, is_plain_http as is_http, is_text as text, next as next_of, outcome_of as outcome, reads as side_of, value as value_of};
+ghost use Rattle.preambles.specs.Rows.{first_byte as behind_first_byte, packet_next as behind_packet, packet_reads as side_of_packet, first_line as first_line_of, first_unit, frame_of as frame, irc_command as behind_irc_command, is_plain_http as is_http, is_text as text, next as next_of, outcome_of as outcome, reads as side_of, recognizes as recognized, value as value_of};
 
 use crate::ldap::{ldap_frame, ldap_next, ldap_reads};
 use crate::lines::{answer, behind_answer, greeting, greeting_rest, irc_answer};
@@ -227,5 +227,23 @@ pub(crate) fn outcome_of(phase: Phase) -> Outcome
     match phase {
         Phase::Over(outcome) => outcome,
         _ => Outcome::Undecided,
+    }
+}
+
+/// Whether what was read before a phase shows the protocol, of which any number of lines may follow.
+#[tactic(auto, unfolding(crate::specs::Rows::recognizes))]
+pub(crate) fn recognizes(phase: Phase) -> bool
+    ensures { result ≡ recognized phase }
+{
+    match phase {
+        Phase::GreetingRest(_, _)
+        | Phase::Command(_)
+        | Phase::Value(_)
+        | Phase::Reply(_, _)
+        | Phase::Listing(_)
+        | Phase::IrcCommand
+        | Phase::IrcReply => true,
+        Phase::Connect(_) => true,
+        _ => false,
     }
 }

@@ -1,6 +1,7 @@
 //! Prints the lines of connections, messages and certificates.
 ghost use Rattle.std.specs.Prelude.{◌≡◌, true, OnOk};
 ghost use Rattle.std.specs.Io.KnownBytes.{Keeps};
+ghost use Rattle.log_connections.specs.Sink.{TakesPieces};
 ghost use Rattle.log_io.specs.Output.{TracksFailure};
 ghost use Rattle.tlslog.specs.Lines.{LogsConnection, are_connections};
 ghost use Rattle.tlslog.specs.Pieces.{piece_kind};
@@ -51,7 +52,8 @@ fn print_messages<W: Write>(
     time: u64,
     out: &mut Output<W>,
 ) -> Result<(), LineError>
-    ensures { TracksFailure out.old.has_failed out.new.has_failed result }
+    ensures failure { TracksFailure out.old.has_failed out.new.has_failed result }
+    ensures taken { TakesPieces connection.old connection.new }
 {
     let all = take_messages(alloc, &mut connection.attachment);
     let summary = summary(connection);
@@ -73,7 +75,8 @@ fn print_certificates<W: Write>(
     time: u64,
     out: &mut Output<W>,
 ) -> Result<(), LineError>
-    ensures { TracksFailure out.old.has_failed out.new.has_failed result }
+    ensures failure { TracksFailure out.old.has_failed out.new.has_failed result }
+    ensures taken { TakesPieces connection.old connection.new }
 {
     let all = take_certificates(alloc, &mut connection.attachment);
     let summary = summary(connection);
@@ -98,6 +101,7 @@ fn print_pieces<W: Write>(
     ensures none { are_connections printer.now.style.lines ≡ true
         → OnOk result (Keeps (W.contents out.old.writer) (W.contents out.new.writer)) }
     ensures failure { TracksFailure out.old.has_failed out.new.has_failed result }
+    ensures taken { TakesPieces connection.old connection.new }
 {
     match &printer.style.lines {
         Lines::Connections(_) => Ok(()),

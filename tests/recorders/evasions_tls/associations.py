@@ -19,6 +19,12 @@ OWN = "-cert ec.pem -key ec.key"
 PLAIN_SERVER = f"openssl s_server -accept {peers.HOST}:{SERVER_PORT} -dtls1_2 {OWN} -state"
 FIRST, SECOND = "first.test", "second.test"
 VERSIONS = (0xFE00, 0xFE7F, 0xFEFF, 0xFEFE)
+CAPTURES = Path(__file__).resolve().parents[3] / "captures"
+STORED, FRONTS = CAPTURES / "dtls", CAPTURES / "fronts"
+PORT = SERVER_PORT.to_bytes(2, "big")
+# CAPWAP's header of 8 bytes, and a control header of a Discovery Response, 2, without elements (RFC
+# 5415, sections 4.3 and 4.5.1.1).
+DISCOVERY = bytes.fromhex("00 10 02 00 00 00 00 00  00 00 00 02 00 00 03 00")
 
 
 class Identity:
@@ -105,6 +111,95 @@ def version(work: Path, folder: Path, side: str, number: int) -> tuple[Path, lis
     return file, [full(taken, port, "tshark, with the usual version")], seen
 
 
+def one_lost(folder: Path, stored: str, place: int) -> tuple[Path, list[Line], Line]:
+    """Leaves one of the first two datagrams out of a stored handshake: the client's first hello or
+    the server's HelloVerifyRequest."""
+    name, peer = ("first_hello", "question")[place], stored.partition("_")[0]
+    file = folder / f"dtls_{name}_lost_{peer}.pcap"
+    whole = packets.read((STORED / f"{stored}.pcap").read_bytes())
+    kinds = [[message.kind for _, message in dtls.messages(one.payload)] for one in whole[:2]]
+    if kinds != [[dtls.HELLO], [dtls.VERIFY]]:
+        raise ValueError(f"another beginning: {kinds}")
+    segments = whole[:place] + whole[place + 1 :]
+    # Without the hello the server is the originator. The other side then lacks its front.
+    return made(file, segments, whole, SERVER_PORT, {"gap": "resp"}, ["ssl_history"])
+
+
+def discovery_first(folder: Path) -> tuple[Path, list[Line], Line]:
+    """CAPWAP's Discovery Response, in the clear, in front of the handshake on the same ports."""
+    file = folder / "dtls_server_first_capwap.pcap"
+    whole = packets.read((FRONTS / "capwap_openssl.pcap").read_bytes())
+    segments = [reversed_with(whole[0], DISCOVERY), *whole]
+    # tshark knows the port of CAPWAP.
+    return made(file, segments, whole, None, {}, [])
+
+
+def alert_first(folder: Path) -> tuple[Path, list[Line], Line]:
+    """The second of two associations, and in front the server's alert that ended the first."""
+    file = folder / "dtls_server_first_alert.pcap"
+    whole = packets.read((folder / "dtls_second_association_broken_off.pcap").read_bytes())
+    alert = max(at for at, one in enumerate(whole) if outputs.alerts([one]) and one.tcp[:2] == PORT)
+    return made(file, whole[alert:], whole[alert + 1 :], SERVER_PORT, {}, [])
+
+
+def reversed_with(one: packets.Segment, payload: bytes) -> packets.Segment:
+    """Returns a datagram in the other direction, right in front of this one."""
+    at = packets.LINK_HEADER + 12
+    front = one.front[:at] + one.front[at + 4 : at + 8] + one.front[at : at + 4]
+    udp = one.tcp[2:4] + one.tcp[:2] + (len(payload) + 8).to_bytes(2, "big") + bytes(2)
+    return packets.Segment(one.time - 1000, front + one.front[at + 8 :], udp, payload)
+
+
+def counted(segments: list[packets.Segment]) -> Line:
+    """Returns the fields that count captured datagrams."""
+    first = segments[0].source
+    found: Line = {}
+    for side, of_side in (
+        ("orig", [one for one in segments if one.source == first]),
+        ("resp", [one for one in segments if one.source != first]),
+    ):
+        found[f"{side}_pkts"] = len(of_side)
+        found[f"{side}_bytes"] = sum(len(one.payload) for one in of_side)
+    found["duration"] = round((segments[-1].time - segments[0].time) / 1_000_000, 6)
+    return found
+
+
+def made(
+    file: Path,
+    segments: list[packets.Segment],
+    whole: list[packets.Segment],
+    port: int | None,
+    more: Line,
+    left: Collection[str],
+) -> tuple[Path, list[Line], Line]:
+    """Writes these segments, of a handshake that both sides completed. Its fields are tshark's, of
+    the handshake's own datagrams."""
+    file.write_bytes(packets.pcap([(one.time, one.frame()) for one in segments]))
+    found = datagrams.line_of(whole, port)
+    if (found["outcome"], found["established"]) != ("full", True):
+        raise ValueError(f"tshark has other fields: {found}")
+    captured = ends_of(segments[0]) | counted(segments)
+    unknown = {"ts", "uid", "community_id", *left, *datagrams.COUNTS, *captured}
+    fields = {name: value for name, value in found.items() if name not in unknown}
+    certain = list(fields)
+    absent = ["last_alert"] + ([] if more else ["gap"])
+    sources = {
+        "the captured datagrams": list(captured),
+        "tshark, of the whole handshake": [*certain, *absent],
+    }
+    if more:
+        sources["RFC 6347, 4.2.2: the first message of each side has the number 0"] = ["gap"]
+    return file, [outputs.line(captured | fields | more, absent, sources)], {"made": "not recorded"}
+
+
+def ends_of(one: packets.Segment) -> Line:
+    found: Line = {}
+    for side, (address, port) in (("orig", one.source), ("resp", one.destination)):
+        found[f"id.{side}_h"] = ".".join(map(str, address))
+        found[f"id.{side}_p"] = int.from_bytes(port, "big")
+    return found | {"proto": "udp"}
+
+
 def client_of(name: str, more: str = "") -> str:
     return f"stdbuf -oL openssl s_client -connect {peers.HOST}:{SERVER_PORT} -bind {peers.HOST}:{CLIENT_PORT} -dtls1_2 -servername {name} -state {more}"
 
@@ -179,6 +274,13 @@ def captures() -> dict[str, Callable[[Path, Path], tuple[Path, list[Line], Line]
                 side,
                 number,
             ): version(work, folder, *of)
+    for stored in ("openssl_dtls12_cookie", "gnutls_dtls12"):
+        for place, what in enumerate(("first_hello", "question")):
+            found[f"dtls_{what}_lost_{stored.partition('_')[0]}"] = (
+                lambda work, folder, of=(stored, place): one_lost(folder, *of)
+            )
+    found["dtls_server_first_capwap"] = lambda work, folder: discovery_first(folder)
+    found["dtls_server_first_alert"] = lambda work, folder: alert_first(folder)
     for way in ("closed", "broken_off", "silent", "restarted", "closed_gnutls", "silent_gnutls"):
         found[f"dtls_second_association_{way}"] = lambda work, folder, way=way: second(
             work, folder, way

@@ -146,7 +146,7 @@ def without_repeats(segments: list[packets.Segment]) -> list[packets.Segment]:
     return found
 
 
-def line_of(segments: list[packets.Segment], port: int) -> Line:
+def line_of(segments: list[packets.Segment], port: int | None) -> Line:
     """Returns tshark's line of a capture."""
     with tempfile.NamedTemporaryFile(suffix=".pcap") as file:
         Path(file.name).write_bytes(packets.pcap([(one.time, one.frame()) for one in segments]))

@@ -12,11 +12,17 @@ from tests.recorders.fronts import expected
 from tests.support.shapes import Line
 
 STORED = Path(__file__).resolve().parents[3] / "crates" / "tlslog" / "data" / "openssl_tls13.pcap"
-# Up to draft 21 the ServerHello has the form of draft 18 (draft-ietf-tls-tls13-18, section 4.1.3);
-# from draft 22 on it has the form of RFC 8446.
-DRAFTS = {"draft_14": 14, "draft_21": 21, "draft_28": 28}
+# The version's number, and its name. Up to draft 21 the ServerHello has the form of draft 18
+# (draft-ietf-tls-tls13-18, section 4.1.3); from draft 22 on it has the form of RFC 8446.
+DRAFTS = {
+    "draft_14": (0x7F0E, "TLSv13-draft14"),
+    "draft_21": (0x7F15, "TLSv13-draft21"),
+    "draft_28": (0x7F1C, "TLSv13-draft28"),
+    "draft_facebook23": (0xFB17, "TLSv13-facebook23"),
+    "draft_boringssl2": (0x7E02, "TLSv13-boringssl2"),
+}
 NAMES = [*DRAFTS]
-LAST_OLD_FORM = 21
+OLD_FORMS = range(0x7F00, 0x7F16)
 PORT = 14433
 SUPPORTED_VERSIONS = b"\x00\x2b"
 HEADERS = 9  # Those of the record and of the message.
@@ -31,7 +37,9 @@ def offered(payload: bytes, number: int) -> bytes:
     at = payload.index(SUPPORTED_VERSIONS)
     end = at + 4 + int.from_bytes(payload[at + 2 : at + 4], "big")
     return (
-        payload[:at] + payload[at:end].replace(b"\x03\x04", bytes([0x7F, number])) + payload[end:]
+        payload[:at]
+        + payload[at:end].replace(b"\x03\x04", number.to_bytes(2, "big"))
+        + payload[end:]
     )
 
 
@@ -46,16 +54,16 @@ def answered(payload: bytes, number: int) -> bytes:
     """Returns the payload with its ServerHello in the draft's form."""
     end = 5 + int.from_bytes(payload[3:5], "big")
     hello, rest = payload[HEADERS:end], payload[end:]
-    if number > LAST_OLD_FORM:
+    if number not in OLD_FORMS:
         return (
             payload[:HEADERS]
             + hello.replace(
                 SUPPORTED_VERSIONS + b"\x00\x02\x03\x04",
-                SUPPORTED_VERSIONS + b"\x00\x02" + bytes([0x7F, number]),
+                SUPPORTED_VERSIONS + b"\x00\x02" + number.to_bytes(2, "big"),
             )
             + rest
         )
-    version, random, behind = bytes([0x7F, number]), hello[2:34], hello[35 + hello[34] :]
+    version, random, behind = number.to_bytes(2, "big"), hello[2:34], hello[35 + hello[34] :]
     block = b"".join(one for one in extensions(behind[5:]) if one[:2] != SUPPORTED_VERSIONS)
     message = b"\x02" + counted(version + random + behind[:2] + counted(block, 2), 3)
     return b"\x16\x03\x01" + counted(message, 2) + rest
@@ -89,12 +97,18 @@ def made(segments: list[packets.Segment], number: int) -> Iterator[packets.Segme
 
 def record(folder: Path, name: str) -> list[Line]:
     file = folder / f"{name}.pcap"
-    segments = list(made(packets.read(STORED.read_bytes()), DRAFTS[name]))
+    number, version = DRAFTS[name]
+    segments = list(made(packets.read(STORED.read_bytes()), number))
     file.write_bytes(packets.pcap([(one.time, one.frame()) for one in segments]))
-    version = f"0x7f{DRAFTS[name]:02x}"
-    wanted.VERSIONS[0x7F00 + DRAFTS[name]] = version
+    wanted.VERSIONS[number] = version
     [found] = wanted.lines(file, PORT)
-    by_hand = {"version": version, "established": True, "outcome": "tls13", "ssl_history": "CsiI"}
+    by_hand = {
+        "version": version,
+        "resumed": False,
+        "established": True,
+        "outcome": "tls13",
+        "ssl_history": "CsiI",
+    }
     fields = {field: value for field, value in found.items() if field != "ja4"} | by_hand
     sources = {
         "draft-ietf-tls-tls13-18, 4.1.3, and -22, 4.1.3, by hand": list(by_hand),

@@ -43,7 +43,7 @@ def ends(file: Path, port: int) -> Line:
     }
 
 
-def of_front(file: Path, port: int, seen: Line) -> list[Line]:
+def of_front(file: Path, port: int, seen: Line, found_by: str) -> list[Line]:
     """Returns one line. Fields that both tshark and the peer know must agree."""
     found = wanted.lines(file)
     known = ends(file, port)
@@ -62,6 +62,7 @@ def of_front(file: Path, port: int, seen: Line) -> list[Line]:
             **known,
             "proto": "tcp",
             **by_peer,
+            "found_by": found_by,
             "outcome": "tls13" if by_peer["version"] == "TLSv13" else "full",
         }
         return [
@@ -70,6 +71,7 @@ def of_front(file: Path, port: int, seen: Line) -> list[Line]:
                 {
                     "the first packet": [*known, "proto"],
                     "seen": [*by_peer, "outcome", "last_alert", *none],
+                    "the dialogue": ["found_by"],
                 },
                 ["last_alert", *none],
             )
@@ -78,12 +80,16 @@ def of_front(file: Path, port: int, seen: Line) -> list[Line]:
     for field, value in {**known, **by_peer}.items():
         if not field.endswith("preamble_bytes") and fields[field] != value:
             raise ValueError(f"{field}: tshark {fields[field]!r}, the peer {value!r}")
-    fields |= by_peer
-    others = [field for field in fields if field not in by_peer]
+    fields |= {**by_peer, "found_by": found_by}
+    others = [field for field in fields if field not in (*by_peer, "found_by")]
     return [
         line(
             fields,
-            {"seen": [*by_peer, *none], "tshark": [*others, "last_alert", "gap"]},
+            {
+                "seen": [*by_peer, *none],
+                "tshark": [*others, "last_alert", "gap"],
+                "the dialogue": ["found_by"],
+            },
             ["last_alert", "gap", *none],
         )
     ]

@@ -14,12 +14,40 @@ from collections.abc import Callable
 from pathlib import Path
 
 from tests.recorders import peers, wanted_entries
-from tests.recorders.fronts import browser, drafts, expected, old_hello, plain, shifted, talks
+from tests.recorders.fronts import (
+    browser,
+    drafts,
+    expected,
+    misleading,
+    offers,
+    old_hello,
+    plain,
+    shifted,
+    talks,
+)
 from tests.support.shapes import Line
 
 FOLDER = Path(__file__).resolve().parents[3] / "captures/fronts"
 V12, V13 = ssl.TLSVersion.TLSv1_2, ssl.TLSVersion.TLSv1_3
 NAME = "example.test"
+# `found_by`, by a part of the capture's name.
+DIALOGUES = {
+    "smtp": "smtp",
+    "imap": "imap",
+    "pop3": "pop3",
+    "ftp": "ftp",
+    "ldap": "ldap",
+    "xmpp": "xmpp",
+    "nntp": "nntp",
+    "sieve": "sieve",
+    "mysql": "mysql",
+    "postgres": "postgresql",
+    "connect": "http_connect",
+    "proxy": "proxy",
+    "socks5": "socks5",
+    "socks4": "socks4",
+    "rdp": "rdp",
+}
 # Version 2: a signature, version and command, TCP over IPv4, 12 bytes: addresses and ports (the
 # PROXY protocol, section 2.2).
 PROXY_2 = bytes.fromhex(
@@ -147,12 +175,21 @@ def record_behind(
         server.join(3)
     shown = {key: value for key, value in server.seen.items() if key not in ("client", "server")}
     print(name, file.stat().st_size, "bytes", shown, flush=True)
-    return expected.of_front(file, port, server.seen) if highest else expected.of_none(file)
+    if not highest:
+        return expected.of_none(file)
+    return expected.of_front(file, port, server.seen, found_by(name))
+
+
+def found_by(name: str) -> str:
+    """Returns the name of the dialogue that a recording has."""
+    [found] = [dialogue for part, dialogue in DIALOGUES.items() if part in name]
+    return found
 
 
 def names() -> list[str]:
     of_browser = [browser.NAME, browser.SHORT, *browser.KEPT]
-    return [*captures(), *old_hello.NAMES, *shifted.NAMES, *drafts.NAMES, *of_browser]
+    of_others = [*old_hello.NAMES, *shifted.NAMES, *drafts.NAMES, *offers.NAMES, *misleading.NAMES]
+    return [*captures(), *of_others, *of_browser]
 
 
 def record(folder: Path, chosen: list[str]) -> bool:
@@ -171,6 +208,10 @@ def record(folder: Path, chosen: list[str]) -> bool:
                 lines = browser.lines(folder / f"{name}.pcap", browser.KEPT[name])
             elif name in drafts.NAMES:
                 lines = drafts.record(folder, name)
+            elif name in offers.NAMES:
+                lines = offers.record(work, folder, name)
+            elif name in misleading.NAMES:
+                lines = misleading.record(folder, name)
             elif name == browser.NAME:
                 lines = browser.record(folder)
             elif name == browser.SHORT:

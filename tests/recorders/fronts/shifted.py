@@ -1,5 +1,5 @@
-"""Captures derived from others: connections without their beginning, and DTLS after CAPWAP headers.
-Also DTLS of version 0x0100."""
+"""Captures derived from others: connections without their beginning, DTLS after CAPWAP headers, and
+FINs behind segments that were sent later. Also DTLS of version 0x0100."""
 
 from __future__ import annotations
 
@@ -32,7 +32,10 @@ HEADER = bytes.fromhex(
 OLD = "dtls_0100"
 OLD_PRIORITY = "NORMAL:-VERS-ALL:+VERS-DTLS0.9:-CIPHER-ALL:+AES-128-CBC:-KX-ALL:+RSA:-MAC-ALL:+SHA1:-SIGN-ALL:+SIGN-RSA-SHA1:%COMPAT"
 OLD_KEYS = "--disable-client-cert --x509certfile rsa.pem --x509keyfile rsa.key"
-NAMES = [*CUT, *WITH_DATA, *CAPWAP, OLD]
+# A capture of captures/evasions, the place of a FIN, and that of the segment behind which it comes:
+# one of its sender, whose number is the next.
+FINS = {"fin_of_server_behind_its_ack": ("fin_again_in_time_wait", 12, 14)}
+NAMES = [*CUT, *WITH_DATA, *CAPWAP, *FINS, OLD]
 PORT = 14433
 
 
@@ -121,6 +124,28 @@ def capwap(folder: Path, name: str) -> list[Line]:
     ]
 
 
+def late_fin(folder: Path, name: str) -> list[Line]:
+    """Moves a FIN behind a later segment, as a capture of two interfaces may have it."""
+    source, fin, behind = FINS[name]
+    evasions = TOP / "captures" / "evasions"
+    segments = packets.read((evasions / f"{source}.pcap").read_bytes())
+    moved, later = segments[fin], segments[behind]
+    if not moved.flags & packets.FIN or later.sequence != moved.sequence + 1:
+        raise ValueError("other segments")
+    order = [*segments[:fin], *segments[fin + 1 : behind + 1], moved, *segments[behind + 1 :]]
+    times = sorted(one.time for one in segments)
+    put(folder / f"{name}.pcap", [packets.replace(one, time=at) for one, at in zip(order, times)])
+    known = json.loads((evasions / "wanted.json").read_text())["captures"]
+    [stored] = [one["lines"] for one in known if one["capture"] == f"{source}.pcap"]
+    kept = """
+        id.orig_h id.orig_p id.resp_h id.resp_p server_name version cipher established outcome
+        ssl_history orig_bytes resp_bytes cert_chain_fps
+    """.split()
+    fields = {field: stored[0][field] for field in kept}
+    source_of = f"captures/evasions/{source}: a FIN is no byte, wherever it is (RFC 9293, 3.4)"
+    return [expected.line(fields, {source_of: [*kept, "gap"]}, ["gap"])]
+
+
 def old(work: Path, folder: Path) -> list[Line]:
     """Records GnuTLS's peers with version 0x0100, which GnuTLS calls DTLS 0.9, and tshark DTLS 1.0
     of OpenSSL before 0.9.8f."""
@@ -161,4 +186,6 @@ def old(work: Path, folder: Path) -> list[Line]:
 def record(work: Path, folder: Path, name: str) -> list[Line]:
     if name == OLD:
         return old(work, folder)
+    if name in FINS:
+        return late_fin(folder, name)
     return capwap(folder, name) if name in CAPWAP else cut(folder, name)

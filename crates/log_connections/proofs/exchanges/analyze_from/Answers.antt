@@ -2,9 +2,9 @@ use Rattle.std.proofs.Common.{refl}
 use Rattle.std.proofs.lemmas.Result.{IfOk-weaker}
 use Rattle.log_connections.proofs.exchanges.analyze_from.Goals as goal
 
-pub returns : goal.returns
-returns g c =
-    rw (← c.side_of-side.ensures, ← c.direction-direction.ensures)
+pub returns-clause-analysis : goal.returns-clause-analysis
+returns-clause-analysis g c =
+    rw (← c.side_of-side.ensures)
     (IfOk-weaker c.analyze_datagram.result _ _
     (λ _ analysis. (c.prepare.new.self, c.in_ok-prepare.ensures.same, analysis, refl))
     c.analyze_datagram.ensures)

@@ -1,14 +1,9 @@
-use Rattle.tls_summary.specs.HandshakeSummary.{view_summary}
-use Rattle.log_connections.proofs.DatagramLemmas.{received_datagram}
+use Rattle.std.proofs.lemmas.Result.{IfOk-weaker}
 use Rattle.log_connections.proofs.analysis.TlsAnalysis.analyze_datagram.Goals as goal
 
 pub returns : goal.returns
 returns g c =
-    rw (← c.held_datagram-payload.ensures)
-    (received_datagram c.analyze_with-is_received.result _ c.args.direction
-    c.held_datagram-payload.result.now c.args.self.now c.count_datagram.new.self
-    c.in-Datagrams.analyzer c.analyze_with-is_received.new.self
-    c.analyze_with-is_received.new.observer.collector c.connection_id_len-id_len.result
-    c.is_13-is_13.result (view_summary c.handshake.result.now) c.in_ok-is_received.was
-    c.in-Datagrams.is c.analyze_with-is_received.ensures c.connection_id_len-id_len.ensures
-    c.handshake.ensures c.is_13-is_13.ensures c.count_datagram.ensures)
+    rw (← c.held_datagram-datagram.ensures)
+    (IfOk-weaker c.analyze_held.result _ _
+    (λ _ held. record { seen = c.see_hello.new.self; sees = c.see_hello.ensures; analyzes = held })
+    c.analyze_held.ensures)

@@ -1,6 +1,10 @@
+use Rattle.connections.specs.FiveTuple.{is_five_tuple}
+use Rattle.std.specs.Map.{set_value}
+use Rattle.log_connections.proofs.WeightLemmas.{weighed_first, weighed_unless}
+use Rattle.connections.proofs.MemoryLemmas.{accounted_with}
 use Rattle.connections.specs.Datagram.{five_tuple_of_datagram}
-use Rattle.connections.specs.Table.{with_other}
-use Rattle.log_connections.proofs.LogLemmas.{datagram_received, datagram_lent}
+use Rattle.connections.specs.Table.{with_other, TakesDatagram, others}
+use Rattle.log_connections.proofs.LogLemmas.{datagram_received, datagram_lent, written_first}
 use Rattle.log_connections.proofs.OtherLemmas.{keeps_other, keeps_put, keeps_same, keeps_then}
 use Rattle.log_connections.proofs.log.Log.accept_datagram.Goals as goal
 
@@ -24,7 +28,8 @@ returns-in_ok-analyze_from-in-Some-clause-logged g c =
     (datagram_received c.args.datagram.now c.args.self.now.connections c.accept_datagram.new.self
     c.in-Some.exchange.now
     c.analyze_from.new.exchange c.in_ok-accept_datagram.ensures.put c.accept_datagram.ensures.closed
-    (rw c.between.ensures at c.in-Some.ensures.value) c.in_ok-analyze_from-in-Some.ensures)
+    c.in_ok-accept_datagram.ensures.attached
+    (rw c.between.ensures at c.in-Some.ensures.value) c.in_ok-analyze_from-in-Some.ensures.analysis)
 
 pub returns-in_ok-analyze_from-in-Some-clause-others : goal.returns-in_ok-analyze_from-in-Some-clause-others
 returns-in_ok-analyze_from-in-Some-clause-others g c =
@@ -42,5 +47,36 @@ returns-in-None-clause-logged g c =
 
 pub returns-in-None-clause-others : goal.returns-in-None-clause-others
 returns-in-None-clause-others g c =
+    absurd (datagram_lent c.args.datagram.now c.args.self.now.connections c.accept_datagram.new.self
+    c.in_ok-accept_datagram.ensures.put (rw c.between.ensures at c.in-None.ensures.value))
+
+pub returns-in_err-analyze_from-in-Some-clause-accounted : goal.returns-in_err-analyze_from-in-Some-clause-accounted
+returns-in_err-analyze_from-in-Some-clause-accounted g c =
+    rw c.between.ensures
+    (λ h. accounted_with (five_tuple_of_datagram c.args.datagram.now) c.accept_datagram.new.self
+    c.in-Some.exchange.now c.analyze_from.new.exchange (rw c.between.ensures at c.in-Some.ensures.value)
+    c.analyze_from.ensures.weight (c.accept_datagram.ensures.accounted h))
+
+pub returns-in_ok-analyze_from-in-Some-clause-accounted : goal.returns-in_ok-analyze_from-in-Some-clause-accounted
+returns-in_ok-analyze_from-in-Some-clause-accounted g c =
+    rw c.between.ensures
+    (λ h. accounted_with (five_tuple_of_datagram c.args.datagram.now) c.accept_datagram.new.self
+    c.in-Some.exchange.now c.analyze_from.new.exchange (rw c.between.ensures at c.in-Some.ensures.value)
+    c.analyze_from.ensures.weight (c.accept_datagram.ensures.accounted h))
+
+pub returns-in_ok-analyze_from-in-Some-clause-weighed : goal.returns-in_ok-analyze_from-in-Some-clause-weighed
+returns-in_ok-analyze_from-in-Some-clause-weighed g c =
+    let d = c.args.datagram.now in let old = c.args.self.now.connections in
+    let e = five_tuple_of_datagram d in let mid = c.accept_datagram.new.self in
+    let its = c.analyze_from.new.exchange in
+    let new = record mid { live = set_value (is_five_tuple e) mid.live its } in
+    rw c.between.ensures
+    (weighed_unless g.K.PieceCollector.most_bytes e new c.is_settled.result
+    (weighed_first g.K.PieceCollector.most_bytes e new its (others e old.live) c.is_settled.result
+    (written_first e (TakesDatagram d) old.live mid.live c.in_ok-accept_datagram.ensures.put its)
+    c.is_settled.ensures.within c.is_settled.ensures.enough))
+
+pub returns-in-None-clause-weighed : goal.returns-in-None-clause-weighed
+returns-in-None-clause-weighed g c =
     absurd (datagram_lent c.args.datagram.now c.args.self.now.connections c.accept_datagram.new.self
     c.in_ok-accept_datagram.ensures.put (rw c.between.ensures at c.in-None.ensures.value))

@@ -1,3 +1,8 @@
+use Rattle.std.specs.Option.{option_map}
+use Rattle.connections.specs.declared.connection.Connection.{Connection}
+use Rattle.log_connections.specs.declared.analysis.TlsAnalysis.{TlsAnalysis}
+use Rattle.log_connections.specs.Log.{IsWeighedUnless, verdict_in}
+use Rattle.log_connections.proofs.WeightLemmas.{judged_weighs, let_in_weighs, none_open_weighs, stays_after, stays_closed}
 use Rattle.std.proofs.Common.{refl, sym, ◌∙◌, Some, None}
 use Rattle.std.proofs.lemmas.Result.{IfOk-weaker}
 use Rattle.connections.specs.Segment.{five_tuple_of}
@@ -76,3 +81,75 @@ returns-in-Judged-clause-others g c =
     keeps_then (five_tuple_of c.args.segment.now) c.args.self.now.connections.live
     c.analyze_open.new.self.connections.live c.accept_by.new.self.connections.live
     c.analyze_open.ensures.others c.accept_by.ensures.others
+
+pub returns-in-Received-false-clause-weighed : goal.returns-in-Received-false-clause-weighed
+returns-in-Received-false-clause-weighed g c =
+    let s = c.args.segment.now in let mid = c.analyze_open.new.self in
+    let_in_weighs {C = Connection (TlsAnalysis g.row.K.Denot)} None
+    (IsWeighedUnless g.K.PieceCollector.most_bytes mid.is_unsettled (five_tuple_of s) mid.connections)
+    (verdict_in s c.args.self.now.connections) s
+    (rw c.in-Received-false.is at c.in_ok-analyze_open.ensures.judged)
+    (rw c.in-Received-false.is at c.in_ok-analyze_open.ensures.weighed)
+
+pub returns-in_ok-take_closed-in-Received-true-clause-weighed : goal.returns-in_ok-take_closed-in-Received-true-clause-weighed
+returns-in_ok-take_closed-in-Received-true-clause-weighed g c =
+    let s = c.args.segment.now in let mid = c.analyze_open.new.self in
+    let new = c.take_closed.new.self in let e = five_tuple_of s in
+    let over = option_map (λ b. b.value) c.in_ok-take_closed-in-Received-true.field-0 in
+    rw c.take_closed.ensures.unsettled
+    (let_in_weighs over (IsWeighedUnless g.K.PieceCollector.most_bytes mid.is_unsettled e new.connections)
+    (verdict_in s c.args.self.now.connections) s
+    (rw c.in-Received-true.is at c.in_ok-analyze_open.ensures.judged)
+    (λ some. stays_closed (IsWeighedUnless g.K.PieceCollector.most_bytes mid.is_unsettled e) s mid.connections
+    new.connections over c.in_ok-take_closed-in-Received-true.ensures.ended
+    ((rw c.in-Received-true.is at c.in_ok-analyze_open.ensures.weighed) some)))
+
+pub returns-in_ok-end_analyzed-in-NoneOpen-clause-weighed : goal.returns-in_ok-end_analyzed-in-NoneOpen-clause-weighed
+returns-in_ok-end_analyzed-in-NoneOpen-clause-weighed g c =
+    let s = c.args.segment.now in let mid = c.analyze_first.new.self in
+    let new = c.end_analyzed.new.self in let e = five_tuple_of s in
+    let over = option_map (λ b. b.value) c.in_ok-end_analyzed-in-NoneOpen.field-0 in
+    rw c.end_analyzed.ensures.unsettled
+    (none_open_weighs over (IsWeighedUnless g.K.PieceCollector.most_bytes mid.is_unsettled e new.connections)
+    (verdict_in s c.args.self.now.connections) s
+    (rw c.in-NoneOpen.is at c.in_ok-analyze_open.ensures.judged)
+    (stays_after (IsWeighedUnless g.K.PieceCollector.most_bytes mid.is_unsettled e) c.in_ok-analysis-in-NoneOpen.analysis s
+    mid.connections new.connections over c.in_ok-end_analyzed-in-NoneOpen.ensures.ended
+    c.in_ok-analysis-in-NoneOpen.ensures.weighed))
+
+pub returns-in-Judged-clause-weighed : goal.returns-in-Judged-clause-weighed
+returns-in-Judged-clause-weighed g c =
+    let s = c.args.segment.now in let new = c.accept_by.new.self in
+    IfOk-weaker c.accept_by.result _ _
+    (λ over weighed. judged_weighs (option_map (λ b. b.value) over)
+    (IsWeighedUnless g.K.PieceCollector.most_bytes new.is_unsettled (five_tuple_of s) new.connections)
+    (verdict_in s c.args.self.now.connections) c.in-Judged.verdict s
+    (rw c.in-Judged.is at c.in_ok-analyze_open.ensures.judged).0
+    (rw c.in-Judged.is at c.in_ok-analyze_open.ensures.judged).1 weighed)
+    c.accept_by.ensures.weighed
+
+pub returns-in_err-take_closed-in-Received-true-clause-accounted : goal.returns-in_err-take_closed-in-Received-true-clause-accounted
+returns-in_err-take_closed-in-Received-true-clause-accounted g c =
+    λ h. c.take_closed.ensures.accounted (c.analyze_open.ensures.accounted h)
+
+pub returns-in_ok-take_closed-in-Received-true-clause-accounted : goal.returns-in_ok-take_closed-in-Received-true-clause-accounted
+returns-in_ok-take_closed-in-Received-true-clause-accounted g c =
+    λ h. c.take_closed.ensures.accounted (c.analyze_open.ensures.accounted h)
+
+pub returns-in_err-analysis-in-NoneOpen-clause-accounted : goal.returns-in_err-analysis-in-NoneOpen-clause-accounted
+returns-in_err-analysis-in-NoneOpen-clause-accounted g c =
+    λ h. c.analyze_first.ensures.accounted (c.analyze_open.ensures.accounted h)
+
+pub returns-in_ok-end_analyzed-in-NoneOpen-clause-accounted : goal.returns-in_ok-end_analyzed-in-NoneOpen-clause-accounted
+returns-in_ok-end_analyzed-in-NoneOpen-clause-accounted g c =
+    λ h. c.end_analyzed.ensures.accounted
+    (c.analyze_first.ensures.accounted (c.analyze_open.ensures.accounted h))
+
+pub returns-in_err-end_analyzed-in-NoneOpen-clause-accounted : goal.returns-in_err-end_analyzed-in-NoneOpen-clause-accounted
+returns-in_err-end_analyzed-in-NoneOpen-clause-accounted g c =
+    λ h. c.end_analyzed.ensures.accounted
+    (c.analyze_first.ensures.accounted (c.analyze_open.ensures.accounted h))
+
+pub returns-in-Judged-clause-accounted : goal.returns-in-Judged-clause-accounted
+returns-in-Judged-clause-accounted g c =
+    λ h. c.accept_by.ensures.accounted (c.analyze_open.ensures.accounted h)

@@ -1,9 +1,12 @@
-use Rattle.std.proofs.Common.{refl, subst}
+use Rattle.connections.specs.Table.{at}
+use Rattle.connections.specs.Connection.{is_datagram_damaged}
+use Rattle.log_connections.proofs.WeightLemmas.{damaged_weighs, datagram_weighs, none_open, ok_more}
+use Rattle.std.proofs.Common.{refl, subst, ap, sym, ◌∙◌}
 use Rattle.std.proofs.lemmas.Result.{IfErr-weaker, IfOk-weaker}
 use Rattle.std.specs.Option.{option_map}
 use Rattle.connections.specs.Datagram.{five_tuple_of_datagram}
 use Rattle.connections.specs.Segment.{is_refused}
-use Rattle.log_connections.specs.Log.{BeginsUnless, LogsInAnother, RefusesInNext}
+use Rattle.log_connections.specs.Log.{BeginsUnless, LogsInAnother, RefusesInNext, is_damaged_in}
 use Rattle.log_connections.specs.declared.exchanges.Delivery.TheVariants as delivery
 use Rattle.log_connections.proofs.PacketLemmas.{given}
 use Rattle.log_connections.proofs.OtherLemmas.{keeps_then}
@@ -95,3 +98,40 @@ returns-in_err-begin_exchange-in-NoneOpen-clause-refused g c =
       is = rw c.in-NoneOpen.is at c.in_ok-analyze_exchange.ensures.delivered;
       refuses = refl;
     })
+
+pub returns-in-Received-clause-weighed : goal.returns-in-Received-clause-weighed
+returns-in-Received-clause-weighed g c =
+    datagram_weighs _ (is_damaged_in c.args.datagram.now c.args.self.now.connections)
+    (rw c.in-Received.is at c.in_ok-analyze_exchange.ensures.weighed)
+
+pub returns-in-Damaged-clause-weighed : goal.returns-in-Damaged-clause-weighed
+returns-in-Damaged-clause-weighed g c =
+    damaged_weighs _ (is_damaged_in c.args.datagram.now c.args.self.now.connections)
+    (rw c.in-Damaged.is at c.in_ok-analyze_exchange.ensures.delivered)
+
+pub returns-in_ok-begin_exchange-in-NoneOpen-clause-weighed : goal.returns-in_ok-begin_exchange-in-NoneOpen-clause-weighed
+returns-in_ok-begin_exchange-in-NoneOpen-clause-weighed g c =
+    datagram_weighs _ (is_damaged_in c.args.datagram.now c.args.self.now.connections)
+    (c.in_ok-begin_exchange-in-NoneOpen.ensures.weighed
+    (ap (λ t. at (five_tuple_of_datagram c.args.datagram.now) t.live)
+    (rw c.in-NoneOpen.is at c.in_ok-analyze_exchange.ensures.logged)
+    ∙ sym (none_open (is_datagram_damaged c.args.datagram.now)
+    (at (five_tuple_of_datagram c.args.datagram.now) c.args.self.now.connections.live)
+    (rw c.in-NoneOpen.is at c.in_ok-analyze_exchange.ensures.delivered))))
+
+pub returns-in-BeginsAnother-clause-weighed : goal.returns-in-BeginsAnother-clause-weighed
+returns-in-BeginsAnother-clause-weighed g c =
+    ok_more c.replace_exchange.result _ _ (λ w. datagram_weighs _ (is_damaged_in c.args.datagram.now c.args.self.now.connections) w)
+    c.replace_exchange.ensures.weighed
+
+pub returns-in_err-begin_exchange-in-NoneOpen-clause-accounted : goal.returns-in_err-begin_exchange-in-NoneOpen-clause-accounted
+returns-in_err-begin_exchange-in-NoneOpen-clause-accounted g c =
+    λ h. c.begin_exchange.ensures.accounted (c.analyze_exchange.ensures.accounted h)
+
+pub returns-in_ok-begin_exchange-in-NoneOpen-clause-accounted : goal.returns-in_ok-begin_exchange-in-NoneOpen-clause-accounted
+returns-in_ok-begin_exchange-in-NoneOpen-clause-accounted g c =
+    λ h. c.begin_exchange.ensures.accounted (c.analyze_exchange.ensures.accounted h)
+
+pub returns-in-BeginsAnother-clause-accounted : goal.returns-in-BeginsAnother-clause-accounted
+returns-in-BeginsAnother-clause-accounted g c =
+    λ h. c.replace_exchange.ensures.accounted (c.analyze_exchange.ensures.accounted h)

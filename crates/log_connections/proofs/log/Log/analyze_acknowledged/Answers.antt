@@ -10,6 +10,7 @@ waiting-init g c = record {
   analysis = λ final h. h;
   others = keeps_same (five_tuple_of c.args.segment.now) c.args.self.now.connections.live
       c.args.self.now.connections.live refl;
+  accounted = λ h. h;
   memory = refl;
   reader = refl;
 }
@@ -28,6 +29,7 @@ waiting-preserved g c =
       others = keeps_then (five_tuple_of c.args.segment.now) c.args.self.now.connections.live
           c.waiting.self.connections.live c.analyze_one_acknowledged.new.self.connections.live
           c.waiting.invariant.others c.analyze_one_acknowledged.ensures.others;
+      accounted = λ h. c.analyze_one_acknowledged.ensures.accounted (c.waiting.invariant.accounted h);
       memory = c.analyze_one_acknowledged.ensures.memory ∙ c.waiting.invariant.memory;
       reader = c.analyze_one_acknowledged.ensures.reader ∙ c.waiting.invariant.reader;
     }
@@ -61,3 +63,11 @@ returns-clause-analysis g c =
     (subst
     (λ n. AnalyzesAcknowledged c.args.segment.now n c.waiting.self.connections
     c.waiting.self.connections) none (enough c.waiting.self.connections))
+
+pub returns-in_err-analyze_one_acknowledged-clause-accounted : goal.returns-in_err-analyze_one_acknowledged-clause-accounted
+returns-in_err-analyze_one_acknowledged-clause-accounted g c =
+    λ h. c.analyze_one_acknowledged.ensures.accounted (c.waiting.invariant.accounted h)
+
+pub returns-then-not-branch-clause-accounted : goal.returns-then-not-branch-clause-accounted
+returns-then-not-branch-clause-accounted g c =
+    λ h. c.analyze_one_acknowledged.ensures.accounted (c.waiting.invariant.accounted h)

@@ -1,4 +1,5 @@
 use Rattle.std.specs.Prelude.{◌≡◌, ◌-◌}
+use Rattle.connections.specs.Memory.{IsAccounted}
 use Rattle.connections.specs.Segment.{five_tuple_of}
 use Rattle.connections.specs.declared.pending.TheConstants.{MAX_PENDING}
 use Rattle.log_connections.specs.Log.{AnalyzesAcknowledged, AnalyzesAllAcknowledged, KeepsOthers, uncounted}
@@ -11,6 +12,7 @@ invariant-waiting g l = record {
       → AnalyzesAllAcknowledged l.segment l.initial.self.connections final;
   others : KeepsOthers (five_tuple_of l.segment) l.initial.self.connections.live
       l.self.connections.live;
+  accounted : IsAccounted l.initial.self.connections → IsAccounted l.self.connections;
   memory : l.self.memory ≡ l.initial.self.memory;
   reader : uncounted l.self.arrivals ≡ uncounted l.initial.self.arrivals;
 }

@@ -1,6 +1,9 @@
-use Rattle.std.proofs.Common.{refl, sym, ◌∙◌}
+use Rattle.connections.specs.Table.{others, promoting, with_other}
+use Rattle.log_connections.proofs.WeightLemmas.{dropped_weight, weighed_first, weighed_unless}
+use Rattle.connections.proofs.MemoryLemmas.{accounted_with}
+use Rattle.std.proofs.Common.{refl, sym, ◌∙◌, ap}
 use Rattle.connections.specs.Datagram.{five_tuple_of_datagram}
-use Rattle.connections.proofs.TableLemmas.{on_err}
+use Rattle.connections.proofs.TableLemmas.{on_err, written_promoted}
 use Rattle.log_connections.proofs.LogLemmas.{another_begun, exchange_received, lent_unchanged, none_damaged, some_damaged}
 use Rattle.log_connections.proofs.OtherLemmas.{keeps_other, keeps_promoted}
 use Rattle.log_connections.proofs.log.Log.analyze_exchange.Goals as goal
@@ -56,8 +59,8 @@ returns-clause-logged g c =
     (exchange_received c.args.datagram.now c.args.self.now.connections c.in-Some.exchange.now
     c.take_datagram.new.self
     c.analyze_from.new.exchange (rw c.between-five_tuple.ensures at c.in-Some.ensures.value)
-    c.take_datagram.ensures.taken
-    c.in_ok-analyze_from.ensures)
+    c.take_datagram.ensures.taken c.take_datagram.ensures.attached
+    c.in_ok-analyze_from.ensures.analysis)
 
 pub returns-clause-delivered : goal.returns-clause-delivered
 returns-clause-delivered g c = (
@@ -86,3 +89,43 @@ returns-in_err-analyze_from-clause-refused g c =
           c.side_of-side.result (rw c.between-five_tuple.ensures at c.in-Some.ensures.value)
           c.side_of-side.ensures c.if-begins_another.false c.begins_another.ensures,
     )
+
+pub returns-then-is_damaged-clause-accounted : goal.returns-then-is_damaged-clause-accounted
+returns-then-is_damaged-clause-accounted g c =
+    rw c.between-five_tuple.ensures
+    (accounted_with (five_tuple_of_datagram c.args.datagram.now) c.args.self.now.connections c.in-Some.exchange.now
+    c.drop_datagram.new.self (rw c.between-five_tuple.ensures at c.in-Some.ensures.value)
+    (ap (λ x. x.weight) c.drop_datagram.ensures ∙ dropped_weight _ _ c.in-Some.exchange.now))
+
+pub returns-then-begins_another-clause-accounted : goal.returns-then-begins_another-clause-accounted
+returns-then-begins_another-clause-accounted g c =
+    rw c.between-five_tuple.ensures
+    (accounted_with (five_tuple_of_datagram c.args.datagram.now) c.args.self.now.connections c.in-Some.exchange.now
+    c.in-Some.exchange.now (rw c.between-five_tuple.ensures at c.in-Some.ensures.value) refl)
+
+pub returns-in_err-analyze_from-clause-accounted : goal.returns-in_err-analyze_from-clause-accounted
+returns-in_err-analyze_from-clause-accounted g c =
+    rw c.between-five_tuple.ensures
+    (accounted_with (five_tuple_of_datagram c.args.datagram.now) c.args.self.now.connections c.in-Some.exchange.now
+    c.analyze_from.new.exchange (rw c.between-five_tuple.ensures at c.in-Some.ensures.value)
+    (c.analyze_from.ensures.weight ∙ c.take_datagram.ensures.weight))
+
+pub returns-clause-accounted : goal.returns-clause-accounted
+returns-clause-accounted g c =
+    λ h. c.promote.ensures.accounted
+    (rw c.between-five_tuple.ensures
+    (accounted_with (five_tuple_of_datagram c.args.datagram.now) c.args.self.now.connections c.in-Some.exchange.now
+    c.analyze_from.new.exchange (rw c.between-five_tuple.ensures at c.in-Some.ensures.value)
+    (c.analyze_from.ensures.weight ∙ c.take_datagram.ensures.weight) h))
+
+pub returns-clause-weighed : goal.returns-clause-weighed
+returns-clause-weighed g c =
+    let e = five_tuple_of_datagram c.args.datagram.now in
+    let old = c.args.self.now.connections in let its = c.analyze_from.new.exchange in
+    let new = promoting e (with_other e its old) in
+    rw (c.promote.ensures.promoted, c.between-five_tuple.ensures)
+    (weighed_unless g.K.PieceCollector.most_bytes e new c.is_settled.result
+    (weighed_first g.K.PieceCollector.most_bytes e new its (others e old.live) c.is_settled.result
+    (written_promoted e old.live c.in-Some.exchange.now its
+    (sym (rw c.between-five_tuple.ensures at c.in-Some.ensures.value)))
+    c.is_settled.ensures.within c.is_settled.ensures.enough))

@@ -1,7 +1,11 @@
+use Rattle.connections.specs.FiveTuple.{is_five_tuple}
+use Rattle.std.specs.Map.{set_value}
+use Rattle.log_connections.proofs.WeightLemmas.{none_belongs, none_weighed, weighed_first, weighed_unless}
+use Rattle.connections.proofs.MemoryLemmas.{accounted_with}
 use Rattle.std.proofs.Common.{◌∙◌}
 use Rattle.connections.specs.Segment.{five_tuple_of}
-use Rattle.connections.specs.Table.{with_other}
-use Rattle.log_connections.proofs.LogLemmas.{segment_closes, segment_received, segment_lent}
+use Rattle.connections.specs.Table.{with_other, TakesSegment, others}
+use Rattle.log_connections.proofs.LogLemmas.{segment_closes, segment_received, segment_lent, put_where_true, written_first}
 use Rattle.log_connections.proofs.OtherLemmas.{keeps_by_others, keeps_other, keeps_then}
 use Rattle.log_connections.proofs.log.Log.analyze_first.Goals as goal
 
@@ -31,8 +35,9 @@ returns-in_ok-analyze-in-Some-clause-logged g c =
     c.accept.new.self
     c.in-Some.connection.now c.analyze.new.connection c.if-not-branch.false
     c.in_ok-accept.ensures.put
-    c.in_ok-accept.ensures.closed (rw c.between.ensures at c.in-Some.ensures.value)
-    c.in_ok-analyze-in-Some.ensures)
+    c.in_ok-accept.ensures.closed c.in_ok-accept.ensures.attached
+    (rw c.between.ensures at c.in-Some.ensures.value)
+    c.in_ok-analyze-in-Some.ensures.analysis)
 
 pub returns-in_ok-analyze-in-Some-clause-closed : goal.returns-in_ok-analyze-in-Some-clause-closed
 returns-in_ok-analyze-in-Some-clause-closed g c =
@@ -69,3 +74,44 @@ pub returns-in-None-clause-others : goal.returns-in-None-clause-others
 returns-in-None-clause-others g c =
     keeps_by_others (five_tuple_of c.args.segment.now) c.args.self.now.connections.live
     c.accept.new.self.live c.accept.ensures.others
+
+pub returns-in_err-analyze-in-Some-clause-accounted : goal.returns-in_err-analyze-in-Some-clause-accounted
+returns-in_err-analyze-in-Some-clause-accounted g c =
+    rw c.between.ensures
+    (λ h. accounted_with (five_tuple_of c.args.segment.now) c.accept.new.self c.in-Some.connection.now
+    c.analyze.new.connection (rw c.between.ensures at c.in-Some.ensures.value) c.analyze.ensures.weight
+    (c.accept.ensures.accounted h))
+
+pub returns-in_ok-analyze-in-Some-clause-accounted : goal.returns-in_ok-analyze-in-Some-clause-accounted
+returns-in_ok-analyze-in-Some-clause-accounted g c =
+    rw c.between.ensures
+    (λ h. accounted_with (five_tuple_of c.args.segment.now) c.accept.new.self c.in-Some.connection.now
+    c.analyze.new.connection (rw c.between.ensures at c.in-Some.ensures.value) c.analyze.ensures.weight
+    (c.accept.ensures.accounted h))
+
+pub returns-then-not-branch-clause-weighed : goal.returns-then-not-branch-clause-weighed
+returns-then-not-branch-clause-weighed g c =
+    λ due. none_weighed g.K.PieceCollector.most_bytes (five_tuple_of c.args.segment.now) c.accept.new.self
+    (none_belongs c.args.segment.now c.args.self.now.connections c.accept.new.self
+    c.in_ok-accept.field-0 c.if-not-branch.true c.in_ok-accept.ensures.belongs
+    c.in_ok-accept.ensures.put)
+
+pub returns-in_ok-analyze-in-Some-clause-weighed : goal.returns-in_ok-analyze-in-Some-clause-weighed
+returns-in_ok-analyze-in-Some-clause-weighed g c =
+    let s = c.args.segment.now in let old = c.args.self.now.connections in
+    let e = five_tuple_of s in let mid = c.accept.new.self in let its = c.analyze.new.connection in
+    let new = record mid { live = set_value (is_five_tuple e) mid.live its } in
+    rw c.between.ensures
+    (weighed_unless g.K.PieceCollector.most_bytes e new c.is_settled.result
+    (weighed_first g.K.PieceCollector.most_bytes e new its (others e old.live) c.is_settled.result
+    (written_first e (TakesSegment s) old.live mid.live
+    (put_where_true c.in_ok-accept.field-0 s old mid c.if-not-branch.false
+    c.in_ok-accept.ensures.put) its)
+    c.is_settled.ensures.within c.is_settled.ensures.enough))
+
+pub returns-in-None-clause-weighed : goal.returns-in-None-clause-weighed
+returns-in-None-clause-weighed g c =
+    absurd (segment_lent c.in_ok-accept.field-0 c.args.segment.now c.args.self.now.connections
+    c.accept.new.self
+    c.if-not-branch.false c.in_ok-accept.ensures.put
+    (rw c.between.ensures at c.in-None.ensures.value))

@@ -60,3 +60,11 @@ returns-in-None-clause-others g c =
     let e = five_tuple_of s in
     subst (λ t. KeepsOthers e old.live t.live) (sym c.take_pending.ensures.left)
     (keeps_changed e (without_pending s) (at e old.live) old)
+
+pub returns-in_err-analyze_pending-in-Some-Taken-clause-accounted : goal.returns-in_err-analyze_pending-in-Some-Taken-clause-accounted
+returns-in_err-analyze_pending-in-Some-Taken-clause-accounted g c =
+    λ h. c.analyze_pending.ensures.accounted (c.take_pending.ensures.accounted h)
+
+pub returns-in_ok-analyze_pending-in-Some-Taken-clause-accounted : goal.returns-in_ok-analyze_pending-in-Some-Taken-clause-accounted
+returns-in_ok-analyze_pending-in-Some-Taken-clause-accounted g c =
+    λ h. c.analyze_pending.ensures.accounted (c.take_pending.ensures.accounted h)

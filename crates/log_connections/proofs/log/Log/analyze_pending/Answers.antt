@@ -1,3 +1,5 @@
+use Rattle.std.proofs.Common.{◌∙◌}
+use Rattle.connections.proofs.MemoryLemmas.{accounted_written}
 use Rattle.std.proofs.lemmas.Result.{IfOk-weaker}
 use Rattle.log_connections.proofs.LogLemmas.{pending_received}
 use Rattle.log_connections.proofs.OtherLemmas.{keeps_first}
@@ -14,9 +16,20 @@ returns-clause-analysis g c =
     (λ _ receives. pending_received c.args.five_tuple.now c.args.kept.now c.args.self.now.connections
     c.in-Some.connection.now c.accept_pending.new.self c.analyze.new.connection c.segment.result
     c.in-Some.ensures.value c.in_ok-accept_pending.ensures.taken c.segment.ensures.header
-    c.segment.ensures.data receives) c.analyze.ensures
+    c.segment.ensures.data receives) c.analyze.ensures.analysis
 
 pub returns-clause-others : goal.returns-clause-others
 returns-clause-others g c =
     keeps_first c.args.five_tuple.now c.args.self.now.connections c.in-Some.connection.now
     c.analyze.new.connection c.in-Some.ensures.value
+
+pub returns-in_err-accept_pending-clause-accounted : goal.returns-in_err-accept_pending-clause-accounted
+returns-in_err-accept_pending-clause-accounted g c =
+    accounted_written c.args.five_tuple.now c.args.self.now.connections c.in-Some.connection.now
+    c.accept_pending.new.self c.in-Some.ensures.value c.accept_pending.ensures.weight
+
+pub returns-clause-accounted : goal.returns-clause-accounted
+returns-clause-accounted g c =
+    accounted_written c.args.five_tuple.now c.args.self.now.connections c.in-Some.connection.now
+    c.analyze.new.connection c.in-Some.ensures.value
+    (c.analyze.ensures.weight ∙ c.accept_pending.ensures.weight)

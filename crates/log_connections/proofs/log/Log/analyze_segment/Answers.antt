@@ -1,3 +1,5 @@
+use Rattle.log_connections.proofs.WeightLemmas.{weighed_first, weighed_unless}
+use Rattle.connections.proofs.MemoryLemmas.{accounted_written}
 use Rattle.std.proofs.Common.{refl, sym, ◌∙◌}
 use Rattle.connections.proofs.TableLemmas.{stands_first}
 use Rattle.connections.specs.Lends.{with_first}
@@ -27,7 +29,7 @@ returns-in-Some-clause-logged g c =
     (received_by_open c.args.segment.now c.args.self.now.connections c.in-Some.connection.now
     c.accept.new.self
     c.analyze.new.connection (rw c.between.ensures at c.in-Some.ensures.value)
-    c.in_ok-accept.ensures.taken c.in_ok-analyze.ensures)
+    c.in_ok-accept.ensures.taken c.in_ok-analyze.ensures.analysis)
 
 pub returns-in-Some-clause-belongs : goal.returns-in-Some-clause-belongs
 returns-in-Some-clause-belongs g c =
@@ -50,3 +52,33 @@ returns-in-Some-clause-others g c =
     (keeps_first (five_tuple_of c.args.segment.now) c.args.self.now.connections
     c.in-Some.connection.now c.analyze.new.connection
     (rw c.between.ensures at c.in-Some.ensures.value))
+
+pub returns-in_err-accept-clause-accounted : goal.returns-in_err-accept-clause-accounted
+returns-in_err-accept-clause-accounted g c =
+    rw c.between.ensures
+    (accounted_written (five_tuple_of c.args.segment.now) c.args.self.now.connections c.in-Some.connection.now
+    c.accept.new.self (rw c.between.ensures at c.in-Some.ensures.value) c.accept.ensures.weight)
+
+pub returns-in_err-analyze-clause-accounted : goal.returns-in_err-analyze-clause-accounted
+returns-in_err-analyze-clause-accounted g c =
+    rw c.between.ensures
+    (accounted_written (five_tuple_of c.args.segment.now) c.args.self.now.connections c.in-Some.connection.now
+    c.analyze.new.connection (rw c.between.ensures at c.in-Some.ensures.value)
+    (c.analyze.ensures.weight ∙ c.accept.ensures.weight))
+
+pub returns-in-Some-clause-accounted : goal.returns-in-Some-clause-accounted
+returns-in-Some-clause-accounted g c =
+    rw c.between.ensures
+    (accounted_written (five_tuple_of c.args.segment.now) c.args.self.now.connections c.in-Some.connection.now
+    c.analyze.new.connection (rw c.between.ensures at c.in-Some.ensures.value)
+    (c.analyze.ensures.weight ∙ c.accept.ensures.weight))
+
+pub returns-in-Some-clause-weighed : goal.returns-in-Some-clause-weighed
+returns-in-Some-clause-weighed g c =
+    let s = c.args.segment.now in let old = c.args.self.now.connections in
+    let its = c.analyze.new.connection in let e = five_tuple_of s in
+    rw c.between.ensures
+    (weighed_unless g.K.PieceCollector.most_bytes e (with_first e its old) c.is_settled.result
+    (weighed_first g.K.PieceCollector.most_bytes e (with_first e its old) its (others e old.live) c.is_settled.result
+    (stands_first e old c.in-Some.connection.now its (rw c.between.ensures at c.in-Some.ensures.value))
+    c.is_settled.ensures.within c.is_settled.ensures.enough))

@@ -14,3 +14,7 @@ returns-clause-others g c =
     (keeps_changed e (without_earlier c.args.reason s) (at e old.live) old)
     (rw c.count_dropped.ensures at c.drop_segment.ensures.counted)
     (rw c.count_dropped.ensures at c.drop_segment.ensures.err)
+
+pub returns-clause-accounted : goal.returns-clause-accounted
+returns-clause-accounted g c =
+    rw c.count_dropped.ensures at c.drop_segment.ensures.accounted

@@ -8,3 +8,7 @@ returns-clause-stopped g c =
     (λ error stops. behind_replaced (g.S.Sink.received c.end_removed.new.sink)
     c.in_ok-end_removed.ensures.received stops)
     (rw c.in_ok-end_removed.ensures.same at c.end_refused.ensures.stopped)
+
+pub returns-clause-accounted : goal.returns-clause-accounted
+returns-clause-accounted g c =
+    rw c.in_ok-end_removed.ensures.same at c.end_refused.ensures.accounted

@@ -1,3 +1,5 @@
+use Rattle.connections.specs.Table.IsForgotten.{none}
+use Rattle.log_connections.proofs.WeightLemmas.{forgotten_then}
 use Rattle.std.proofs.Common.{refl, ◌∙◌}
 use Rattle.connections.proofs.TableLemmas.{on_err}
 use Rattle.log_connections.proofs.SinkLemmas.{all_but_last, none_ended, one_more_ended}
@@ -7,6 +9,8 @@ use Rattle.log_connections.proofs.log.Log.end_idle.Goals as goal
 pub loop-over-init : goal.loop-over-init
 loop-over-init g c = record {
   ended = none_ended (IsIdle c.args.time) c.args.self.now.connections.live (g.S.Sink.received c.args.sink.now);
+  accounted = λ h. h;
+  forgotten = none;
   memory = refl;
   reader = refl;
   sound = λ h. h;
@@ -23,6 +27,8 @@ loop-over-preserved g c =
           (g.S.Sink.received c.args.sink.now) (g.S.Sink.received c.loop-over.sink)
           (g.S.Sink.received c.end_connection.new.sink) c.loop-over.invariant.ended last.2 last.1
           c.in_ok-end_connection.ensures.received;
+      forgotten = forgotten_then c.args.time c.loop-over.invariant.forgotten c.take_over.ensures.forgotten;
+      accounted = λ h. c.take_over.ensures.accounted (c.loop-over.invariant.accounted h);
       memory = c.take_over.ensures.memory ∙ c.loop-over.invariant.memory;
       reader = c.end_connection.ensures.reader ∙ c.take_over.ensures.reader ∙ c.loop-over.invariant.reader;
       sound = λ h. c.in_ok-end_connection.ensures.sound (c.loop-over.invariant.sound h);
@@ -37,3 +43,17 @@ returns-in_err-end_connection-clause-stopped g c =
     (g.S.Sink.received c.args.sink.now) (g.S.Sink.received c.loop-over.sink)
     (g.S.Sink.received c.end_connection.new.sink) c.loop-over.invariant.ended last.2 last.1
     c.in_err-end_connection.ensures.received))
+
+pub returns-in_err-end_connection-clause-accounted : goal.returns-in_err-end_connection-clause-accounted
+returns-in_err-end_connection-clause-accounted g c =
+    rw c.end_connection.ensures.same
+    (λ h. c.take_over.ensures.accounted (c.loop-over.invariant.accounted h))
+
+pub returns-in_err-end_connection-clause-forgotten : goal.returns-in_err-end_connection-clause-forgotten
+returns-in_err-end_connection-clause-forgotten g c =
+    rw c.end_connection.ensures.same
+    (forgotten_then c.args.time c.loop-over.invariant.forgotten c.take_over.ensures.forgotten)
+
+pub returns-clause-forgotten : goal.returns-clause-forgotten
+returns-clause-forgotten g c =
+    forgotten_then c.args.time c.loop-over.invariant.forgotten c.take_over.ensures.forgotten

@@ -1,4 +1,6 @@
 use Rattle.std.specs.Prelude.{◌≡◌, true, length}
+use Rattle.connections.specs.Memory.{IsAccounted}
+use Rattle.connections.specs.Table.{IsForgotten}
 use Rattle.log_connections.specs.Log.{uncounted}
 use Rattle.log_connections.specs.Sink.{IsIdle, PassesEnded}
 use Rattle.log_connections.proofs.log.Log.end_idle.Given as goal
@@ -8,6 +10,8 @@ abbrev pub invariant-loop-over : goal.invariant-loop-over
 invariant-loop-over g l = record {
   ended : PassesEnded (IsIdle l.fn.time) l.initial.self.connections.live l.self.connections.live
       (g.S.Sink.received l.initial.sink) (g.S.Sink.received l.sink);
+  accounted : IsAccounted l.initial.self.connections → IsAccounted l.self.connections;
+  forgotten : IsForgotten l.fn.time l.initial.self.connections.closed l.self.connections.closed;
   memory : l.self.memory ≡ l.initial.self.memory;
   reader : uncounted l.self.arrivals ≡ uncounted l.initial.self.arrivals;
   sound : g.S.Sink.is_sound l.initial.sink ≡ true → g.S.Sink.is_sound l.sink ≡ true;

@@ -43,3 +43,19 @@ returns-clause-ended g c =
     c.in_ok-has_own.ensures.was c.in_ok-has_oldest.ensures.was
     (not_neither c.in_ok-has_own.has_own c.in_ok-has_oldest.has_oldest c.else-not-has_own.either)
     c.in_ok-has_own.ensures.received c.in_ok-has_oldest.ensures.received)
+
+pub returns-in_err-has_own-clause-accounted : goal.returns-in_err-has_own-clause-accounted
+returns-in_err-has_own-clause-accounted g c =
+    rw c.end_removed.ensures.same c.take_refused-own.ensures.accounted
+
+pub returns-in_err-has_oldest-clause-accounted : goal.returns-in_err-has_oldest-clause-accounted
+returns-in_err-has_oldest-clause-accounted g c =
+    rw c.end_removed-2.ensures.same
+    (λ h. (rw c.in_ok-has_own.ensures.same at c.take_oldest-oldest.ensures.accounted)
+    (c.take_refused-own.ensures.accounted h))
+
+pub returns-clause-accounted : goal.returns-clause-accounted
+returns-clause-accounted g c =
+    rw c.in_ok-has_oldest.ensures.same
+    (λ h. (rw c.in_ok-has_own.ensures.same at c.take_oldest-oldest.ensures.accounted)
+    (c.take_refused-own.ensures.accounted h))

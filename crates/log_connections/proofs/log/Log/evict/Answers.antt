@@ -1,3 +1,5 @@
+use Rattle.connections.proofs.MemoryLemmas.{all_is_front}
+use Rattle.log_connections.proofs.WeightLemmas.{fits_then, front_then}
 use Rattle.std.proofs.Common.{refl, ◌∙◌}
 use Rattle.connections.proofs.TableLemmas.{on_err}
 use Rattle.log_connections.proofs.SinkLemmas.{all_but_last, evicted_by, none_ended, one_more_ended}
@@ -8,6 +10,7 @@ pub loop-over-init : goal.loop-over-init
 loop-over-init g c = record {
   ended = none_ended (IsOverLimit c.args.self.now.connections c.args.self.now.memory) c.args.self.now.connections.live (g.S.Sink.received c.args.sink.now);
   accounted = λ h. h;
+  front = all_is_front c.args.self.now.connections.closed;
   memory = refl;
   reader = refl;
   sound = λ h. h;
@@ -27,6 +30,9 @@ loop-over-preserved g c =
           c.loop-over.self.memory c.args.self.now.memory last.0 c.loop-over.invariant.memory
           c.loop-over.invariant.accounted last.2) last.1
           c.in_ok-end_connection.ensures.received;
+      front = front_then c.args.self.now.connections.closed
+          c.loop-over.self.connections.closed c.take_evicted.new.self.connections.closed
+          c.loop-over.invariant.front c.take_evicted.ensures.closed.latest;
       accounted = λ h. c.take_evicted.ensures.accounted (c.loop-over.invariant.accounted h);
       memory = c.take_evicted.ensures.memory ∙ c.loop-over.invariant.memory;
       reader = c.end_connection.ensures.reader ∙ c.take_evicted.ensures.reader ∙ c.loop-over.invariant.reader;
@@ -46,3 +52,14 @@ returns-in_err-end_connection-clause-stopped g c =
     c.loop-over.self.memory c.args.self.now.memory last.0 c.loop-over.invariant.memory
     c.loop-over.invariant.accounted last.2) last.1
     c.in_err-end_connection.ensures.received))
+
+pub returns-in_err-end_connection-clause-accounted : goal.returns-in_err-end_connection-clause-accounted
+returns-in_err-end_connection-clause-accounted g c =
+    rw c.end_connection.ensures.same
+    (λ h. c.take_evicted.ensures.accounted (c.loop-over.invariant.accounted h))
+
+pub returns-clause-closed : goal.returns-clause-closed
+returns-clause-closed g c =
+    fits_then c.args.self.now.memory c.loop-over.self.memory c.args.self.now.connections.closed
+    c.loop-over.self.connections.closed c.take_evicted.new.self.connections.closed
+    c.loop-over.invariant.memory c.loop-over.invariant.front c.take_evicted.ensures.closed

@@ -1,5 +1,5 @@
 use Rattle.std.specs.Prelude.{◌≡◌, true, length}
-use Rattle.connections.specs.Memory.{IsAccounted}
+use Rattle.connections.specs.Memory.{IsAccounted, IsFront}
 use Rattle.log_connections.specs.Log.{uncounted}
 use Rattle.log_connections.specs.Sink.{IsOverLimit, PassesEnded}
 use Rattle.log_connections.proofs.log.Log.evict.Given as goal
@@ -10,6 +10,7 @@ invariant-loop-over g l = record {
   ended : PassesEnded (IsOverLimit l.initial.self.connections l.initial.self.memory) l.initial.self.connections.live l.self.connections.live
       (g.S.Sink.received l.initial.sink) (g.S.Sink.received l.sink);
   accounted : IsAccounted l.initial.self.connections → IsAccounted l.self.connections;
+  front : IsFront l.initial.self.connections.closed l.self.connections.closed;
   memory : l.self.memory ≡ l.initial.self.memory;
   reader : uncounted l.self.arrivals ≡ uncounted l.initial.self.arrivals;
   sound : g.S.Sink.is_sound l.initial.sink ≡ true → g.S.Sink.is_sound l.sink ≡ true;

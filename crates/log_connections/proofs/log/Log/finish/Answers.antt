@@ -6,6 +6,7 @@ use Rattle.log_connections.proofs.log.Log.finish.Goals as goal
 pub loop-over-init : goal.loop-over-init
 loop-over-init g c = record {
   ended = none_ended IsOpen c.args.self.now.connections.live (g.S.Sink.received c.args.sink.now);
+  accounted = λ h. h;
   sound = λ h. h;
 }
 
@@ -20,6 +21,7 @@ loop-over-preserved g c =
           (g.S.Sink.received c.args.sink.now) (g.S.Sink.received c.loop-over.sink)
           (g.S.Sink.received c.end_connection.new.sink) c.loop-over.invariant.ended tt last.1
           c.in_ok-end_connection.ensures.received;
+      accounted = λ h. c.take_remaining.ensures.accounted (c.loop-over.invariant.accounted h);
       sound = λ h. c.in_ok-end_connection.ensures.sound (c.loop-over.invariant.sound h);
     })
 
@@ -32,3 +34,8 @@ returns-in_err-end_connection-clause-stopped g c =
     (g.S.Sink.received c.args.sink.now) (g.S.Sink.received c.loop-over.sink)
     (g.S.Sink.received c.end_connection.new.sink) c.loop-over.invariant.ended tt last.1
     c.in_err-end_connection.ensures.received))
+
+pub returns-in_err-end_connection-clause-accounted : goal.returns-in_err-end_connection-clause-accounted
+returns-in_err-end_connection-clause-accounted g c =
+    rw c.end_connection.ensures.same
+    (λ h. c.take_remaining.ensures.accounted (c.loop-over.invariant.accounted h))

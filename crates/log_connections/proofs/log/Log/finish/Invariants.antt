@@ -1,4 +1,5 @@
 use Rattle.std.specs.Prelude.{◌≡◌, true, length}
+use Rattle.connections.specs.Memory.{IsAccounted}
 use Rattle.log_connections.specs.Sink.{IsOpen, PassesEnded}
 use Rattle.log_connections.proofs.log.Log.finish.Given as goal
 
@@ -7,6 +8,7 @@ abbrev pub invariant-loop-over : goal.invariant-loop-over
 invariant-loop-over g l = record {
   ended : PassesEnded IsOpen l.initial.self.connections.live l.self.connections.live
       (g.S.Sink.received l.initial.sink) (g.S.Sink.received l.sink);
+  accounted : IsAccounted l.initial.self.connections → IsAccounted l.self.connections;
   sound : g.S.Sink.is_sound l.initial.sink ≡ true → g.S.Sink.is_sound l.sink ≡ true;
 }
 

@@ -11,4 +11,6 @@ returns-clause-others g c =
     let e = five_tuple_of s in
     keeps_either e c.wait.result old (with_waiting_segment c.args.reason s old) old c.wait.new.self
     (keeps_changed e (with_waiting c.args.reason s) (at e old.live) old)
-    (keeps_same e old.live old.live refl) c.wait.ensures.waits c.wait.ensures.err
+    (keeps_same e old.live old.live refl)
+    (rw c.count_dropped.ensures at c.wait.ensures.waits)
+    (rw c.count_dropped.ensures at c.wait.ensures.err)

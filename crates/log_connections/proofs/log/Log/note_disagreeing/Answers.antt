@@ -1,3 +1,6 @@
+use Rattle.log_connections.proofs.WeightLemmas.{disagreeing_weight}
+use Rattle.std.proofs.Common.{ap, ◌∙◌}
+use Rattle.connections.proofs.MemoryLemmas.{accounted_with}
 use Rattle.arrivals.specs.Arrival.{five_tuple_in}
 use Rattle.connections.proofs.TableLemmas.{changed_at}
 use Rattle.log_connections.specs.Log.{disagreeing_of}
@@ -11,3 +14,12 @@ returns-clause-noted g c =
     c.args.self.now.connections c.in-Some.connection.now c.count_disagreeing.new.connection
     (rw c.between.ensures at c.in-Some.ensures.value)
     (rw c.source.ensures at c.count_disagreeing.ensures))
+
+pub returns-clause-accounted : goal.returns-clause-accounted
+returns-clause-accounted g c =
+    rw c.between.ensures
+    (accounted_with (five_tuple_in c.args.arrival.now) c.args.self.now.connections
+    c.in-Some.connection.now c.count_disagreeing.new.connection
+    (rw c.between.ensures at c.in-Some.ensures.value)
+    (ap (λ x. x.weight) c.count_disagreeing.ensures
+    ∙ disagreeing_weight _ c.args.count c.in-Some.connection.now))

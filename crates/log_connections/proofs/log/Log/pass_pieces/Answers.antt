@@ -1,5 +1,6 @@
-use Rattle.std.proofs.Common.{refl}
+use Rattle.std.proofs.Common.{ap, refl}
 use Rattle.arrivals.specs.Arrival.{five_tuple_in}
+use Rattle.connections.proofs.MemoryLemmas.{accounted_with}
 use Rattle.connections.specs.Table.{at}
 use Rattle.log_connections.proofs.PacketLemmas.{lent_none, lent_same, lent_to}
 use Rattle.log_connections.proofs.SinkLemmas.{adds_none}
@@ -17,7 +18,8 @@ pub returns-in-Some-clause-lent : goal.returns-in-Some-clause-lent
 returns-in-Some-clause-lent g c =
     rw c.between.ensures
     (lent_to (five_tuple_in c.args.arrival.now) c.args.self.now.connections c.in-Some.open.now
-    c.hand_pieces.new.open (rw c.between.ensures at c.in-Some.ensures.value))
+    c.hand_pieces.new.open (rw c.between.ensures at c.in-Some.ensures.value)
+    c.hand_pieces.ensures.taken)
 
 pub returns-in-None-clause-received : goal.returns-in-None-clause-received
 returns-in-None-clause-received g c = adds_none (g.S.Sink.received c.args.sink.now)
@@ -26,3 +28,11 @@ pub returns-in-None-clause-lent : goal.returns-in-None-clause-lent
 returns-in-None-clause-lent g c =
     lent_none (five_tuple_in c.args.arrival.now) c.args.self.now.connections
     c.args.self.now.connections (rw c.between.ensures at c.in-None.ensures.value) refl
+
+pub returns-in-Some-clause-accounted : goal.returns-in-Some-clause-accounted
+returns-in-Some-clause-accounted g c =
+    rw c.between.ensures
+    (accounted_with (five_tuple_in c.args.arrival.now) c.args.self.now.connections
+    c.in-Some.open.now c.hand_pieces.new.open
+    (rw c.between.ensures at c.in-Some.ensures.value)
+    (ap (λ x. x.weight) c.hand_pieces.ensures.taken))

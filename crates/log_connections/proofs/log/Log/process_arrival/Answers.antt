@@ -55,3 +55,15 @@ returns-in-Err-clause-stopped g c =
     (option_map (λ b. b.value) c.in-Err.refused.over) c.in-Err.ensures.refused
     c.in-Err.ensures.others stops)
     c.end_after.ensures.stopped
+
+pub returns-in-Ok-Some-clause-accounted : goal.returns-in-Ok-Some-clause-accounted
+returns-in-Ok-Some-clause-accounted g c =
+    rw c.end_connection.ensures.same c.accept.ensures.accounted
+
+pub returns-in-Ok-None-clause-accounted : goal.returns-in-Ok-None-clause-accounted
+returns-in-Ok-None-clause-accounted g c =
+    λ h. c.pass_pieces.ensures.accounted (c.accept.ensures.accounted h)
+
+pub returns-in-Err-clause-accounted : goal.returns-in-Err-clause-accounted
+returns-in-Err-clause-accounted g c =
+    λ h. c.end_after.ensures.accounted (c.accept.ensures.accounted h)

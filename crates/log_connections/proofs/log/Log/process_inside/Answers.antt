@@ -39,3 +39,12 @@ returns-clause-processed g c = record {
         c.note_disagreeing-is_noted.ensures.is_open c.note_unless.ensures.noted;
   };
 }
+
+pub returns-in_err-process-clause-accounted : goal.returns-in_err-process-clause-accounted
+returns-in_err-process-clause-accounted g c =
+    λ h. c.process.ensures.accounted (c.note_disagreeing-is_noted.ensures.accounted h)
+
+pub returns-clause-accounted : goal.returns-clause-accounted
+returns-clause-accounted g c =
+    λ h. c.note_unless.ensures.accounted
+    (c.process.ensures.accounted (c.note_disagreeing-is_noted.ensures.accounted h))

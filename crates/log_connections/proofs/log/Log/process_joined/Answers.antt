@@ -11,6 +11,7 @@ inside-init g c = record {
   finds = λ new content h. h;
   needs = λ h. h;
   connections = refl;
+  accounted = λ h. h;
   memory = refl;
   received = refl;
   sound = λ h. h;
@@ -30,6 +31,7 @@ inside-preserved g c =
           c.in-Some.joined _ content less same.0 c.in_ok-whole.ensures.joins h));
       needs = λ h. c.inside.invariant.needs (ap is_some c.in-Some.is);
       connections = same.1 ∙ c.inside.invariant.connections;
+      accounted = λ h. c.process_inside.ensures.accounted (c.inside.invariant.accounted h);
       memory = c.in_ok-process_inside.ensures.memory ∙ c.inside.invariant.memory;
       received = same.2 ∙ c.inside.invariant.received;
       sound = λ h. c.in_ok-process_inside.ensures.sound (c.inside.invariant.sound h);
@@ -97,3 +99,15 @@ returns-clause-handled g c =
     (λ n. HoldsJoined (view_packet c.args.packet) n c.inside.self.arrivals c.inside.whole
     c.inside.self.arrivals Nothing) none_left (enough c.inside.self.arrivals c.inside.whole))) refl
     refl)
+
+pub returns-in_err-process_inside-clause-accounted : goal.returns-in_err-process_inside-clause-accounted
+returns-in_err-process_inside-clause-accounted g c =
+    λ h. c.process_inside.ensures.accounted (c.inside.invariant.accounted h)
+
+pub returns-then-branch-clause-accounted : goal.returns-then-branch-clause-accounted
+returns-then-branch-clause-accounted g c =
+    λ h. c.process_inside.ensures.accounted (c.inside.invariant.accounted h)
+
+pub returns-in_err-whole-clause-accounted : goal.returns-in_err-whole-clause-accounted
+returns-in_err-whole-clause-accounted g c =
+    λ h. c.process_inside.ensures.accounted (c.inside.invariant.accounted h)

@@ -1,4 +1,5 @@
 use Rattle.std.specs.Prelude.{◌≡◌, ◌+◌, ◌-◌, true, is_some}
+use Rattle.connections.specs.Memory.{IsAccounted}
 use Rattle.packets.specs.Section.{view_packet}
 use Rattle.tunnels.specs.declared.tunnel.TheConstants.{MAX_TUNNELS}
 use Rattle.arrivals.specs.declared.reader.ArrivalReader.{ArrivalReader}
@@ -14,6 +15,7 @@ invariant-inside g l = record {
       → HoldsWhole (view_packet l.packet) l.initial.self.arrivals l.initial.whole new content;
   needs : is_some l.whole ≡ true → is_some l.initial.whole ≡ true;
   connections : l.self.connections ≡ l.initial.self.connections;
+  accounted : IsAccounted l.initial.self.connections → IsAccounted l.self.connections;
   memory : l.self.memory ≡ l.initial.self.memory;
   received : g.S.Sink.received l.sink ≡ g.S.Sink.received l.initial.sink;
   sound : g.S.Sink.is_sound l.initial.sink ≡ true → g.S.Sink.is_sound l.sink ≡ true;

@@ -33,3 +33,11 @@ returns-in-Err-clause-others g c =
     keeps_then e old.live c.take_exchange.new.self.live c.accept_datagram.new.self.connections.live
     (keeps_after d (at e old.live) old c.take_exchange.new.self c.in_ok-over.ensures.left)
     c.accept_datagram.ensures.others
+
+pub returns-in-Ok-clause-accounted : goal.returns-in-Ok-clause-accounted
+returns-in-Ok-clause-accounted g c =
+    λ h. c.accept_datagram.ensures.accounted (c.take_exchange.ensures.accounted h)
+
+pub returns-in-Err-clause-accounted : goal.returns-in-Err-clause-accounted
+returns-in-Err-clause-accounted g c =
+    λ h. c.accept_datagram.ensures.accounted (c.take_exchange.ensures.accounted h)

@@ -18,3 +18,7 @@ returns-clause-others g c =
     keeps_then (five_tuple_of c.args.segment.now) c.args.self.now.connections.live
     c.analyze_acknowledged.new.self.connections.live c.take_segment-2.new.self.connections.live
     c.analyze_acknowledged.ensures.others c.take_segment-2.ensures.others
+
+pub returns-clause-accounted : goal.returns-clause-accounted
+returns-clause-accounted g c =
+    λ h. c.take_segment-2.ensures.accounted (c.analyze_acknowledged.ensures.accounted h)

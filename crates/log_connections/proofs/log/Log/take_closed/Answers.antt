@@ -28,3 +28,7 @@ returns-clause-others g c =
     (sym c.in_ok-taken.ensures.left)
     (keeps_ended (five_tuple_of c.args.segment.now) c.args.segment.now.time
     c.args.self.now.connections))
+
+pub returns-clause-accounted : goal.returns-clause-accounted
+returns-clause-accounted g c =
+    rw c.with_last.ensures.connections c.take_closed.ensures.accounted

@@ -8,3 +8,7 @@ returns-clause-oldest g c =
     c.take_remaining-taken.result c.end_early.result c.take_remaining-taken.ensures.taken
     c.take_remaining-taken.ensures.none c.take_remaining-taken.ensures.same
     c.end_early.ensures.ended)
+
+pub returns-clause-accounted : goal.returns-clause-accounted
+returns-clause-accounted g c =
+    rw c.end_early.ensures.connections c.take_remaining-taken.ensures.accounted

@@ -8,3 +8,7 @@ returns-clause-last g c =
     c.take_remaining-taken.result c.with_last.result c.take_remaining-taken.ensures.taken
     c.take_remaining-taken.ensures.none c.take_remaining-taken.ensures.same
     c.with_last.ensures.ended)
+
+pub returns-clause-accounted : goal.returns-clause-accounted
+returns-clause-accounted g c =
+    rw c.with_last.ensures.connections c.take_remaining-taken.ensures.accounted

@@ -3,6 +3,7 @@ use Rattle.std.specs.Option.{option_map}
 use Rattle.connections.specs.Segment.{five_tuple_of}
 use Rattle.log_connections.specs.Log.{Logs, before_another, behind_another}
 use Rattle.log_connections.proofs.PacketLemmas.{given}
+use Rattle.log_connections.proofs.WeightLemmas.{some_mapped}
 use Rattle.log_connections.proofs.OtherLemmas.{keeps_replaced, keeps_same, keeps_then}
 use Rattle.log_connections.proofs.log.Log.take_replaced.Goals as goal
 
@@ -20,6 +21,7 @@ returns-in-Ok-clause-replaced g c = record {
   was = option_map (λ b. b.value) c.in_ok-taken.taken;
   mid = c.take_replaced.new.self;
   replaced = c.in_ok-taken.ensures.replaced;
+  begun = some_mapped (λ b. b.value) c.in_ok-taken.taken _ c.in_ok-taken.ensures.attached;
   logs = rw c.with_last-over.ensures.connections at
       (subst
       (λ b. Logs b c.args.segment.now c.with_last-over.new.self.connections
@@ -50,3 +52,13 @@ returns-in-Err-clause-others g c =
     (keeps_replaced c.args.segment.now c.args.self.now.connections c.take_replaced.new.self
     (option_map (λ b. b.value) c.in_ok-taken.taken) c.in_ok-taken.ensures.replaced)
     (rw c.with_last-over.ensures.connections at c.analyze_segment.ensures.others)
+
+pub returns-in-Ok-clause-accounted : goal.returns-in-Ok-clause-accounted
+returns-in-Ok-clause-accounted g c =
+    λ h. (rw c.with_last-over.ensures.connections at c.analyze_segment.ensures.accounted)
+    (c.take_replaced.ensures.accounted h)
+
+pub returns-in-Err-clause-accounted : goal.returns-in-Err-clause-accounted
+returns-in-Err-clause-accounted g c =
+    λ h. (rw c.with_last-over.ensures.connections at c.analyze_segment.ensures.accounted)
+    (c.take_replaced.ensures.accounted h)

@@ -1,0 +1,258 @@
+-- Which memory is accounted for the connections after a step, and which closed ones are forgotten.
+use Rattle.std.proofs.Common.{◌≡◌, refl, sym, ap, ◌∙◌, subst, Option, Some, None, List, [], ◌∷◌, ◌++◌, length, append-nil, append_assoc, Bool, true, false, ℕ, ◌+◌, ◌-◌, ◌<◌, ◌≤◌, ◌^◌, arith}
+use Rattle.std.proofs.lemmas.Bool.{ltb-false}
+use Rattle.std.specs.Prelude.{nat_lt, IfNone, IfSome, OnOk, Result, Ok, Err, is_some, not, ◌&&◌, ◌||◌}
+use Rattle.std.specs.Map.{set_value}
+use Rattle.std.specs.Option.{option_map}
+use Rattle.connections.proofs.TableLemmas.{is_five_tuple-refl}
+use Rattle.connections.specs.Connection.{dropped_from, held_by, is_datagram_damaged, lets_in}
+use Rattle.connections.specs.FiveTuple.{is_five_tuple}
+use Rattle.connections.specs.Memory.{FitsClosed, IsFront, IsSettled, closed_count, is_over_limit, most_weight, open_part}
+use Rattle.connections.specs.Segment.{begins, begins_one, five_tuple_of, has_data}
+use Rattle.connections.specs.Table.{IsForgotten, Puts, Table, at, belongs, ended}
+use Rattle.connections.specs.Table.IsForgotten.{none, one}
+use Rattle.connections.specs.declared.connection.Connection.{Connection}
+use Rattle.connections.specs.declared.connection.Side.{Side}
+use Rattle.connections.specs.declared.connection.Side.TheVariants.{Originator, Responder}
+use Rattle.connections.specs.declared.connection.Verdict.{Verdict}
+use Rattle.connections.specs.declared.five_tuple.FiveTuple.{FiveTuple}
+use Rattle.connections.specs.declared.receiver.DropReason.{DropReason}
+use Rattle.connections.specs.declared.receiver.Judgement.{Judgement}
+use Rattle.connections.specs.declared.receiver.Judgement.TheVariants as judgement
+use Rattle.connections.specs.declared.segment.Segment.{Segment}
+use Rattle.arrivals.specs.declared.arrival.Arrival.{Arrival}
+use Rattle.arrivals.specs.declared.arrival.Arrival.TheVariants as arrival
+use Rattle.log_connections.specs.Capacity.{IsWeighed, IsWeighedAt, most_bytes_of}
+use Rattle.log_connections.specs.Log.{EndsAfter, EndsClosed, IsWeighedUnless, Settles, WhereBegun, WhereDatagram, WhereJudged, WhereLetIn, WhereSegment, WhereWeighed, disagreeing_from, is_damaged_in, verdict_in}
+use Rattle.log_connections.specs.Sink.{EndsAs}
+use Rattle.log_connections.specs.declared.analysis.TlsAnalysis.{TlsAnalysis}
+
+-- A connection that comes first accounts for what it takes, unless that is due.
+module _ {K : Type 0} (M : K → ℕ) (e : FiveTuple) where
+  pub weighed_first : (t : Table (TlsAnalysis K)) (c : Connection (TlsAnalysis K))
+      (xs : List (FiveTuple × Connection (TlsAnalysis K))) (settled : Bool)
+      → t.live ≡ (e, c) ∷ xs
+      → (settled ≡ true → c.weight ≤ most_weight (most_bytes_of M) c)
+      → (settled ≡ true → held_by c < 2 ^ 64 → held_by c ≤ c.weight)
+      → settled ≡ true → IsWeighedAt M e t
+  weighed_first t c xs settled stands within enough is =
+      let first : at e ((e, c) ∷ xs) ≡ Some c = rw (is_five_tuple-refl e) in
+      let found : at e t.live ≡ Some c = ap (at e) stands ∙ first in
+      subst (λ o. IfSome o (λ d. IsWeighed M (t.held - d.weight) d)) (sym found)
+      (record {
+        enough = λ few. enough is (omega (arith, few));
+        within = within is;
+      })
+
+  pub none_weighed : (t : Table (TlsAnalysis K)) → None ≡ at e t.live → IsWeighedAt M e t
+  none_weighed t h = subst (λ o. IfSome o (λ d. IsWeighed M (t.held - d.weight) d)) h tt
+
+  -- So does one of which it was updated.
+  written_at : (xs : List (FiveTuple × Connection (TlsAnalysis K)))
+      (c w : Connection (TlsAnalysis K)) → at e xs ≡ Some c
+      → at e (set_value (is_five_tuple e) xs w) ≡ Some w
+  written_at [] c w h = cc
+  written_at (x ∷ xs) c w h = (elim (is_five_tuple e x.0) as
+      (λ y. is_five_tuple e x.0 ≡ y → at e (x ∷ xs) ≡ Some c
+      → at e (set_value (is_five_tuple e) (x ∷ xs) w) ≡ Some w) [
+        | true ↦ λ t f. rw (t, t) refl
+        | false ↦ λ t f. rw (t, t) (written_at xs c w (rw t at f))
+      ]) refl h
+
+  updated_weighed : (o : Option (Connection (TlsAnalysis K))) (old new : Table (TlsAnalysis K))
+      → at e old.live ≡ o → IsSettled (most_bytes_of M) e o old new → IsWeighedAt M e new
+  updated_weighed None old new found same =
+      none_weighed new (sym (ap (λ t. at e t.live) same ∙ found))
+  updated_weighed (Some c) old new found is =
+      let w = is.0 in
+      let weighed : IsWeighed M ((old.held - c.weight) + w.weight - w.weight) w = record {
+        enough = λ few. is.1.enough (omega (arith, few));
+        within = is.1.within;
+      } in
+      subst (IsWeighedAt M e) (sym is.1.stands)
+      (subst (λ p. IfSome p (λ d. IsWeighed M ((old.held - c.weight) + w.weight - d.weight) d))
+      (sym (written_at old.live c w found)) weighed)
+
+  pub settled_weighed : (due : Bool) (old new : Table (TlsAnalysis K)) → Settles M due e old new
+      → IsWeighedUnless M due e old → IsWeighedAt M e new
+  settled_weighed true old new is unless = updated_weighed (at e old.live) old new refl is
+  settled_weighed false old new same unless = subst (IsWeighedAt M e) (sym same) (unless refl)
+
+  pub weighed_unless : (t : Table (TlsAnalysis K)) (settled : Bool)
+      → (settled ≡ true → IsWeighedAt M e t)
+      → IsWeighedUnless M (not settled) e t
+  weighed_unless t true f = λ h. f refl
+  weighed_unless t false f = λ h. let no : true ≡ false = h in cc
+
+-- Where none is open, none is weighed.
+pub some_of : {X : Type 0} (o : Option X) (b : Bool) → (is_some o || b) ≡ false → o ≡ None
+some_of None b h = refl
+some_of (Some x) b h = cc
+
+module _ {K : Type 0} where
+  pub none_belongs : (s : Segment) (old new : Table (TlsAnalysis K)) (b : Bool) → b ≡ false
+      → b ≡ belongs s old → Puts b s old new → None ≡ at (five_tuple_of s) new.live
+  none_belongs s old new true is same puts = cc
+  none_belongs s old new false is same puts =
+      sym (ap (λ t. at (five_tuple_of s) t.live) puts
+      ∙ some_of (at (five_tuple_of s) old.live)
+      (begins_one s && (begins s || not (is_some (at (five_tuple_of s) old.closed)))) (sym same))
+
+  -- A dropped packet leaves the accounted memory as it is.
+  pub dropped_weight : (side : Side) (r : DropReason) (c : Connection (TlsAnalysis K))
+      → (dropped_from side r c).weight ≡ c.weight
+  dropped_weight Originator r c = refl
+  dropped_weight Responder r c = refl
+
+  pub disagreeing_weight : (side : Side) (n : ℕ) (c : Connection (TlsAnalysis K))
+      → (disagreeing_from side n c).weight ≡ c.weight
+  disagreeing_weight Originator n c = refl
+  disagreeing_weight Responder n c = refl
+
+  pub none_open : {X : Type 0} (f : Connection (TlsAnalysis K) → X)
+      (o : Option (Connection (TlsAnalysis K))) → option_map f o ≡ None → None ≡ o
+  none_open f None h = refl
+  none_open f (Some c) h = cc
+
+  -- What holds of a table holds after a connection that isn't over was left in it.
+  ended_as : (o over : Option (Connection (TlsAnalysis K))) → EndsAs o over → over ≡ None
+      → is_some o ≡ false
+  ended_as None over ends missed = refl
+  ended_as (Some c) None ends missed = absurd ends
+  ended_as (Some c) (Some d) ends missed = cc
+
+  pub stays_closed : (P : Table (TlsAnalysis K) → Type 0) (s : Segment)
+      (mid new : Table (TlsAnalysis K)) (over : Option (Connection (TlsAnalysis K)))
+      → EndsClosed s mid new over → P mid → IfNone over (P new)
+  stays_closed P s mid new (Some c) ends p = tt
+  stays_closed P s mid new None ends p =
+      let open_still = ended_as (ended (five_tuple_of s) mid) None ends.ends refl in
+      subst P (sym (rw open_still at ends.left)) p
+
+  pub stays_after : (P : Table (TlsAnalysis K) → Type 0) (o : Option Bool) (s : Segment)
+      (mid new : Table (TlsAnalysis K)) (over : Option (Connection (TlsAnalysis K)))
+      → EndsAfter o s mid new over → P mid → IfNone over (P new)
+  stays_after P (Some true) s mid new over ends p = stays_closed P s mid new over ends p
+  stays_after P (Some false) s mid new over ends p =
+      subst (λ o. IfNone o (P new)) (sym ends.1) (subst P (sym ends.0) p)
+  stays_after P None s mid new over ends p =
+      subst (λ o. IfNone o (P new)) (sym ends.1) (subst P (sym ends.0) p)
+
+-- What holds by the verdict.
+module _ {C : Type 0} (over : Option C) (W : Type 0) where
+  pub let_in_weighs : (v : Option Verdict) (s : Segment) → option_map lets_in v ≡ Some true
+      → (has_data s ≡ true → IfNone over W) → WhereSegment over W v s
+  let_in_weighs None s is f = cc
+  let_in_weighs (Some v) s is f =
+      let let_in : true ≡ lets_in v = cc in
+      subst (λ b. WhereLetIn over W b v s) let_in f
+
+  pub none_open_weighs : (v : Option Verdict) (s : Segment) → v ≡ None → IfNone over W
+      → WhereSegment over W v s
+  none_open_weighs v s is w = subst (λ o. WhereSegment over W o s) (sym is) w
+
+  pub judged_weighs : (o : Option Verdict) (v : Verdict) (s : Segment) → o ≡ Some v
+      → lets_in v ≡ false
+      → WhereBegun over W v.shows_damage v.begins_another v.judgement s
+      → WhereSegment over W o s
+  judged_weighs o v s is kept_out w =
+      subst (λ p. WhereSegment over W p s) (sym is)
+      (subst (λ b. WhereLetIn over W b v s) (sym kept_out) w)
+
+  module _ (V : Type 0) (f : W → V) where
+    none_more : (o : Option C) → IfNone o W → IfNone o V
+    none_more None w = f w
+    none_more (Some c) w = tt
+
+    judged_more : (j : Judgement) (s : Segment) → WhereJudged over W j s → WhereJudged over V j s
+    judged_more judgement.Taken s w = none_more over w
+    judged_more judgement.Again s w = none_more over w
+    judged_more (judgement.Waiting r) s w = none_more over w
+    judged_more (judgement.Dropped r) s w = λ is. none_more over (w is)
+
+    begun_more : (damage another : Bool) (j : Judgement) (s : Segment)
+        → WhereBegun over W damage another j s → WhereBegun over V damage another j s
+    begun_more true another j s w = none_more over w
+    begun_more false true j s w = f w
+    begun_more false false j s w = judged_more j s w
+
+    let_in_more : (b : Bool) (v : Verdict) (s : Segment) → WhereLetIn over W b v s
+        → WhereLetIn over V b v s
+    let_in_more true v s w = λ is. none_more over (w is)
+    let_in_more false v s w = begun_more v.shows_damage v.begins_another v.judgement s w
+
+    pub segment_more : (v : Option Verdict) (s : Segment) → WhereSegment over W v s
+        → WhereSegment over V v s
+    segment_more None s w = none_more over w
+    segment_more (Some v) s w = let_in_more (lets_in v) v s w
+
+pub datagram_more : (W V : Type 0) → (W → V) → (o : Option Bool) → WhereDatagram o W
+    → WhereDatagram o V
+datagram_more W V f None w = f w
+datagram_more W V f (Some true) w = tt
+datagram_more W V f (Some false) w = f w
+
+pub datagram_weighs : (W : Type 0) (o : Option Bool) → W → WhereDatagram o W
+datagram_weighs W None w = w
+datagram_weighs W (Some true) w = tt
+datagram_weighs W (Some false) w = w
+
+pub damaged_weighs : (W : Type 0) (o : Option Bool) → o ≡ Some true → WhereDatagram o W
+damaged_weighs W o is = subst (λ p. WhereDatagram p W) (sym is) tt
+
+module _ {K : Type 0} where
+  pub weighs_more : (W V : Type 0) → (W → V) → (a : Arrival) (old : Table (TlsAnalysis K))
+      (over : Option (Connection (TlsAnalysis K))) → WhereWeighed a old over W
+      → WhereWeighed a old over V
+  weighs_more W V f (arrival.Segment s) old over w =
+      segment_more over W V f (verdict_in s old) s w
+  weighs_more W V f (arrival.Datagram d) old over w = datagram_more W V f (is_damaged_in d old) w
+
+-- What follows from a result also follows for an error.
+pub ok_more : {A E : Type 0} (r : Result A E) (W V : Type 0) → (W → V) → OnOk r W → OnOk r V
+ok_more (Ok x) W V f w = f w
+ok_more (Err e) W V f w = tt
+
+-- The closed connections that are forgotten.
+module _ (time : ℕ) where
+  pub forgotten_then : {xs ys zs : List (FiveTuple × ℕ)} → IsForgotten time xs ys
+      → IsForgotten time ys zs → IsForgotten time xs zs
+  forgotten_then h none = h
+  forgotten_then h (one ws zs e before is over) = one ws zs e (forgotten_then h before) is over
+
+pub front_then : (xs ys zs : List (FiveTuple × ℕ)) → IsFront xs ys → IsFront ys zs → IsFront xs zs
+front_then xs ys zs f k = record {
+  rest = k.rest ++ f.rest;
+  stood = f.stood ∙ ap (λ l. l ++ f.rest) k.stood ∙ append_assoc zs k.rest f.rest;
+}
+
+no_other : (a b : Bool) → (a || b) ≡ false → b ≡ false
+no_other false b h = h
+no_other true b h = cc
+
+pub fits_still : {K : Type 0} (limit : ℕ) (t : Table (TlsAnalysis K)) (b : Bool) → b ≡ false
+    → b ≡ is_over_limit limit t → FitsClosed limit t.closed t.closed
+fits_still limit t b is same = record {
+  latest = record { rest = []; stood = sym (append-nil t.closed) };
+  fits = ltb-false (closed_count limit) (length t.closed)
+      (no_other (nat_lt (open_part limit) t.held) (nat_lt (closed_count limit) (length t.closed))
+      (sym same ∙ is));
+}
+
+pub fits_then : (n m : ℕ) (xs ys zs : List (FiveTuple × ℕ)) → m ≡ n → IsFront xs ys
+    → FitsClosed m ys zs → FitsClosed n xs zs
+fits_then n m xs ys zs same f fits = record {
+  latest = front_then xs ys zs f fits.latest;
+  fits = subst (λ l. length zs ≤ closed_count l) same fits.fits;
+}
+
+-- Three clauses about one result.
+pub three_ok : {A E : Type 0} (r : Result A E) (P Q R S : Type 0) → (P → Q → R → S) → OnOk r P
+    → OnOk r Q → OnOk r R → OnOk r S
+three_ok (Ok x) P Q R S f p q v = f p q v
+three_ok (Err e) P Q R S f p q v = tt
+
+pub some_mapped : {A B : Type 0} (f : A → B) (o : Option A) (P : Type 0) → IfSome o (λ _. P)
+    → IfSome (option_map f o) (λ _. P)
+some_mapped f None P h = tt
+some_mapped f (Some x) P h = h

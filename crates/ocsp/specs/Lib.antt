@@ -1,0 +1,9 @@
+pub mod Response
+pub mod Single
+pub mod Timestamps
+pub use Rattle.layouts.specs.Bytes
+pub use Rattle.layouts.specs.Layout
+pub use Rattle.layouts.specs.Meaning
+pub use Rattle.layouts.specs.Reading
+pub use Rattle.layouts.specs.Items
+pub use Rattle.layouts.specs.Answers

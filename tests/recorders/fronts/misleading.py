@@ -1,0 +1,240 @@
+"""Connections made of the bytes of stored ones: dialogues in front of TLS whose values look like a
+hello, and dialogues behind which little TLS follows.
+
+The dialogues are written by hand, by the RFC of each. The TLS is that of a stored capture, so the
+line has that capture's fields, which tshark gave.
+"""
+
+from __future__ import annotations
+
+import json
+from dataclasses import dataclass
+from pathlib import Path
+
+from tests.recorders.fronts import expected
+from tests.support import packets
+from tests.support.shapes import Line
+
+TOP = Path(__file__).resolve().parents[3]
+STORED = TOP / "crates" / "tlslog" / "data" / "openssl_ecdhe.pcap"
+CLIENT, SERVER = bytes([192, 0, 2, 10]), bytes([192, 0, 2, 20])
+CLIENT_PORT = 40000
+START = 1_795_600_000_000_000
+ACK, PSH, FIN, SYN = 16, 8, 1, 2
+# A ClientHello for fake.test, and without a byte of LF, CR or 0x3e, so that it fits into a line or a
+# tag (RFC 8446, section 4.1.2; the name by RFC 6066, section 3).
+NAME = bytes.fromhex("0000 000e 000c 00 0009") + b"fake.test"
+BODY = b"\x03\x03" + b"r" * 32 + bytes.fromhex("00 0002 c02f 01 00")
+FAKE_BODY = BODY + len(NAME).to_bytes(2, "big") + NAME
+FAKE_MESSAGE = b"\x01" + len(FAKE_BODY).to_bytes(3, "big") + FAKE_BODY
+FAKE = b"\x16\x03\x01" + len(FAKE_MESSAGE).to_bytes(2, "big") + FAKE_MESSAGE
+# Fatal, handshake_failure (RFC 8446, section 6).
+ALERT = bytes.fromhex("15 03 03 0002 02 28")
+PROXY_2 = bytes.fromhex("0d0a0d0a000d0a515549540a 21 11") + (12 + 3 + len(FAKE)).to_bytes(2, "big")
+PROXY_2 += CLIENT + SERVER + (CLIENT_PORT).to_bytes(2, "big") + (443).to_bytes(2, "big")
+# PP2_TYPE_NOOP (the PROXY protocol, section 2.2.4).
+PROXY_2 += b"\x04" + len(FAKE).to_bytes(2, "big") + FAKE
+
+
+def element(tag: int, content: bytes) -> bytes:
+    """Returns an element of BER with a length of one or two bytes (X.690, section 8.1.3)."""
+    size = len(content)
+    length = bytes([size]) if size < 128 else bytes([0x81, size])
+    return bytes([tag]) + length + content
+
+
+def message(number: int, operation: bytes) -> bytes:
+    """Returns an LDAPMessage (RFC 4511, section 4.1.1)."""
+    return element(0x30, element(0x02, bytes([number])) + operation)
+
+
+# BindRequest with simple authentication, BindResponse: success; StartTLS and its success (RFC 4511,
+# sections 4.2 and 4.14).
+BIND = message(1, element(0x60, b"\x02\x01\x03\x04\x00" + element(0x80, FAKE)))
+BOUND = message(1, element(0x61, b"\x0a\x01\x00\x04\x00\x04\x00"))
+START_TLS = message(2, element(0x77, element(0x80, b"1.3.6.1.4.1.1466.20037")))
+STARTED = message(2, element(0x78, b"\x0a\x01\x00\x04\x00\x04\x00"))
+
+
+@dataclass(frozen=True)
+class Talk:
+    """The port, what both sides say in turn before TLS, the name of the dialogue, and what of TLS
+    follows: all, or other bytes in turn."""
+
+    port: int
+    said: list[tuple[str, bytes]]
+    found_by: str | None
+    tls: list[tuple[str, bytes]] | None = None
+
+
+def stored_talk() -> list[tuple[str, bytes]]:
+    """Returns the payloads of the stored capture's first connection, in turn."""
+    segments = packets.read(STORED.read_bytes())
+    client = segments[0].source
+    ends = segments[0].ends
+    return [
+        ("c" if one.source == client else "s", one.payload)
+        for one in segments
+        if one.payload and one.ends == ends
+    ]
+
+
+def hello_in_small_records() -> list[tuple[str, bytes]]:
+    """Cuts the ClientHello into records of 1, 5 and the other bytes (RFC 8446, section 5.1)."""
+    (_, first), *others = stored_talk()
+    header, body = first[:3], first[5 : 5 + int.from_bytes(first[3:5], "big")]
+    behind = first[5 + len(body) :]
+    parts = [body[:1], body[1:6], body[6:]]
+    records = b"".join(header + len(part).to_bytes(2, "big") + part for part in parts)
+    return [("c", records + behind), *others]
+
+
+def client_hello() -> bytes:
+    return stored_talk()[0][1]
+
+
+def talks() -> dict[str, Talk]:
+    """Returns the captures by name."""
+    greeting = ("s", b"220 mail.example.test ESMTP\r\n")
+    hello = [("c", b"EHLO me.example.test\r\n"), ("s", b"250-mail.example.test\r\n250 STARTTLS\r\n")]
+    starttls = [("c", b"STARTTLS\r\n"), ("s", b"220 Go ahead\r\n")]
+    smtp = [greeting, *hello, *starttls]
+    connect = [
+        ("c", b"CONNECT example.test:443 HTTP/1.1\r\nHost: example.test:443\r\n\r\n"),
+        ("s", b"HTTP/1.1 200 Connection established\r\n\r\n"),
+    ]
+    challenge = b"HTTP/1.1 407 Proxy Authentication Required\r\nContent-Length: " + str(
+        len(FAKE)
+    ).encode() + b"\r\nProxy-Authenticate: Basic realm=\"it\"\r\n\r\n"
+    upload = b"PUT /kept HTTP/1.1\r\nHost: example.test\r\nContent-Length: " + str(
+        len(client_hello())
+    ).encode() + b"\r\n\r\n"
+    tls = stored_talk()
+    answer = b"".join(part for side, part in tls if side == "s")
+    return {
+        "misleading_smtp_noop": Talk(
+            25, [greeting, *hello, ("c", b"NOOP " + FAKE + b"\r\n"), ("s", b"250 OK\r\n"), *starttls],
+            "smtp",
+        ),
+        "misleading_ftp_password": Talk(
+            21,
+            [
+                ("s", b"220 ready\r\n"),
+                ("c", b"USER me\r\n"),
+                ("s", b"331 Password required\r\n"),
+                ("c", b"PASS " + FAKE + b"\r\n"),
+                ("s", b"230 Logged in\r\n"),
+                ("c", b"AUTH TLS\r\n"),
+                ("s", b"234 Proceed\r\n"),
+            ],
+            "ftp",
+        ),
+        "misleading_ldap_bind": Talk(
+            389, [("c", BIND), ("s", BOUND), ("c", START_TLS), ("s", STARTED)], "ldap"
+        ),
+        "misleading_proxy_tlv": Talk(443, [("c", PROXY_2)], "proxy"),
+        "connect_behind_407": Talk(
+            8080,
+            [connect[0], ("s", challenge + FAKE), ("c", connect[0][1][:-2]
+              + b"Proxy-Authorization: Basic bWU6aXQ=\r\n\r\n"), connect[1]],
+            "http_connect",
+        ),
+        "proxy_in_front_of_smtp": Talk(
+            25, [("c", b"PROXY TCP4 192.0.2.10 192.0.2.20 40000 25\r\n"), *smtp], "smtp"
+        ),
+        "alert_behind_starttls": Talk(25, smtp, "smtp", [tls[0], ("s", ALERT)]),
+        "alert_behind_connect": Talk(8080, connect, "http_connect", [tls[0], ("s", ALERT)]),
+        "hello_alone_behind_starttls": Talk(25, smtp, "smtp", [tls[0]]),
+        "small_records_behind_starttls": Talk(25, smtp, "smtp", hello_in_small_records()),
+        "upload_is_echoed": Talk(
+            80,
+            [("c", upload + client_hello()), ("s", b"HTTP/1.1 200 OK\r\nContent-Length: "
+              + str(len(answer)).encode() + b"\r\n\r\n" + answer)],
+            None,
+            [],
+        ),
+    }
+
+
+NAMES = list(talks())
+
+
+def frames(talk: Talk) -> list[tuple[int, bytes]]:
+    """Returns the packets of a connection, in which each payload is acknowledged by the next one."""
+    numbers, said = {"c": 1000, "s": 5000}, []
+
+    def segment(side: str, flags: int, payload: bytes = b"") -> None:
+        other = "s" if side == "c" else "c"
+        ends = (CLIENT, SERVER) if side == "c" else (SERVER, CLIENT)
+        ports = (CLIENT_PORT, talk.port) if side == "c" else (talk.port, CLIENT_PORT)
+        ip = bytes.fromhex("4500 0000 0000 4000 4006 0000") + ends[0] + ends[1]
+        tcp = b"".join(port.to_bytes(2, "big") for port in ports)
+        tcp += numbers[side].to_bytes(4, "big")
+        tcp += (numbers[other] if flags & ACK else 0).to_bytes(4, "big")
+        tcp += bytes([0x50, flags]) + bytes.fromhex("ffff 0000 0000")
+        link = bytes(12) + b"\x08\x00"
+        time = START + 1000 * len(said)
+        one = packets.Segment(time, link + ip, tcp, payload)
+        said.append((time, one.frame()))
+        numbers[side] += len(payload) + bool(flags & (SYN | FIN))
+
+    segment("c", SYN)
+    segment("s", SYN | ACK)
+    segment("c", ACK)
+    behind = stored_talk() if talk.tls is None else talk.tls
+    for side, payload in [*talk.said, *behind]:
+        for at in range(0, len(payload), 1400):
+            segment(side, ACK | PSH, payload[at : at + 1400])
+    segment("c", FIN | ACK)
+    segment("s", FIN | ACK)
+    segment("c", ACK)
+    return said
+
+
+# Fields of the stored line that hold here too, if all of its TLS follows.
+OF_TLS = """version cipher curve server_name established resumed outcome ssl_history client_version
+    client_ciphers ssl_client_exts ja3 ja3s ja4 server_version cert_chain_fps""".split()
+OF_HELLO = "server_name client_version client_ciphers ssl_client_exts ja3 ja4".split()
+
+
+def stored_line() -> Line:
+    """Returns the stored line of the capture, by the time of its first packet."""
+    time = packets.read(STORED.read_bytes())[0].time / 1_000_000
+    lines = map(json.loads, (TOP / "crates/tlslog/stdout").read_text().splitlines())
+    [found] = [line for line in lines if abs(line["ts"] - time) < 0.0000015]
+    return found
+
+
+def record(folder: Path, name: str) -> list[Line]:
+    """Makes a capture, and returns its line."""
+    talk = talks()[name]
+    file = folder / f"{name}.pcap"
+    file.write_bytes(packets.pcap(frames(talk)))
+    if talk.found_by is None:
+        return []
+    stored = stored_line()
+    kept = OF_TLS if talk.tls is None or len(talk.tls) > 2 else OF_HELLO
+    of_tshark = {field: stored[field] for field in kept if field in stored}
+    front = {
+        side: sum(len(payload) for one, payload in talk.said if one == side) for side in ("c", "s")
+    }
+    by_hand: Line = {"found_by": talk.found_by}
+    by_hand |= {"orig_preamble_bytes": front["c"]} if front["c"] else {}
+    by_hand |= {"resp_preamble_bytes": front["s"]} if front["s"] else {}
+    known = expected.ends(file, talk.port)
+    if talk.tls is not None and len(talk.tls) <= 2:
+        by_hand["established"] = False
+    if talk.tls is not None and talk.tls[1:] == [("s", ALERT)]:
+        by_hand["last_alert"] = "handshake_failure"
+    absent = [] if front["s"] else ["resp_preamble_bytes"]
+    return [
+        expected.line(
+            {**known, **of_tshark, **by_hand},
+            {
+                "the first packet": list(known),
+                "tshark, of the stored capture": list(of_tshark),
+                "the RFC of the dialogue": [*by_hand, *absent],
+            },
+            absent,
+        )
+    ]
