@@ -17,7 +17,13 @@ from tests.oracle import record_fields
 from tests.support import fragmenting, packets
 
 OPTIONS = ["-o", "ip.defragment:TRUE", "-o", "ipv6.defragment:TRUE"]
-NOT_COMPARED = {"overlapping", "disagreeing"}
+NOT_COMPARED = {
+    "disagreeing",
+    "rounded down",
+    "beside a wrong header",
+    "behind an overlap",
+    "behind an empty one",
+}
 
 
 def compare(words: list[str]) -> None:

@@ -20,6 +20,7 @@ FRAGMENT = 44
 # Destination Options of 8 bytes without an option; a Fragment header follows.
 OPTIONS = bytes([FRAGMENT, 0, 1, 4, 0, 0, 0, 0])
 MAX_DATAGRAM = 65_535
+DAY = 86_400_000_000
 
 
 def parts_of(frame: bytes) -> tuple[bytes, bytes, int, bytes]:
@@ -110,6 +111,29 @@ def size_for(frame: bytes) -> int:
     return max(8, len(payload) // 100 // 8 * 8)
 
 
+def beside_wrong_header(made: list[bytes]) -> list[bytes]:
+    """Behind the first fragment one of IPv4 with other bytes and a wrong header checksum: a host
+    drops it."""
+    first = made[0]
+    if first[LINK_HEADER] >> 4 == 6:
+        return made
+    at = LINK_HEADER + 10
+    wrong = first[:at] + bytes([first[at] ^ 1]) + first[at + 1 : -8] + b"x" * 8
+    return [first, wrong, *made[1:]]
+
+
+def behind_overlap(frame: bytes, number: int) -> list[bytes]:
+    """Behind two fragments of the datagram with other bytes, which overlap: a host drops both."""
+    two = [fragment(frame, number, offset, True, b"x" * 16) for offset in (8, 0)]
+    return [*two, *cut(frame, size_for(frame), number)]
+
+
+def behind_empty(frame: bytes, number: int) -> list[bytes]:
+    """Behind a fragment with other bytes and an empty one, for which a host drops the datagram."""
+    two = [fragment(frame, number, *at, b"x" * n) for at, n in (((0, True), 8), ((8, True), 0))]
+    return [*two, *cut(frame, size_for(frame), number)]
+
+
 def in_vlan(frame: bytes) -> bytes:
     return frame[:12] + b"\x81\0\0\x07" + frame[12:]
 
@@ -125,12 +149,16 @@ def captures(
     """The capture with each datagram cut, in each way: its name, the capture, the tunnels, and how
     many bytes disagree, by the packet's source and destination."""
 
-    def made(way: Way) -> tuple[bytes, dict[tuple[packets.End, packets.End], int]]:
+    def made(
+        way: Way, jumps: bool = False
+    ) -> tuple[bytes, dict[tuple[packets.End, packets.End], int]]:
         out, disagreeing = [], {}
         for number, s in enumerate(segments):
             frame = s.frame()
             frames, count = way(frame, number + 1)
             out += [(s.time, f) for f in frames]
+            if jumps:
+                out.insert(len(out) - 1, (s.time + DAY, fragment(frame, 60_000, 8, True, b"x" * 8)))
             if count:
                 way_of = s.source, s.destination
                 disagreeing[way_of] = disagreeing.get(way_of, 0) + count
@@ -165,7 +193,13 @@ def captures(
         "reversed": (plain(lambda m: m[::-1]), []),
         "odd ones first": (plain(lambda m: m[1::2] + m[::2]), []),
         "doubled": (plain(doubled), []),
-        "overlapping": (lambda f, n: (cut(f, size_for(f), n, overlap=16)[::-1], 0), []),
+        "rounded down": (
+            lambda f, n: (cut(f, size_for(f), n, overlap=0 if f[LINK_HEADER] >> 4 == 6 else 7), 0),
+            [],
+        ),
+        "beside a wrong header": (plain(beside_wrong_header), []),
+        "behind an overlap": (lambda f, n: (behind_overlap(f, n), 0), []),
+        "behind an empty one": (lambda f, n: (behind_empty(f, n), 0), []),
         "behind options": (
             lambda f, n: (
                 cut(f, size_for(f), n, in_front=OPTIONS if f[LINK_HEADER] >> 4 == 6 else b""),
@@ -182,6 +216,8 @@ def captures(
     for name, (way, tunnels) in ways.items():
         capture, count = made(way)
         yield name, capture, tunnels, count
+    capture, count = made(plain(lambda m: m), jumps=True)
+    yield "beside a clock that jumps", capture, [], count
 
 
 def bad(segments: list[Segment]) -> Iterator[tuple[str, bytes, dict[str, int]]]:
@@ -203,34 +239,48 @@ def bad(segments: list[Segment]) -> Iterator[tuple[str, bytes, dict[str, int]]]:
         }
     other_end = "fragments that contradict their datagram's length"
     last = fragment(frame, 7, len(payload) // 8 * 8 + 8, False, b"x" * 8)
-    yield "another end behind", told([*pieces[1:], last]), {other_end: 1, missing: 1}
+    yield "another end behind", told([*pieces[1:], last]), {other_end: 1}
     early = fragment(frame, 7, 8, False, payload[8:16])
-    yield "another end in front", told([*pieces[1:], early]), {other_end: 1, missing: 1}
+    yield "another end in front", told([*pieces[1:], early]), {other_end: 1}
     behind = fragment(frame, 7, len(payload) // 8 * 8 + 16, True, b"x" * 8)
-    yield "bytes behind the end", told([*pieces[1:], behind]), {other_end: 1, missing: 1}
-    uneven = fragment(frame, 9, 0, True, payload[: size - 1])
+    yield "bytes behind the end", told([*pieces[1:], behind]), {other_end: 1}
+    overlapping = "datagrams with overlapping fragments"
+    two = [fragment(frame, 7, 8, True, payload[8:24]), fragment(frame, 7, 0, True, payload[:16])]
+    yield "overlapping", told([*two, *pieces[:1]]), {overlapping: 1, missing: 1}
+    empty = "datagrams with an empty fragment"
+    is_v6 = header[0] >> 4 == 6
+    uneven = fragment(frame, 9, 0, True, payload[:7])
     yield "a length that is no multiple of 8", told([uneven]), {
-        "fragments with a length that isn't a multiple of 8": 1
+        "fragments with a length that isn't a multiple of 8" if is_v6 else empty: 1
     }
-    front = 0 if header[0] >> 4 == 6 else len(header)
-    long = fragment(frame, 9, 65_528, False, b"x" * (8 - front % 8))
-    yield "too long", told([long]), {"fragments of datagrams above 65,535 bytes": 1}
+    if is_v6:
+        long = [fragment(frame, 9, 65_528, False, b"x" * 8)]
+    else:
+        long = [
+            fragment(frame, 9, 0, True, b"x" * 32_768),
+            fragment(frame, 9, 32_768, True, b"x" * 32_752),
+            fragment(frame, 9, 65_520, False, b"x" * 8),
+        ]
+    yield "too long", told(long), {"fragments of datagrams above 65,535 bytes": 1}
+    limit = 61_000_000 if is_v6 else 31_000_000
     yield "late", told(
-        [*pieces[:-1], pieces[-1]], step=31_000_000 // max(1, len(pieces) - 1) + 1
-    ), {"datagrams that were incomplete for 30 seconds": 1, missing: 1}
-    many = [fragment(frame, number, 8, True, b"x" * 8) for number in range(30_000)]
+        [*pieces[:-1], pieces[-1]], step=limit // max(1, len(pieces) - 1) + 1
+    ), {"datagrams that were incomplete too long": 1, missing: 1}
+    many = [fragment(frame, number, 8, True, b"x" * 8) for number in range(MANY)]
     yield "many that never end", told(many), {
         missing: WAITING,
-        "datagrams that were incomplete, with no room for them": 30_000 - WAITING,
+        "datagrams that were incomplete, with no room for them": MANY - WAITING,
     }
     same = [fragment(frame, 7, 8, True, payload[8:16])] * 1000
     yield "the same again and again", told(same), {missing: 1}
     yield "empty ones", told(
         [fragment(frame, 7, 8 * number, True, b"") for number in range(1000)]
-    ), {missing: 1}
+    ), {empty: 1000}
 
 
 HELD_LIMIT = 33_554_432
-# A fragment counts for twice its bytes and so many more; of those with 8 bytes so many may wait.
-FRAGMENT_COST = 5120
-WAITING = HELD_LIMIT // (2 * 8 + FRAGMENT_COST)
+# A datagram counts for twice its bytes and so many more for each run of bytes without a gap; of
+# those with 8 bytes so many may wait.
+DATAGRAM_COST, RUN_COST = 640, 128
+WAITING = HELD_LIMIT // (2 * 8 + RUN_COST + DATAGRAM_COST)
+MANY = 50_000

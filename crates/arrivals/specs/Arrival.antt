@@ -47,8 +47,8 @@ IsAddress (V4 n) (ip.V6 a) = ⊥
 IsAddress (V6 upper lower) (ip.V4 a) = ⊥
 IsAddress (V6 upper lower) (ip.V6 a) = IsIpv6OfBits a (upper * 2 ^ 64 + lower)
 
--- A segment is signed by MD5: the option's content is 16 bytes (RFC 2385, section 3). A host without
--- TCP-AO ignores its option (RFC 9293, section 3.1).
+-- A segment is signed by MD5: the option's content is 16 bytes (RFC 2385, section 3). A host
+-- without TCP-AO ignores the option of TCP-AO (RFC 9293, section 3.1).
 abbrev pub is_signature : Option Bytes → Bool
 is_signature None = false
 is_signature (Some content) = length content == 16

@@ -6,10 +6,10 @@ use Rattle.layouts.specs.Reading.{reading}
 use Rattle.layouts.specs.contracts.result.ErrorKindPartialEq.TheImpl as kind_eq
 use Rattle.layouts.specs.declared.result.ErrorKind.TheVariants.{Switch}
 use Rattle.capture.specs.Link.{carried}
-use Rattle.ip_fragments.specs.declared.fragments.FragmentOutcome.{FragmentOutcome}
-use Rattle.ip_fragments.specs.declared.fragments.FragmentOutcome.TheVariants as outcome
-use Rattle.ip_fragments.specs.declared.fragments.FragmentRefusal.{FragmentRefusal}
-use Rattle.ip_fragments.specs.declared.fragments.FragmentRefusal.TheVariants as refusal
+use Rattle.ip_fragments.specs.declared.outcome.FragmentOutcome.{FragmentOutcome}
+use Rattle.ip_fragments.specs.declared.outcome.FragmentOutcome.TheVariants as outcome
+use Rattle.ip_fragments.specs.declared.outcome.FragmentRefusal.{FragmentRefusal}
+use Rattle.ip_fragments.specs.declared.outcome.FragmentRefusal.TheVariants as refusal
 use Rattle.arrivals.specs.declared.counts.Counts.{Counts}
 use Rattle.arrivals.specs.declared.links.OtherLinks.{OtherLinks}
 
@@ -65,6 +65,8 @@ nothing_counted = record {
   too_long = 0;
   uneven = 0;
   other_end = 0;
+  empty = 0;
+  overlapping = 0;
   late = 0;
   evicted = 0;
   cut_short = 0;
@@ -106,6 +108,8 @@ abbrev pub with_refusal : FragmentRefusal → Counts → Counts
 with_refusal refusal.TooLong c = record c { too_long = one_more c.too_long }
 with_refusal refusal.Uneven c = record c { uneven = one_more c.uneven }
 with_refusal refusal.OtherEnd c = record c { other_end = one_more c.other_end }
+with_refusal refusal.Empty c = record c { empty = one_more c.empty }
+with_refusal refusal.Overlap c = record c { overlapping = one_more c.overlapping }
 
 abbrev pub with_refused : FragmentOutcome → Counts → Counts
 with_refused (outcome.Whole d) c = c

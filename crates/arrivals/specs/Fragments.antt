@@ -7,16 +7,24 @@ use Rattle.capture.specs.Fragment.{Fragment, joined, view_fragment}
 use Rattle.capture.specs.Ip.{Datagram, view_address}
 use Rattle.capture.specs.declared.fragment.IpFragment.{IpFragment}
 use Rattle.ip_fragments.specs.Table.{Adds, LeavesOut}
-use Rattle.ip_fragments.specs.declared.fragments.FragmentOutcome.{FragmentOutcome}
-use Rattle.ip_fragments.specs.declared.fragments.FragmentOutcome.TheVariants as outcome
+use Rattle.ip_fragments.specs.declared.outcome.FragmentOutcome.{FragmentOutcome}
+use Rattle.ip_fragments.specs.declared.outcome.FragmentOutcome.TheVariants as outcome
 use Rattle.packets.specs.Section.{Packet}
 use Rattle.tunnels.specs.Fragments.{fragment_in_datagram, fragment_in_packet, unwrapped_in}
 use Rattle.tunnels.specs.declared.tunnel.Tunnels.{Tunnels}
 use Rattle.arrivals.specs.Counts.{with_cut, with_refused, with_unread}
 use Rattle.arrivals.specs.Reader.{ReadsUnwrapped}
 use Rattle.arrivals.specs.declared.arrival.Arrival.{Arrival}
+use Rattle.arrivals.specs.declared.arrival.Checksums.{Checksums}
+use Rattle.arrivals.specs.declared.arrival.Checksums.TheVariants as checksums
 use Rattle.arrivals.specs.declared.fragments.CompletedDatagram.{CompletedDatagram}
 use Rattle.arrivals.specs.declared.reader.ArrivalReader.{ArrivalReader}
+
+-- If checksums don't count, each fragment's header is right.
+abbrev pub header_counted : Checksums → IpFragment → IpFragment
+header_counted checksums.Ignore f = record f { is_header_right = true }
+header_counted checksums.Check f = f
+header_counted checksums.Auto f = f
 
 -- The datagram that a fragment completed, if it did, with the fragment's time and tunnels.
 abbrev pub completed : ℕ → Tunnels → FragmentOutcome → Option CompletedDatagram
@@ -29,7 +37,7 @@ completed time tunnels (outcome.Refused r) = None
 pub record JoinsOne (time : ℕ) (tunnels : Tunnels) (f : IpFragment) (old new : ArrivalReader)
     (whole : Option CompletedDatagram) : Type 0 where
   pub outcome : FragmentOutcome
-  pub adds : Adds time f outcome old.fragments new.fragments
+  pub adds : Adds time (header_counted old.checksums f) outcome old.fragments new.fragments
   pub is : whole ≡ completed time tunnels outcome
   pub same : new ≡ record old {
     fragments = new.fragments;
@@ -38,7 +46,7 @@ pub record JoinsOne (time : ℕ) (tunnels : Tunnels) (f : IpFragment) (old new :
 
 -- A fragment for which there is no memory is dropped.
 pub record LeavesOutOne (time : ℕ) (f : IpFragment) (old new : ArrivalReader) : Type 0 where
-  pub leaves : LeavesOut time f old.fragments new.fragments
+  pub leaves : LeavesOut time (header_counted old.checksums f) old.fragments new.fragments
   pub same : new ≡ record old { fragments = new.fragments }
 
 -- The fragment that was found is joined. Without one the packet counts as malformed.

@@ -24,9 +24,10 @@ const PADDING: u8 = 1;
 
 const TIMESTAMPS: u8 = 8;
 
-/// The kind of the option that signs a segment, and the length of its content (RFC 2385, section 3).
+/// The kind of the option that signs a segment (RFC 2385, section 3).
 const MD5_SIGNATURE: u8 = 19;
 
+/// The length of a signature in bytes.
 const SIGNATURE_LEN: usize = 16;
 
 /// Which checksums count.

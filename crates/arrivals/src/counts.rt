@@ -36,11 +36,15 @@ pub struct Counts {
     pub other_parts: u64,
     /// Fragments of datagrams that would exceed 65,535 bytes.
     pub too_long: u64,
-    /// Fragments other than the last whose length isn't a multiple of 8.
+    /// Fragments other than the last whose length isn't a multiple of 8, in IPv6.
     pub uneven: u64,
     /// Fragments whose end contradicts that of others, or that go past their datagram's end.
     pub other_end: u64,
-    /// Datagrams that were dropped with fragments missing for 30 seconds.
+    /// Datagrams that were dropped for a fragment without bytes.
+    pub empty: u64,
+    /// Datagrams that were dropped for fragments that overlap.
+    pub overlapping: u64,
+    /// Datagrams that were dropped with fragments missing for 30 seconds, in IPv6 60.
     pub late: u64,
     /// Datagrams that were dropped with fragments missing, since there was no more room.
     pub evicted: u64,
@@ -138,6 +142,8 @@ impl Counts {
             too_long: 0,
             uneven: 0,
             other_end: 0,
+            empty: 0,
+            overlapping: 0,
             late: 0,
             evicted: 0,
             cut_short: 0,
@@ -166,6 +172,8 @@ impl Counts {
             FragmentRefusal::TooLong => add_one(&mut self.too_long),
             FragmentRefusal::Uneven => add_one(&mut self.uneven),
             FragmentRefusal::OtherEnd => add_one(&mut self.other_end),
+            FragmentRefusal::Empty => add_one(&mut self.empty),
+            FragmentRefusal::Overlap => add_one(&mut self.overlapping),
         }
     }
 
@@ -195,12 +203,13 @@ impl Counts {
     }
 
     /// Returns what was left out: the count, the noun and the reason.
-    fn left_out(&self) -> [LeftOut; 15]
+    fn left_out(&self) -> [LeftOut; 17]
         ensures { map (λ row. row.0) result ≡ self.now.unread ∷ self.now.other_protocols
             ∷ self.now.damaged ∷ self.now.other_parts ∷ self.now.too_long ∷ self.now.uneven
-            ∷ self.now.other_end ∷ self.now.late ∷ self.now.evicted ∷ self.now.cut_short
-            ∷ self.now.in_too_many_tunnels ∷ self.now.stray_segments ∷ self.now.gaps
-            ∷ self.now.ended_early ∷ unexplained_in self.now ∷ [] }
+            ∷ self.now.other_end ∷ self.now.empty ∷ self.now.overlapping ∷ self.now.late
+            ∷ self.now.evicted ∷ self.now.cut_short ∷ self.now.in_too_many_tunnels
+            ∷ self.now.stray_segments ∷ self.now.gaps ∷ self.now.ended_early
+            ∷ unexplained_in self.now ∷ [] }
     {
         [
             (
@@ -226,7 +235,9 @@ impl Counts {
                 "fragment",
                 "that contradict their datagram's length",
             ),
-            (self.late, "datagram", "that were incomplete for 30 seconds"),
+            (self.empty, "datagram", "with an empty fragment"),
+            (self.overlapping, "datagram", "with overlapping fragments"),
+            (self.late, "datagram", "that were incomplete too long"),
             (
                 self.evicted,
                 "datagram",

@@ -5,9 +5,9 @@ ghost use Rattle.capture.specs.Fragment.{view_fragment};
 ghost use Rattle.capture.specs.Ip.{view_datagram};
 ghost use Rattle.packets.specs.Section.{view_packet};
 ghost use Rattle.arrivals.specs.Arrival.{time_of};
-ghost use Rattle.arrivals.specs.Fragments.{counting_cut, datagram_of as datagram_of_whole, fragment_in as fragment_in_packet, fragment_inside, Joins, JoinsOne, LeavesOutFound, LeavesOutOne, ReadsWhole};
+ghost use Rattle.arrivals.specs.Fragments.{counting_cut, datagram_of as datagram_of_whole, fragment_in as fragment_in_packet, fragment_inside, header_counted as header_counted_by, Joins, JoinsOne, LeavesOutFound, LeavesOutOne, ReadsWhole};
 
-use crate::arrival::Arrival;
+use crate::arrival::{Arrival, Checksums};
 use crate::counts::add_one;
 use crate::reader::ArrivalReader;
 use capture::{IpDatagram, IpFragment, parse_joined};
@@ -63,6 +63,17 @@ impl CompletedDatagram {
     }
 }
 
+/// Returns a fragment whose header's checksum is correct if checksums don't count.
+fn header_counted<'a>(checksums: Checksums, fragment: &IpFragment<'a>) -> IpFragment<'a>
+    ensures { result ≡ header_counted_by checksums fragment.now }
+{
+    let is_header_right = fragment.is_header_right || checksums == Checksums::Ignore;
+    IpFragment {
+        is_header_right,
+        ..*fragment
+    }
+}
+
 impl ArrivalReader {
     /// Adds a fragment, captured at `time` in these tunnels, to its datagram. Returns the datagram
     /// once it is complete.
@@ -75,7 +86,8 @@ impl ArrivalReader {
         ensures joins { IfOk result (JoinsOne time tunnels fragment.now self.old self.new) }
         ensures err { OnErr result (LeavesOutOne time fragment.now self.old self.new) }
     {
-        match self.fragments.add(time, fragment)? {
+        let counted = header_counted(self.checksums, fragment);
+        match self.fragments.add(time, &counted)? {
             FragmentOutcome::Whole(whole) => Ok(Some(CompletedDatagram {
                 whole,
                 time,

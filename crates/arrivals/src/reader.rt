@@ -29,7 +29,7 @@ pub struct ArrivalReader {
     // The datagrams in reassembly, and whether the last packet held a fragment.
     pub(crate) fragments: FragmentTable,
     pub(crate) is_cut: bool,
-    checksums: Checksums,
+    pub(crate) checksums: Checksums,
     // The part whose connections are logged, if not all are.
     part: Option<Part>,
     // The numbers of networks, if these are told apart.
@@ -41,8 +41,7 @@ pub struct ArrivalReader {
 }
 
 impl ArrivalReader {
-    /// Returns the reader of a capture of which nothing was read. `keys` keys the hashes of its
-    /// table of fragments.
+    /// Returns a reader for a new capture. `keys` keys the hashes of its table of fragments.
     pub fn new(alloc: Global, keys: RandomState) -> Result<ArrivalReader, AllocError>
         ensures { IfOk result (λ reader. IsNew reader) }
     {
@@ -215,8 +214,8 @@ impl ArrivalReader {
     }
 
     /// Returns the TCP segment or UDP datagram of a packet. `None` if it has none that can be
-    /// parsed, or one of another part, both of which are counted; or if it holds a fragment, which
-    /// goes to [`ArrivalReader::join`].
+    /// parsed or it belongs to another part, which is counted, or if it holds a fragment:
+    /// [`ArrivalReader::join`] takes those.
     ///
     /// `AllocError` if networks are told apart and there is no memory for another one.
     pub fn arrival<'a>(&mut self, packet: Packet<'a>) -> Result<Option<Arrival<'a>>, AllocError>

@@ -1,12 +1,25 @@
--- The hash of a five-tuple under a table's keys.
+-- The keys of a table's hashes, and the hash of a five-tuple under them.
 use Rattle.std.specs.Prelude.{ℕ, ◌-◌, ◌/◌, ◌^◌, ◌==◌, if◌then◌else◌, bit_and, bit_xor}
+use Rattle.std.specs.Hash.{u64}
+use Rattle.std.specs.Hash.DefaultHasher.{finish, write}
+use Rattle.std.specs.List.{fold}
+use Rattle.std.specs.RandomState.{initial_hasher}
 use Rattle.std.specs.Net.Addr.{ipv4_bits, ipv6_bits}
 use Rattle.std.specs.declared.net.ip_addr.IpAddr.{IpAddr}
 use Rattle.std.specs.declared.net.ip_addr.IpAddr.TheVariants.{V4, V6}
+use Rattle.std.specs.declared.random_state.RandomState.{RandomState}
 use Rattle.std.specs.Hash.FoldHasher.{folded_multiply}
 use Rattle.connections.specs.FiveTuple.{address_number, both_numbers, ports_number}
 use Rattle.connections.specs.declared.five_tuple.FiveTuple.{FiveTuple}
 use Rattle.connections.specs.declared.hash_keys.HashKeys.{HashKeys}
+
+-- The system's hash of a number under the caller's random keys. A table's keys are those of 0 and
+-- of 1.
+abbrev pub keyed_hash : RandomState → ℕ → ℕ
+keyed_hash random n = finish (fold write (initial_hasher random) (u64 n))
+
+abbrev pub hash_keys_of : RandomState → HashKeys
+hash_keys_of random = record { first = keyed_hash random 0; second = keyed_hash random 1 }
 
 -- A hash extended by an address.
 abbrev pub after_address : HashKeys → ℕ → ℕ → ℕ

@@ -1,8 +1,9 @@
 -- The table after the borrowed connection is given back.
 use Rattle.std.specs.Prelude.{List, Option}
-use Rattle.lru.specs.LruCache.{LruCache, lru_cache, promoted}
+use Rattle.lru.specs.LruCache.{promoted}
 use Rattle.std.specs.Map.{set_value}
 use Rattle.std.specs.Borrow.{Fml, RattleType, MutBor, Lends, LendsIf}
+use Rattle.connections.specs.ByFiveTuple.{keyed_table, KeyedTable}
 use Rattle.connections.specs.FiveTuple.{is_five_tuple}
 use Rattle.connections.specs.Table.{Table}
 use Rattle.connections.specs.declared.five_tuple.FiveTuple.{FiveTuple}
@@ -14,11 +15,11 @@ use Rattle.connections.specs.contracts.table.Connections as table
 
 -- The value written for this five-tuple is among these entries. Without the five-tuple nothing
 -- changes.
-abbrev pub lends_value : (V : RattleType) → MutBor (LruCache FiveTuple V.Denot) → FiveTuple
+abbrev pub lends_value : (V : RattleType) → MutBor (KeyedTable V.Denot) → FiveTuple
     → List (FiveTuple × V.Denot) → Option (MutBor V.Denot) → Fml
 lends_value V t e xs r =
     LendsIf (by_five_tuple.the_row V) V t r
-    (λ w. lru_cache (set_value (is_five_tuple e) xs w) t.now.cap) t.now
+    (λ w. keyed_table t.now.keys (set_value (is_five_tuple e) xs w) t.now.cap) t.now
 
 -- The connection written for this five-tuple is in the table, and everything else stays. Without
 -- the five-tuple nothing changes.

@@ -8,6 +8,7 @@ pub mod Datagram
 pub mod Stream
 pub mod Waiting
 pub mod Connection
+pub mod Ending
 pub mod Table
 pub mod Memory
 pub mod Traffic

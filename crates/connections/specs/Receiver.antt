@@ -170,8 +170,8 @@ judge_damaged x y f s =
 
 -- An RST resets a connection only if its sequence number, whatever its other flags, is the one that
 -- its receiver expects next (RFC 5961, section 3.2), or, if both accept selective acknowledgements,
--- the one behind all that came. If its sender sent nothing else, it has to answer what the other end
--- sent.
+-- the one behind all that came. If its sender sent nothing else, it has to acknowledge all that the
+-- other end sent.
 abbrev pub is_answer_to : Option ℕ → Segment → Bool
 is_answer_to None s = true
 is_answer_to (Some next) s = acknowledges s && s.acknowledgment == next

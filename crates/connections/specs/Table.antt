@@ -97,8 +97,8 @@ module _ {T : Type 0} where
       → List (FiveTuple × Connection T) → Type 0
   HasBegun IsBegun p e xs = IfSome (at e xs) (λ c. IsBegun p c.attachment)
 
-  -- The same for an exchange that a datagram begins, or restarts because it shows that everything
-  -- before it was damaged.
+  -- A datagram's exchange has such a value, if the datagram begins it, or restarts it because
+  -- everything before was damaged.
   abbrev pub HasBegunBy : (Protocol → T → Type 0) → Datagram → Option (Connection T)
       → List (FiveTuple × Connection T) → Type 0
   HasBegunBy IsBegun d None xs = HasBegun IsBegun Udp (five_tuple_of_datagram d) xs

@@ -90,8 +90,8 @@ impl HashedEnds {
     }
 }
 
-/// A table by five-tuple, least recently used last. In a contract its value is a [`LruCache`]
-/// without the hashes.
+/// A table by five-tuple, least recently used last. In a contract its value has the entries without
+/// their hashes, and the keys.
 #[derive(Drop)]
 pub(crate) struct ByFiveTuple<V> {
     keys: HashKeys,
@@ -101,13 +101,11 @@ pub(crate) struct ByFiveTuple<V> {
 }
 
 impl<V> Model for ByFiveTuple<V> {
-    ghost use Rattle.lru.specs.LruCache.{LruCache as Entries, lru_cache};
-    ghost use Rattle.connections.specs.ByFiveTuple.{unhashed, AreHashed, IsHashed};
-    ghost use Rattle.connections.specs.declared.five_tuple.FiveTuple.{FiveTuple};
+    ghost use Rattle.connections.specs.ByFiveTuple.{keyed_table, unhashed, AreHashed, IsHashed, KeyedTable};
 
-    ghost Value = { Entries FiveTuple V };
+    ghost Value = { KeyedTable V };
 
-    ghost view = { λ b. lru_cache (unhashed b.table.entries) b.table.cap };
+    ghost view = { λ b. keyed_table b.keys (unhashed b.table.entries) b.table.cap };
 
     ghost invariant = { λ b. AreHashed b.keys b.table.entries × IsHashed b.keys b.latest };
 }
@@ -119,12 +117,15 @@ impl<V> ByFiveTuple<V> {
     ghost use Rattle.std.specs.Map.Iter.{deref_pair};
     ghost use Rattle.std.specs.Option.{option_copied_mut};
     ghost use Rattle.lru.specs.LruCache.{last_entry, lru_cache, promoted, put_entries};
+    ghost use Rattle.connections.specs.ByFiveTuple.{keyed_table};
     ghost use Rattle.connections.specs.FiveTuple.{is_five_tuple};
+    ghost use Rattle.connections.specs.HashKeys.{hash_keys_of};
     ghost use Rattle.connections.specs.Lends.{lends_value};
 
     /// Returns an empty table without a limit but memory. `keys` keys its hashes.
     pub(crate) fn new(alloc: Global, keys: RandomState) -> Result<ByFiveTuple<V>, AllocError>
-        ensures { IfOk result (λ table. table ≡ lru_cache [] (2 ^ 64 - 1)) }
+        ensures { IfOk result
+            (λ table. table ≡ keyed_table (hash_keys_of keys) [] (2 ^ 64 - 1)) }
     {
         // (a placeholder until the first lookup)
         let nobody = End {
@@ -193,8 +194,8 @@ impl<V> ByFiveTuple<V> {
 
     /// Makes a five-tuple the most recently used.
     pub(crate) fn promote(&mut self, five_tuple: &FiveTuple)
-        ensures entries { self.new
-            ≡ lru_cache (promoted (is_five_tuple five_tuple.now) self.old.entries) self.old.cap }
+        ensures entries { self.new ≡ record self.old
+            { entries = promoted (is_five_tuple five_tuple.now) self.old.entries } }
     {
         self.latest.change_to(self.keys, five_tuple);
         self.table.promote(&self.latest);
@@ -219,9 +220,8 @@ impl<V> ByFiveTuple<V> {
     /// Removes a five-tuple and returns its value.
     pub(crate) fn pop(&mut self, five_tuple: &FiveTuple) -> Option<V>
         ensures value { result ≡ lookup (is_five_tuple five_tuple.now) self.old.entries }
-        ensures entries { self.new
-            ≡ lru_cache (remove_entry (is_five_tuple five_tuple.now) self.old.entries)
-            self.old.cap }
+        ensures entries { self.new ≡ record self.old
+            { entries = remove_entry (is_five_tuple five_tuple.now) self.old.entries } }
     {
         self.latest.change_to(self.keys, five_tuple);
         self.table.pop(&self.latest)
@@ -230,8 +230,8 @@ impl<V> ByFiveTuple<V> {
     /// Removes the least recently used entry and returns it.
     pub(crate) fn pop_lru(&mut self) -> Option<(FiveTuple, V)>
         ensures value { result ≡ last_entry self.old.entries }
-        ensures entries { self.new ≡ lru_cache (take (length self.old.entries - 1) self.old.entries)
-            self.old.cap }
+        ensures entries { self.new ≡ record self.old
+            { entries = take (length self.old.entries - 1) self.old.entries } }
     {
         let (ends, value) = self.table.pop_lru()?;
         Some((ends.five_tuple, value))
@@ -241,9 +241,10 @@ impl<V> ByFiveTuple<V> {
     pub(crate) fn put(&mut self, five_tuple: FiveTuple, value: V) -> Result<(), AllocError>
     where
         V: Drop,
-        ensures entries { OnOk result
-            (self.new ≡ lru_cache (put_entries is_five_tuple self.old five_tuple value)
-            self.old.cap) }
+        ensures entries { OnOk result (self.new ≡ record self.old {
+          entries = put_entries is_five_tuple
+              (lru_cache self.old.entries self.old.cap) five_tuple value;
+        }) }
         ensures err { OnErr result (self.new ≡ self.old) }
     {
         self.latest.change_to(self.keys, &five_tuple);

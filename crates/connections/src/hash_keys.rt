@@ -1,7 +1,7 @@
 //! The hash of a five-tuple under a table's keys.
 ghost use Rattle.std.specs.Prelude.{◌≡◌};
 ghost use Rattle.std.specs.Hash.FoldHasher.{folded_multiply};
-ghost use Rattle.connections.specs.HashKeys.{after_address, hash_of, hash_of_both};
+ghost use Rattle.connections.specs.HashKeys.{after_address, hash_keys_of, hash_of, hash_of_both};
 
 use crate::five_tuple::FiveTuple;
 use crate::words::{address_bits, both_bits, port_bits};
@@ -26,7 +26,9 @@ fn folded(one: u64, other: u64) -> u64
 
 impl HashKeys {
     /// Derives two keys from those of the system's hashes.
-    pub(crate) fn of(keys: &RandomState) -> HashKeys {
+    pub(crate) fn of(keys: &RandomState) -> HashKeys
+        ensures { result ≡ hash_keys_of keys.now }
+    {
         HashKeys {
             first: keys.hash_one(0_u64),
             second: keys.hash_one(1_u64),

@@ -9,8 +9,9 @@
 //! side sent.
 //!
 //! Promise: `Receiver.judge` in `specs/` defines what a receiver does with a segment, `Stream`
-//! which bytes a stream has, `Connection` and `Table` what each call changes, and `Memory` how the
-//! memory is accounted. [`laws`] holds what follows from the definitions alone.
+//! which bytes a stream has, `Connection` and `Table` what each call changes, `Ending` which
+//! pending segments count once a connection is over, and `Memory` how the memory is accounted.
+//! [`laws`] holds what follows from the definitions alone.
 #![tactic(auto)]
 
 mod accepting;
@@ -19,6 +20,7 @@ mod by_five_tuple;
 mod connection;
 mod datagram;
 mod dropped;
+mod ending;
 mod exchange;
 mod five_tuple;
 mod hash_keys;

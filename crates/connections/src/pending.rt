@@ -45,7 +45,7 @@ const BYTES_FREE: usize = 0x4000;
 /// A pending segment.
 #[derive(Drop)]
 pub struct PendingSegment {
-    header: Header,
+    pub(crate) header: Header,
     payload: Vec<u8>,
     // Why it was dropped, if it isn't taken. None for the data of a SYN, which was counted with the
     // SYN.
@@ -75,9 +75,9 @@ fn is_unsure(reason: Option<DropReason>, is_beyond: bool) -> bool
     matches!(reason, Some(DropReason::Acknowledgment)) || is_strict(reason) || is_beyond
 }
 
-/// Returns whether only an acknowledgement of what was known to be sent shows that the receiver took
-/// a segment with this reason. A lost packet doesn't explain it, so a forged segment and a forged
-/// acknowledgement of it would fit.
+/// Returns whether a segment with this reason is accepted only by an acknowledgement of bytes that
+/// are known to be sent. Lost packets don't explain the reason, so a forged segment could come with
+/// a forged acknowledgement.
 fn is_strict(reason: Option<DropReason>) -> bool
     ensures { result ≡ is_strict_reason reason }
 {
@@ -121,7 +121,7 @@ impl PendingSegment {
     }
 
     /// Returns whether it is a SYN.
-    fn begins(&self) -> bool
+    pub(crate) fn begins(&self) -> bool
         ensures { result ≡ is_any_syn self.now }
     {
         self.segment().begins()
@@ -157,7 +157,7 @@ impl PendingSegment {
     }
 
     /// Returns the number of its first data byte.
-    fn first(&self) -> u32
+    pub(crate) fn first(&self) -> u32
         ensures { result ≡ first_of_kept self.now }
     {
         self.segment().first()
@@ -171,7 +171,7 @@ impl PendingSegment {
     }
 
     /// Returns whether it has data or a FIN.
-    fn takes_numbers(&self) -> bool
+    pub(crate) fn takes_numbers(&self) -> bool
         ensures { result ≡ takes_numbers_in self.now }
     {
         self.segment().takes_numbers()
@@ -213,8 +213,8 @@ impl PendingSegment {
                     || (!is_unsure(self.reason, self.is_beyond) && known.edge == Some(number))))
     }
 
-    /// Returns whether its receiver acknowledged bytes of it, by what is known when a segment of its
-    /// own sender comes behind them. Only strict reasons need that.
+    /// Returns whether its receiver had acknowledged bytes of it when a later segment of its sender
+    /// came. Only strict reasons need that.
     fn is_confirmed_by(&self, segment: &Segment<'_>, known: AckContext) -> bool
         ensures { result ≡ is_confirmed segment.now known self.now }
     {
@@ -281,7 +281,7 @@ impl PendingSegment {
     }
 
     /// Truncates it at this number, if that is known.
-    fn cut_at_known(&mut self, number: Option<u32>)
+    pub(crate) fn cut_at_known(&mut self, number: Option<u32>)
         ensures { self.new ≡ cut_at_known number self.old }
     {
         if let Some(number) = number {
@@ -504,7 +504,7 @@ fn place_syn(list: &[PendingSegment], answers: bool) -> Option<usize>
 }
 
 /// Removes and returns the segment at an index.
-fn remove_at(list: &mut Vec<PendingSegment>, place: usize) -> PendingSegment
+pub(crate) fn remove_at(list: &mut Vec<PendingSegment>, place: usize) -> PendingSegment
     requires { place < length list.old.items }
     ensures taken { kept_at (Some place) list.old.items ≡ Some result }
     ensures left { list.new.items ≡ without_at (Some place) list.old.items }
@@ -591,7 +591,7 @@ fn find_syn(list: &[PendingSegment], answers: bool) -> Option<Segment<'static>>
 /// The pending segments of a connection, in the order of arrival.
 #[derive(Drop)]
 pub(crate) struct PendingSegments {
-    kept: Vec<PendingSegment>,
+    pub(crate) kept: Vec<PendingSegment>,
 }
 
 impl Model for PendingSegments {

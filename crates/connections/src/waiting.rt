@@ -204,7 +204,7 @@ impl<T: Attachment> Connection<T> {
 
     /// Returns what became of a pending segment that was removed. If none of its bytes are missing,
     /// it counts as dropped.
-    fn outcome(&mut self, kept: PendingSegment) -> PendingOutcome
+    pub(crate) fn outcome(&mut self, kept: PendingSegment) -> PendingOutcome
         ensures outcome { result ≡ outcome_if (lacks_of kept self.old) kept }
         ensures left { self.new ≡ left_if (lacks_of kept self.old) kept self.old }
         ensures weight { self.new.weight ≡ self.old.weight }

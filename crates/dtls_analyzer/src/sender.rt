@@ -32,9 +32,9 @@ fn direction_of_record(record: &DTLSRawRecord<'_>) -> Option<Direction>
     }
 }
 
-/// The direction of a datagram by the hello that it begins with, in the clear: a ClientHello goes to
-/// the server, a ServerHello and a HelloVerifyRequest come from it (RFC 6347, section 4.2.2). `None`
-/// if it begins with anything else.
+/// Returns the direction of a datagram by the cleartext hello that it begins with: a ClientHello
+/// goes to the server, a ServerHello or HelloVerifyRequest comes from it (RFC 6347, section 4.2.2).
+/// `None` if it begins with anything else.
 ///
 /// A caller that doesn't know which side is the client passes the first hello of a conversation,
 /// even if other datagrams came before it, such as those of CAPWAP (RFC 5415) in the clear.

@@ -1,3 +1,5 @@
 pub mod CountLemmas
-pub mod LawLemmas
+pub mod RunLemmas
+pub mod WaitingLemmas
 pub mod TableLemmas
+pub mod LawLemmas

@@ -1,19 +1,18 @@
 -- What the table holds after a step.
-use Rattle.std.proofs.Common.{◌≡◌, ℕ, zero, suc, ◌+◌, ◌-◌, ◌<◌, ◌≤◌, ◌^◌, ◌&&◌, ◌||◌, nat_lt, not, Bool, true, false, cond, Option, Some, None, [], ◌∷◌, ◌++◌, filter, length, reverse}
+use Rattle.std.proofs.Common.{◌≡◌, ℕ, zero, suc, ◌+◌, ◌-◌, ◌<◌, ◌≤◌, ◌^◌, ◌&&◌, ◌||◌, nat_lt, not, Bool, true, false, cond, Option, Some, None, [], ◌∷◌, ◌++◌, length, reverse}
 use Rattle.std.proofs.Common.{take, slice_get, refl, sym, ap, ◌∙◌, subst, arith, rules}
-use Rattle.std.proofs.Common.{ltb-true}
-use Rattle.std.proofs.lemmas.List.{reverse-append, reverse-reverse}
-use Rattle.std.specs.Prelude.{IfOk, IfSome, OnErr, Result, Ok, Err}
+use Rattle.std.proofs.Common.{length-append, ltb-true}
+use Rattle.std.proofs.lemmas.List.{length-reverse, reverse-append, reverse-reverse}
+use Rattle.std.specs.Prelude.{IfOk, OnErr, Result, Ok, Err}
 use Rattle.std.specs.Map.{lookup_entry}
 use Rattle.lru.specs.LruCache.{LruCache, last_entry, put_entries}
 use Rattle.capture.specs.declared.fragment.IpFragment.{IpFragment}
 use Rattle.ip_fragments.specs.Key.{are_keys, key_of}
-use Rattle.ip_fragments.specs.Waiting.{Waiting, IsWith, begun, end_of, is_other_end, is_whole}
-use Rattle.ip_fragments.specs.Table.{AddsAt, Becomes, BeginsAt, HandsOut, Table, at, counted, evicted_in, dropped, dropped_of, found_or_begun, is_late, is_over, its, kept, late_in, left_of, others, put_at, weight, with_other}
-use Rattle.ip_fragments.specs.declared.fragments.FragmentOutcome.{FragmentOutcome}
-use Rattle.ip_fragments.specs.declared.fragments.FragmentOutcome.TheVariants as outcome
-use Rattle.ip_fragments.specs.declared.fragments.Step.{Step}
-use Rattle.ip_fragments.specs.declared.fragments.Step.TheVariants as step
+use Rattle.ip_fragments.specs.Waiting.{Waiting, Effect, Drops, Keeps, Completes, Receives, begun, counted, end_of, is_other_end, is_waiting, most_of, received, weight_of}
+use Rattle.ip_fragments.specs.Table.{Becomes, BecomesBy, BeginsAt, ReceivesAt, Table, at, found_or_begun, its, kept, left_of, others, put_at, putting, weight, with_other}
+use Rattle.ip_fragments.specs.declared.fragments.Received.{Received}
+use Rattle.ip_fragments.specs.declared.outcome.FragmentOutcome.{FragmentOutcome}
+use Rattle.ip_fragments.specs.declared.outcome.FragmentOutcome.TheVariants as outcome
 use Rattle.ip_fragments.specs.declared.key.Key.{Key}
 
 -- Keys that compare equal are equal.
@@ -84,29 +83,29 @@ others_first k t w = rw (are_keys-refl k) refl
 
 -- The memory of the table after a datagram changes.
 pub weight_with : (k : Key) (t : Table) (v w : Waiting) → at k t ≡ Some v
-    → weight (with_other k w t) + v.weight ≡ weight t + w.weight
+    → weight (with_other k w t) + weight_of v ≡ weight t + weight_of w
 weight_with k [] v w h = absurd cc
 weight_with k (e ∷ t) v w h = go (are_keys k e.0) h (weight_with k t v w)
   where
     go : (b : Bool) → cond b (Some e.1) (at k t) ≡ Some v
-        → (at k t ≡ Some v → weight (with_other k w t) + v.weight ≡ weight t + w.weight)
-        → weight (cond b ((e.0, w) ∷ t) (e ∷ with_other k w t)) + v.weight ≡ weight
-        (e ∷ t) + w.weight
-    go true g later = let same : e.1 ≡ v = cc in let n = ap (λ x. x.weight) same in omega (arith, n)
+        → (at k t ≡ Some v → weight (with_other k w t) + weight_of v ≡ weight t + weight_of w)
+        → weight (cond b ((e.0, w) ∷ t) (e ∷ with_other k w t)) + weight_of v ≡ weight
+        (e ∷ t) + weight_of w
+    go true g later = let same : e.1 ≡ v = cc in let n = ap weight_of same in omega (arith, n)
     go false g later = let n = later g in omega (arith, n)
 
 pub weight_others : (k : Key) (t : Table) (v : Waiting) → at k t ≡ Some v
-    → weight (others k t) + v.weight ≡ weight t
+    → weight (others k t) + weight_of v ≡ weight t
 weight_others k [] v h = absurd cc
 weight_others k (e ∷ t) v h = go (are_keys k e.0) h (weight_others k t v)
   where
     go : (b : Bool) → cond b (Some e.1) (at k t) ≡ Some v
-        → (at k t ≡ Some v → weight (others k t) + v.weight ≡ weight t)
-        → weight (cond b t (e ∷ others k t)) + v.weight ≡ weight (e ∷ t)
-    go true g later = let same : e.1 ≡ v = cc in let n = ap (λ x. x.weight) same in omega (arith, n)
+        → (at k t ≡ Some v → weight (others k t) + weight_of v ≡ weight t)
+        → weight (cond b t (e ∷ others k t)) + weight_of v ≡ weight (e ∷ t)
+    go true g later = let same : e.1 ≡ v = cc in let n = ap weight_of same in omega (arith, n)
     go false g later = let n = later g in omega (arith, n)
 
-pub weight_at : (k : Key) (t : Table) (v : Waiting) → at k t ≡ Some v → v.weight ≤ weight t
+pub weight_at : (k : Key) (t : Table) (v : Waiting) → at k t ≡ Some v → weight_of v ≤ weight t
 weight_at k t v h = let n = weight_others k t v h in omega (arith, n)
 
 weight_append : (t u : Table) → weight (t ++ u) ≡ weight t + weight u
@@ -127,7 +126,7 @@ front_and_last (x ∷ t) p h = let e : suc (length t) - 1 ≡ length t = omega a
     rw e (last_of x t p (rw e at h))
 
 pub weight_front : (t : Table) (k : Key) (w : Waiting) → Some (k, w) ≡ last_entry t
-    → weight (take (length t - 1) t) + w.weight ≡ weight t
+    → weight (take (length t - 1) t) + weight_of w ≡ weight t
 weight_front t k w h =
     let n = ap weight (front_and_last t (k, w) (sym h))
     ∙ weight_append (take (length t - 1) t) ((k, w) ∷ []) in
@@ -140,85 +139,70 @@ oldest_first t k w h =
     let xs = take (length t - 1) t in
     ap reverse (front_and_last t (k, w) (sym h)) ∙ reverse-append xs ((k, w) ∷ [])
 
-module _ (time more : ℕ) (t : Table) (k : Key) (w : Waiting) where
-  less : Some (k, w) ≡ last_entry t → weight t - w.weight ≡ weight (take (length t - 1) t)
+-- No more are left than there were.
+left_low : (more held : ℕ) (t : Table) → length (left_of more held t) ≤ length t
+unfolding left_of
+left_low more held [] = omega arith
+left_low more held (e ∷ t) =
+    go (nat_lt 33554432 (held + more)) refl (left_low more (held - weight_of e.1) t)
+  where
+    go : (b : Bool) → nat_lt 33554432 (held + more) ≡ b
+        → length (left_of more (held - weight_of e.1) t) ≤ length t
+        → length (left_of more held (e ∷ t)) ≤ length (e ∷ t)
+    go true p behind = rw p (omega (arith, behind))
+    go false p behind = rw p (omega arith)
+
+pub kept_low : (more : ℕ) (t : Table) → length (kept more t) ≤ length t
+kept_low more t =
+    let left = left_low more (weight t) (reverse t) in
+    let same = length-reverse (left_of more (weight t) (reverse t)) in
+    let all = length-reverse t in
+    omega (arith, left, same, all)
+
+module _ (more : ℕ) (t : Table) (k : Key) (w : Waiting) where
+  less : Some (k, w) ≡ last_entry t → weight t - weight_of w ≡ weight (take (length t - 1) t)
   less h = let n = weight_front t k w h in omega (arith, n)
 
-  -- The oldest is dropped where it is over.
-  pub kept_one : Some (k, w) ≡ last_entry t → is_over time more (weight t) w ≡ true
-      → kept time more (take (length t - 1) t) ≡ kept time more t
+  -- The oldest is dropped where there is no room.
+  pub kept_one : Some (k, w) ≡ last_entry t → nat_lt 33554432 (weight t + more) ≡ true
+      → kept more (take (length t - 1) t) ≡ kept more t
   unfolding left_of
   kept_one h o =
       let xs = take (length t - 1) t in
-      let front = ap (left_of time more (weight t)) (oldest_first t k w h) in
-      let step : left_of time more (weight t) ((k, w) ∷ reverse xs) ≡ left_of time more (weight xs)
+      let front = ap (left_of more (weight t)) (oldest_first t k w h) in
+      let step : left_of more (weight t) ((k, w) ∷ reverse xs) ≡ left_of more (weight xs)
       (reverse xs) = rw o (rw (less h) refl) in
       ap reverse (sym (front ∙ step))
 
-  pub dropped_one : Some (k, w) ≡ last_entry t → is_over time more (weight t) w ≡ true
-      → dropped time more t ≡ (k, w) ∷ dropped time more (take (length t - 1) t)
-  unfolding dropped_of
-  dropped_one h o =
-      ap (dropped_of time more (weight t)) (oldest_first t k w h) ∙ rw o (rw (less h) refl)
-
   -- Otherwise all stay.
-  pub kept_all : Some (k, w) ≡ last_entry t → is_over time more (weight t) w ≡ false
-      → kept time more t ≡ t
+  pub kept_all : Some (k, w) ≡ last_entry t → nat_lt 33554432 (weight t + more) ≡ false
+      → kept more t ≡ t
   unfolding left_of
   kept_all h o =
       let xs = take (length t - 1) t in
-      let same : left_of time more (weight t) ((k, w) ∷ reverse xs) ≡ (k, w) ∷ reverse xs =
+      let same : left_of more (weight t) ((k, w) ∷ reverse xs) ≡ (k, w) ∷ reverse xs =
       rw o refl in
       let front = oldest_first t k w h in
-      ap reverse (ap (left_of time more (weight t)) front ∙ same ∙ sym front) ∙ reverse-reverse t
+      ap reverse (ap (left_of more (weight t)) front ∙ same ∙ sym front) ∙ reverse-reverse t
 
-  pub dropped_none : Some (k, w) ≡ last_entry t → is_over time more (weight t) w ≡ false
-      → dropped time more t ≡ []
-  unfolding dropped_of
-  dropped_none h o =
-      ap (dropped_of time more (weight t)) (oldest_first t k w h) ∙ rw o refl
-
--- One more is counted.
-counted_more : (n : ℕ) (b : Bool) (k : Key) (w : Waiting) (p : Key × Waiting → Bool) (t : Table)
-    → p (k, w) ≡ b
-    → counted (counted n (cond b 1 0)) (length (filter p t)) ≡ counted n
-    (length (filter p ((k, w) ∷ t)))
-counted_more n true k w p t e = rw e (omega arith)
-counted_more n false k w p t e = rw e (omega arith)
+  -- One more is counted.
+  pub evicted_step : (n m : ℕ) → Some (k, w) ≡ last_entry t
+      → nat_lt 33554432 (weight t + more) ≡ true → m ≡ counted n 1
+      → counted m (length (take (length t - 1) t) - length (kept more (take (length t - 1) t)))
+      ≡ counted n (length t - length (kept more t))
+  evicted_step n m h o e =
+      let same = ap length (kept_one h o) in
+      let low = kept_low more (take (length t - 1) t) in
+      let front = ap length (front_and_last t (k, w) (sym h))
+      ∙ length-append (take (length t - 1) t) ((k, w) ∷ []) in
+      omega (arith, same, low, front, e)
 
 pub counted_low : (m n k : ℕ) → m ≡ counted n k → m < 2 ^ 64
 counted_low m n k e = omega (arith, e)
 
-none_counted : (n : ℕ) → n < 2 ^ 64 → n ≡ counted n 0
-none_counted n low = omega (arith, low)
-
-module _ (time n : ℕ) (d : Table) where
-  pub none_late : d ≡ [] → n < 2 ^ 64 → n ≡ counted n (late_in time d)
-  none_late e low = subst (λ l. n ≡ counted n (late_in time l)) (sym e) (none_counted n low)
-
-  pub none_evicted : d ≡ [] → n < 2 ^ 64 → n ≡ counted n (evicted_in time d)
-  none_evicted e low = subst (λ l. n ≡ counted n (evicted_in time l)) (sym e) (none_counted n low)
-
-module _ (time more n m : ℕ) (b : Bool) (t : Table) (k : Key) (w : Waiting) where
-  pub late_step : b ≡ is_late time w → Some (k, w) ≡ last_entry t
-      → is_over time more (weight t) w ≡ true → m ≡ counted n (cond b 1 0)
-      → counted m (late_in time (dropped time more (take (length t - 1) t)))
-      ≡ counted n (late_in time (dropped time more t))
-  late_step is h o e =
-      let d = dropped time more (take (length t - 1) t) in
-      ap (λ x. counted x (late_in time d)) e
-      ∙ counted_more n b k w (λ p. is_late time p.1) d (sym is)
-      ∙ sym (ap (λ l. counted n (late_in time l)) (dropped_one time more t k w h o))
-
-  pub evicted_step : b ≡ is_late time w → Some (k, w) ≡ last_entry t
-      → is_over time more (weight t) w ≡ true → m ≡ counted n (cond (not b) 1 0)
-      → counted m (evicted_in time (dropped time more (take (length t - 1) t)))
-      ≡ counted n (evicted_in time (dropped time more t))
-  evicted_step is h o e =
-      let d = dropped time more (take (length t - 1) t) in
-      ap (λ x. counted x (evicted_in time d)) e
-      ∙ counted_more n (not b) k w (λ p. not (is_late time p.1)) d (ap not (sym is))
-      ∙ sym (ap (λ l. counted n (evicted_in time l)) (dropped_one time more t k w h o))
+pub none_counted : (n : ℕ) (t : Table) (more : ℕ) → kept more t ≡ t → n < 2 ^ 64
+    → n ≡ counted n (length t - length (kept more t))
+none_counted n t more same low = let e = ap length same in omega (arith, e, low)
 
 -- A fact that needs no error also holds on one.
 pub on_err : {A E P : Type 0} → (r : Result A E) → P → OnErr r P
@@ -235,13 +219,9 @@ empty [] h = refl
 empty (x ∷ t) h = let e : suc (length t) - 1 ≡ length t = omega arith in
     absurd (there x t (rw e at h))
 
-pub kept_empty : (time more : ℕ) (t : Table) → last_entry t ≡ None → kept time more t ≡ t
+pub kept_empty : (more : ℕ) (t : Table) → last_entry t ≡ None → kept more t ≡ t
 unfolding left_of
-kept_empty time more t h = subst (λ l. kept time more l ≡ l) (sym (empty t h)) refl
-
-pub dropped_empty : (time more : ℕ) (t : Table) → last_entry t ≡ None → dropped time more t ≡ []
-unfolding dropped_of
-dropped_empty time more t h = subst (λ l. dropped time more l ≡ []) (sym (empty t h)) refl
+kept_empty more t h = subst (λ l. kept more l ≡ l) (sym (empty t h)) refl
 
 pub none_left : (t : Table) → last_entry t ≡ None → weight t ≡ 0
 none_left [] h = refl
@@ -268,87 +248,120 @@ agrees_at : (time : ℕ) (f : IpFragment) (t : Table) (o : Option Waiting) → a
 agrees_at time f t o is h =
     subst (λ p. is_other_end f (found_or_begun time p) ≡ false) (sym is) h
 
-pub agrees_missing : (time : ℕ) (k : Key) (f : IpFragment) (s : Step) (t u : Table) → k ≡ key_of f
-    → s ≡ step.Missing → AddsAt s k f t u → is_other_end f (its time f t) ≡ false
-agrees_missing time k f s t u is is_step a =
-    let a' : AddsAt step.Missing k f t u = subst (λ x. AddsAt x k f t u) is_step a in
-    agrees_at time f t None (subst (λ x. at x t ≡ None) is a'.0) (begun_agrees time f)
+pub agrees_missing : (time : ℕ) (k : Key) (f : IpFragment) (t : Table) → k ≡ key_of f
+    → at k t ≡ None → is_other_end f (its time f t) ≡ false
+agrees_missing time k f t is none =
+    agrees_at time f t None (subst (λ x. at x t ≡ None) is none) (begun_agrees time f)
 
 pub agrees_found : (time : ℕ) (k : Key) (f : IpFragment) (t : Table) (v : Waiting) → k ≡ key_of f
     → at k t ≡ Some v → is_other_end f v ≡ false → is_other_end f (its time f t) ≡ false
 agrees_found time k f t v is found h =
     agrees_at time f t (Some v) (subst (λ x. at x t ≡ Some v) is found) h
 
+-- A fragment begins a datagram that waits for more, or is over at once.
+pub begins_waiting : (k : Key) (f : IpFragment) (o : FragmentOutcome) (v w : Waiting) (t u : Table)
+    (e : Effect) → Receives f o v w e → is_waiting o ≡ true → u ≡ (k, w) ∷ t
+    → BeginsAt k f o t u e
+begins_waiting k f o v w t u (Drops r) is waits e =
+    let off : is_waiting (outcome.Refused r) ≡ true = subst (λ x. is_waiting x ≡ true) is.0 waits in
+    absurd cc
+begins_waiting k f o v w t u (Keeps x) is waits e = (is.0, e ∙ ap (λ y. (k, y) ∷ t) is.1)
+begins_waiting k f (outcome.Whole d) v w t u (Completes x) is waits e = absurd cc
+begins_waiting k f outcome.Waits v w t u (Completes x) is waits e = absurd is.0
+begins_waiting k f (outcome.Refused r) v w t u (Completes x) is waits e = absurd cc
+
+pub begins_over : (k : Key) (f : IpFragment) (o : FragmentOutcome) (v w : Waiting) (t u : Table)
+    (e : Effect) → Receives f o v w e → is_waiting o ≡ false → u ≡ t → BeginsAt k f o t u e
+begins_over k f o v w t u (Drops r) is waits e = (is.0, e)
+begins_over k f o v w t u (Keeps x) is waits e =
+    let off : is_waiting outcome.Waits ≡ false = subst (λ x. is_waiting x ≡ false) is.0 waits in
+    absurd cc
+begins_over k f o v w t u (Completes x) is waits e = (is.0, e)
+
 -- The first fragment of a datagram.
-begins : (time : ℕ) (f : IpFragment) (o : FragmentOutcome) (t u : Table) → at (key_of f) t ≡ None
-    → BeginsAt time (key_of f) f o t u → Becomes time f o t u
-begins time f (outcome.Refused r) t u none b = absurd b
-begins time f outcome.Waits t u none b = (
-  b.0,
-  agrees_at time f t None none (begun_agrees time f),
-  subst (λ p. IsWith f (found_or_begun time p) b.0) (sym none) b.1,
-  b.2,
-  b.3 ∙ sym (ap (λ p. put_at p (key_of f) b.0 t) none),
-)
-begins time f (outcome.Whole d) t u none b = (
-  b.0,
-  agrees_at time f t None none (begun_agrees time f),
-  subst (λ p. IsWith f (found_or_begun time p) b.0) (sym none) b.1,
-  b.2,
-  b.3,
-  b.4 ∙ sym (missed (key_of f) t none),
-)
+begins_by : (k : Key) (f : IpFragment) (o : FragmentOutcome) (t u : Table) (e : Effect)
+    → k ≡ key_of f → at k t ≡ None → BeginsAt k f o t u e → BecomesBy f o t u e
+begins_by k f o t u (Drops r) is none b =
+    (b.0, b.1 ∙ sym (missed k t none) ∙ ap (λ x. others x t) is)
+begins_by k f o t u (Keeps w) is none b =
+    (b.0, b.1 ∙ sym (ap (λ p. put_at p k w t) none) ∙ ap (λ x. putting x w t) is)
+begins_by k f o t u (Completes w) is none b =
+    (b.0, b.1 ∙ sym (missed k t none) ∙ ap (λ x. others x t) is)
 
-pub missing_becomes : {E : Type 0} (time : ℕ) (k : Key) (f : IpFragment) (s : Step)
-    (r : Result FragmentOutcome E) (t v u : Table) → k ≡ key_of f
-    → s ≡ step.Missing → AddsAt s k f t v → IfOk r (λ o. BeginsAt time k f o v u)
-    → IfOk r (λ o. Becomes time f o t u)
-missing_becomes time k f s (Err e) t v u is is_step a b = _
-missing_becomes time k f s (Ok o) t v u is is_step a b =
-    let a' : AddsAt step.Missing k f t v = subst (λ x. AddsAt x k f t v) is_step a in
-    let b' = subst (λ l. BeginsAt time k f o l u) a'.1 b in
-    begins time f o t u (subst (λ x. at x t ≡ None) is a'.0)
-    (subst (λ x. BeginsAt time x f o t u) is b')
-
--- A fragment of a datagram that waits for more.
-pub waits_becomes : (time : ℕ) (k : Key) (f : IpFragment) (s : Step) (t u : Table) → k ≡ key_of f
-    → s ≡ step.Waits → AddsAt s k f t u → Becomes time f outcome.Waits t u
-waits_becomes time k f s t u is is_step a =
-    let a' : AddsAt step.Waits k f t u = subst (λ x. AddsAt x k f t u) is_step a in
-    let b : AddsAt step.Waits (key_of f) f t u = subst (λ x. AddsAt step.Waits x f t u) is a' in (
-      b.1,
-      agrees_at time f t (Some b.0) b.2 b.3,
-      subst (λ p. IsWith f (found_or_begun time p) b.1) (sym b.2) b.4,
-      b.5,
-      b.6 ∙ sym (ap (λ p. put_at p (key_of f) b.1 t) b.2),
-    )
-
--- The fragment that completes a datagram.
-ends : (time : ℕ) (f : IpFragment) (o : FragmentOutcome) (t u : Table) (v w : Waiting)
-    → at (key_of f) t ≡ Some v → is_other_end f v ≡ false → IsWith f v w → is_whole w ≡ true
-    → HandsOut f w o → u ≡ others (key_of f) t → Becomes time f o t u
-ends time f (outcome.Refused r) t u v w found agrees is whole h e = absurd h
-ends time f outcome.Waits t u v w found agrees is whole h e = absurd h
-ends time f (outcome.Whole d) t u v w found agrees is whole h e = (
-  w,
-  agrees_at time f t (Some v) found agrees,
-  subst (λ p. IsWith f (found_or_begun time p) w) (sym found) is,
-  whole,
-  h,
-  e,
-)
-
-pub whole_becomes : (time : ℕ) (k : Key) (f : IpFragment) (s : Step) (o : FragmentOutcome)
-    (t v u : Table)
-    → k ≡ key_of f → s ≡ step.Whole
-    → AddsAt s k f t v → IfSome (at k v) (λ w. is_whole w ≡ true → HandsOut f w o) → u ≡ others k v
+pub missing_becomes : (time : ℕ) (k : Key) (f : IpFragment) (o : FragmentOutcome) (t u : Table)
+    → k ≡ key_of f → at k t ≡ None → BeginsAt k f o t u (received f (begun time))
     → Becomes time f o t u
-whole_becomes time k f s o t v u is is_step a h e =
-    let a' : AddsAt step.Whole k f t v = subst (λ x. AddsAt x k f t v) is_step a in
-    let found : at k v ≡ Some a'.1 = ap (at k) a'.6 ∙ at_with k t a'.0 a'.1 a'.2 in
-    let handed : is_whole a'.1 ≡ true → HandsOut f a'.1 o =
-    subst (λ p. IfSome p (λ w. is_whole w ≡ true → HandsOut f w o)) found h in
-    let left : u ≡ others k t = e ∙ ap (others k) a'.6 ∙ others_with k t a'.1 in
-    ends time f o t u a'.0 a'.1 (subst (λ x. at x t ≡ Some a'.0) is a'.2) a'.3 a'.4 a'.5
-    (handed a'.5)
-    (subst (λ x. u ≡ others x t) is left)
+missing_becomes time k f o t u is none b =
+    let its_is : its time f t ≡ begun time =
+    ap (found_or_begun time) (subst (λ x. at x t ≡ None) is none) in
+    subst (λ x. BecomesBy f o t u (received f x)) (sym its_is)
+    (begins_by k f o t u (received f (begun time)) is none b)
+
+pub missing_put : {E : Type 0} (time : ℕ) (k : Key) (f : IpFragment) (x : Option Received)
+    (r : Result FragmentOutcome E) (t m u : Table) → k ≡ key_of f → x ≡ None
+    → ReceivesAt k f x t m → IfOk r (λ o. BeginsAt k f o m u (received f (begun time)))
+    → IfOk r (λ o. Becomes time f o t u)
+missing_put time k f x (Err e) t m u is none a b = _
+missing_put time k f x (Ok o) t m u is none a b =
+    let a' : ReceivesAt k f None t m = subst (λ y. ReceivesAt k f y t m) none a in
+    missing_becomes time k f o t u is a'.0
+    (subst (λ l. BeginsAt k f o l u (received f (begun time))) a'.1 b)
+
+-- A fragment of a datagram in the table, which waits for more or is over.
+waits_by : (k : Key) (f : IpFragment) (o : FragmentOutcome) (v w : Waiting) (t u : Table)
+    (e : Effect) → k ≡ key_of f → at k t ≡ Some v → Receives f o v w e → is_waiting o ≡ true
+    → u ≡ with_other k w t → BecomesBy f o t u e
+waits_by k f o v w t u (Drops q) is found r waits e =
+    let off : is_waiting (outcome.Refused q) ≡ true = subst (λ x. is_waiting x ≡ true) r.0 waits in
+    absurd cc
+waits_by k f o v w t u (Keeps x) is found r waits e = (
+  r.0,
+  e ∙ ap (λ y. with_other k y t) r.1 ∙ sym (ap (λ p. put_at p k x t) found)
+      ∙ ap (λ y. putting y x t) is,
+)
+waits_by k f (outcome.Whole d) v w t u (Completes x) is found r waits e = absurd cc
+waits_by k f outcome.Waits v w t u (Completes x) is found r waits e = absurd r.0
+waits_by k f (outcome.Refused q) v w t u (Completes x) is found r waits e = absurd cc
+
+over_by : (k : Key) (f : IpFragment) (o : FragmentOutcome) (v w : Waiting) (t m u : Table)
+    (e : Effect) → k ≡ key_of f → at k t ≡ Some v → Receives f o v w e → is_waiting o ≡ false
+    → m ≡ with_other k w t → u ≡ others k m → BecomesBy f o t u e
+over_by k f o v w t m u (Drops q) is found r waits e g =
+    (r.0, g ∙ ap (others k) e ∙ others_with k t w ∙ ap (λ x. others x t) is)
+over_by k f o v w t m u (Keeps x) is found r waits e g =
+    let off : is_waiting outcome.Waits ≡ false = subst (λ x. is_waiting x ≡ false) r.0 waits in
+    absurd cc
+over_by k f o v w t m u (Completes x) is found r waits e g =
+    (r.0, g ∙ ap (others k) e ∙ others_with k t w ∙ ap (λ x. others x t) is)
+
+module _ (time : ℕ) (k : Key) (f : IpFragment) (x : Received) (t m : Table) where
+  its_is : (v : Waiting) → k ≡ key_of f → at k t ≡ Some v → its time f t ≡ v
+  its_is v is found = ap (found_or_begun time) (subst (λ y. at y t ≡ Some v) is found)
+
+  pub waits_becomes : k ≡ key_of f → ReceivesAt k f (Some x) t m → is_waiting x.outcome ≡ true
+      → Becomes time f x.outcome t m
+  waits_becomes is r waits =
+      let v = r.0 in
+      subst (λ y. BecomesBy f x.outcome t m (received f y)) (sym (its_is v is r.2))
+      (waits_by k f x.outcome v r.1 t m (received f v) is r.2 r.3 waits r.6)
+
+  pub over_becomes : (u : Table) → k ≡ key_of f → ReceivesAt k f (Some x) t m
+      → is_waiting x.outcome ≡ false → u ≡ others k m → Becomes time f x.outcome t u
+  over_becomes u is r waits left =
+      let v = r.0 in
+      subst (λ y. BecomesBy f x.outcome t u (received f y)) (sym (its_is v is r.2))
+      (over_by k f x.outcome v r.1 t m u (received f v) is r.2 r.3 waits r.6 left)
+
+  -- The memory that the table counts then.
+  pub weight_received : ReceivesAt k f (Some x) t m → weight m ≡ weight t + x.added
+  weight_received r =
+      let n = weight_with k t r.0 r.1 r.2 in
+      let added = r.4 in
+      let same = ap weight r.6 in
+      omega (arith, n, added, same)
+
+  pub room_received : (held : ℕ) → ReceivesAt k f (Some x) t m → held ≡ weight t
+      → weight t + most_of f ≤ 33554432 → held + x.added ≤ 33554432
+  room_received held r is room =
+      let few = r.5 in
+      omega (arith, few, is, room)

@@ -18,13 +18,15 @@ protocol_in (V4 n) protocol = protocol
 protocol_in (V6 upper lower) protocol = 0
 
 -- A datagram's key: source, destination, identification and protocol (RFC 791, section 3.2; RFC
--- 8200, section 4.5).
+-- 8200, section 4.5). A host drops fragments with a wrong header checksum, so they are apart from
+-- others: such datagrams are those of a card that writes its checksums behind the capture.
 abbrev pub key_of : IpFragment → Key
 key_of f = record {
   source = f.source;
   destination = f.destination;
   identification = f.identification;
   protocol = protocol_in f.source f.protocol;
+  is_header_right = f.is_header_right;
 }
 
 -- The input of the key's hash.

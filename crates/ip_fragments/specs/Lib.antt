@@ -1,4 +1,5 @@
 pub mod Key
+pub mod Runs
 pub mod Waiting
 pub mod Table
 pub mod Law

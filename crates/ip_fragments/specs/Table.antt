@@ -1,17 +1,18 @@
 -- The table of datagrams in reassembly, by key. The datagram whose first fragment arrived last
 -- comes first.
-use Rattle.std.specs.Prelude.{◌≡◌, ℕ, ◌+◌, ◌-◌, ◌^◌, ◌||◌, not, nat_lt, min, Bool, true, false, if◌then◌else◌, Option, Some, None, List, [], ◌∷◌, filter, length, reverse}
+use Rattle.std.specs.Prelude.{◌≡◌, ℕ, ◌+◌, ◌-◌, ◌*◌, ◌≤◌, nat_lt, Bool, false, if◌then◌else◌, Option, Some, None, List, [], ◌∷◌, length, reverse}
 use Rattle.std.specs.Map.{lookup, remove_entry, set_value}
+use Rattle.capture.specs.declared.ip.Address.{Address}
+use Rattle.capture.specs.declared.ip.Address.TheVariants.{V4, V6}
 use Rattle.capture.specs.declared.fragment.IpFragment.{IpFragment}
 use Rattle.ip_fragments.specs.Key.{are_keys, key_of}
-use Rattle.ip_fragments.specs.Waiting.{Waiting, IsHandedOut, IsWith, begun, is_other_end, is_too_long, is_uneven, is_whole, weight_of}
+use Rattle.ip_fragments.specs.Waiting.{Waiting, Effect, Drops, Keeps, Completes, HandsOut, Receives, begun, counted, is_other_end, most_of, received, refused_alone, weight_of}
 use Rattle.ip_fragments.specs.declared.key.Key.{Key}
-use Rattle.ip_fragments.specs.declared.fragments.FragmentOutcome.{FragmentOutcome}
-use Rattle.ip_fragments.specs.declared.fragments.FragmentOutcome.TheVariants as outcome
-use Rattle.ip_fragments.specs.declared.fragments.FragmentRefusal.TheVariants as refusal
-use Rattle.ip_fragments.specs.declared.fragments.Step.{Step}
-use Rattle.ip_fragments.specs.declared.fragments.Step.TheVariants as step
-use Rattle.ip_fragments.specs.declared.fragments.TheConstants.{HELD_LIMIT, WAIT_LIMIT}
+use Rattle.ip_fragments.specs.declared.outcome.FragmentOutcome.{FragmentOutcome}
+use Rattle.ip_fragments.specs.declared.outcome.FragmentOutcome.TheVariants as outcome
+use Rattle.ip_fragments.specs.declared.outcome.FragmentRefusal.{FragmentRefusal}
+use Rattle.ip_fragments.specs.declared.fragments.Received.{Received}
+use Rattle.ip_fragments.specs.declared.fragments.TheConstants.{HELD_LIMIT, WAIT_LIMIT, WAIT_LIMIT_V6}
 
 abbrev pub Table : Type 0
 Table = List (Key × Waiting)
@@ -37,7 +38,7 @@ putting k w t = put_at (at k t) k w t
 -- The memory that all count, in bytes.
 abbrev pub weight : Table → ℕ
 weight [] = 0
-weight (e ∷ t) = e.1.weight + weight t
+weight (e ∷ t) = weight_of e.1 + weight t
 
 -- The table, and how many datagrams were dropped: late ones, and those evicted over the memory
 -- limit.
@@ -46,127 +47,100 @@ pub record Reassembly : Type 0 where
   pub late : ℕ
   pub evicted : ℕ
 
--- A datagram has waited too long for fragments after its first (RFC 791, section 3.2; RFC 8200,
--- section 4.5).
-abbrev pub is_late : ℕ → Waiting → Bool
-is_late time w = nat_lt WAIT_LIMIT (time - w.since)
+-- How long a datagram waits after its first fragment: 30 seconds in IPv4, as in Linux, 60 in IPv6
+-- (RFC 8200, section 4.5).
+abbrev pub limit_of : Address → ℕ
+limit_of (V4 n) = WAIT_LIMIT
+limit_of (V6 upper lower) = WAIT_LIMIT_V6
 
--- A datagram is dropped: it is late, or all of them, which hold `held` bytes, exceed their memory
--- with `more` bytes.
-abbrev pub is_over : ℕ → ℕ → ℕ → Waiting → Bool
-is_over time more held w = is_late time w || nat_lt HELD_LIMIT (held + more)
+-- A fragment arrives too late for its datagram.
+abbrev pub is_late : ℕ → Address → Waiting → Bool
+is_late time a w = nat_lt (limit_of a) (time - w.since)
 
--- What is left of these datagrams, the oldest first, which count `held` bytes: each that is over is
--- dropped, up to the first that isn't.
-unfoldable pub left_of : ℕ → ℕ → ℕ → Table → Table
-left_of time more held [] = []
-left_of time more held (e ∷ t) =
-    if is_over time more held e.1 then left_of time more (held - e.1.weight) t else e ∷ t
+-- It drops that datagram then. Only its own fragments show that a datagram's time is over: times of
+-- others may come from another clock.
+abbrev pub without_late_at : Option Waiting → ℕ → IpFragment → Reassembly → Reassembly
+without_late_at None time f r = r
+without_late_at (Some w) time f r = if is_late time f.source w then
+    record r { waiting = others (key_of f) r.waiting; late = counted r.late 1 } else r
 
--- The datagrams that are dropped, the oldest first.
-unfoldable pub dropped_of : ℕ → ℕ → ℕ → Table → Table
-dropped_of time more held [] = []
-dropped_of time more held (e ∷ t) =
-    if is_over time more held e.1 then e ∷ dropped_of time more (held - e.1.weight) t else []
+abbrev pub without_late : ℕ → IpFragment → Reassembly → Reassembly
+without_late time f r = without_late_at (at (key_of f) r.waiting) time f r
 
--- What is left of a table, and what is dropped. Its last datagram is the oldest.
-abbrev pub kept : ℕ → ℕ → Table → Table
-kept time more t = reverse (left_of time more (weight t) (reverse t))
+-- What is left of these datagrams, which count `held` bytes, once the oldest are dropped until
+-- there is room for `more`.
+unfoldable pub left_of : ℕ → ℕ → Table → Table
+left_of more held [] = []
+left_of more held (e ∷ t) =
+    if nat_lt HELD_LIMIT (held + more) then left_of more (held - weight_of e.1) t else e ∷ t
 
-abbrev pub dropped : ℕ → ℕ → Table → Table
-dropped time more t = dropped_of time more (weight t) (reverse t)
+-- What is left of a table. Its last datagram is the oldest.
+abbrev pub kept : ℕ → Table → Table
+kept more t = reverse (left_of more (weight t) (reverse t))
 
--- How many datagrams are late, and how many were dropped for room alone.
-abbrev pub late_in : ℕ → Table → ℕ
-late_in time t = length (filter (λ e. is_late time e.1) t)
-
-abbrev pub evicted_in : ℕ → Table → ℕ
-evicted_in time t = length (filter (λ e. not (is_late time e.1)) t)
-
--- A count in 64 bits, which doesn't go past the highest.
-abbrev pub counted : ℕ → ℕ → ℕ
-counted n more = min (n + more) (2 ^ 64 - 1)
-
--- Datagrams that are over at this time, or leave no room for `more` bytes, are dropped and counted.
-abbrev pub forgetting : ℕ → ℕ → Reassembly → Reassembly
-forgetting time more r = record {
-  waiting = kept time more r.waiting;
-  late = counted r.late (late_in time (dropped time more r.waiting));
-  evicted = counted r.evicted (evicted_in time (dropped time more r.waiting));
+-- The oldest datagrams are dropped and counted until there is room for `more` bytes.
+abbrev pub forgetting : ℕ → Reassembly → Reassembly
+forgetting more r = record {
+  waiting = kept more r.waiting;
+  late = r.late;
+  evicted = counted r.evicted (length r.waiting - length (kept more r.waiting));
 }
-
--- What a fragment does to a datagram in the table, or without one.
-abbrev pub AddsAt : Step → Key → IpFragment → Table → Table → Type 0
-AddsAt step.Missing k f t u = (at k t ≡ None) × (u ≡ t)
-AddsAt step.OtherEnd k f t u =
-    (v : Waiting) × (at k t ≡ Some v) × (is_other_end f v ≡ true) × (u ≡ t)
-AddsAt step.Waits k f t u =
-    (v w : Waiting) × (at k t ≡ Some v) × (is_other_end f v ≡ false) × IsWith f v w
-    × (is_whole w ≡ false) × (u ≡ with_other k w t)
-AddsAt step.Whole k f t u =
-    (v w : Waiting) × (at k t ≡ Some v) × (is_other_end f v ≡ false) × IsWith f v w
-    × (is_whole w ≡ true) × (u ≡ with_other k w t)
 
 -- The datagram to which a fragment is added: the one in the table, or an empty one.
 abbrev pub found_or_begun : ℕ → Option Waiting → Waiting
 found_or_begun time None = begun time
 found_or_begun time (Some v) = v
 
--- A complete datagram is returned.
-abbrev pub HandsOut : IpFragment → Waiting → FragmentOutcome → Type 0
-HandsOut f w (outcome.Whole d) = IsHandedOut f w d
-HandsOut f w outcome.Waits = ⊥
-HandsOut f w (outcome.Refused r) = ⊥
-
--- A fragment begins a datagram.
-abbrev pub BeginsAt : ℕ → Key → IpFragment → FragmentOutcome → Table → Table → Type 0
-BeginsAt time k f (outcome.Refused r) t u = ⊥
-BeginsAt time k f outcome.Waits t u =
-    (w : Waiting) × IsWith f (begun time) w × (is_whole w ≡ false) × (u ≡ (k, w) ∷ t)
-BeginsAt time k f (outcome.Whole d) t u =
-    (w : Waiting) × IsWith f (begun time) w × (is_whole w ≡ true) × IsHandedOut f w d × (u ≡ t)
-
--- The datagram of a fragment: the one in the table, or an empty one.
 abbrev pub its : ℕ → IpFragment → Table → Waiting
 its time f t = found_or_begun time (at (key_of f) t)
 
--- What a fragment does that isn't refused for its length: its end contradicts its datagram's, or
--- its bytes are added to its datagram, which waits for more or is complete and returned. Other keys
--- keep their datagrams.
-abbrev pub Becomes : ℕ → IpFragment → FragmentOutcome → Table → Table → Type 0
-Becomes time f (outcome.Refused refusal.TooLong) t u = ⊥
-Becomes time f (outcome.Refused refusal.Uneven) t u = ⊥
-Becomes time f (outcome.Refused refusal.OtherEnd) t u =
-    (v : Waiting) × (at (key_of f) t ≡ Some v) × (is_other_end f v ≡ true) × (u ≡ t)
-Becomes time f outcome.Waits t u =
-    (w : Waiting) × (is_other_end f (its time f t) ≡ false) × IsWith f (its time f t) w
-    × (is_whole w ≡ false) × (u ≡ putting (key_of f) w t)
-Becomes time f (outcome.Whole d) t u =
-    (w : Waiting) × (is_other_end f (its time f t) ≡ false) × IsWith f (its time f t) w
-    × (is_whole w ≡ true) × IsHandedOut f w d × (u ≡ others (key_of f) t)
+-- A fragment is added to the datagram of its key, which counts so much more memory afterwards; or
+-- there is none.
+abbrev pub ReceivesAt : Key → IpFragment → Option Received → Table → Table → Type 0
+ReceivesAt k f None t u = (at k t ≡ None) × (u ≡ t)
+ReceivesAt k f (Some x) t u = (v w : Waiting) × (at k t ≡ Some v)
+    × Receives f x.outcome v w (received f v) × (weight_of w ≡ weight_of v + x.added)
+    × (x.added ≤ length f.payload.now * 2 + 128) × (u ≡ with_other k w t)
 
--- A fragment that isn't refused for its length. Datagrams that are over are dropped first.
+-- A fragment begins a datagram.
+abbrev pub BeginsAt : Key → IpFragment → FragmentOutcome → Table → Table → Effect → Type 0
+BeginsAt k f o t u (Drops r) = (o ≡ outcome.Refused r) × (u ≡ t)
+BeginsAt k f o t u (Keeps w) = (o ≡ outcome.Waits) × (u ≡ (k, w) ∷ t)
+BeginsAt k f o t u (Completes w) = HandsOut f w o × (u ≡ t)
+
+-- A fragment's datagram is dropped, waits for more in the table, or is complete and returned. Other
+-- keys keep their datagrams.
+abbrev pub BecomesBy : IpFragment → FragmentOutcome → Table → Table → Effect → Type 0
+BecomesBy f o t u (Drops r) = (o ≡ outcome.Refused r) × (u ≡ others (key_of f) t)
+BecomesBy f o t u (Keeps w) = (o ≡ outcome.Waits) × (u ≡ putting (key_of f) w t)
+BecomesBy f o t u (Completes w) = HandsOut f w o × (u ≡ others (key_of f) t)
+
+abbrev pub Becomes : ℕ → IpFragment → FragmentOutcome → Table → Table → Type 0
+Becomes time f o t u = BecomesBy f o t u (received f (its time f t))
+
+-- The table when a fragment arrives. Its datagram is dropped if the fragment is late, and then the
+-- oldest ones until there is room for a new one.
+abbrev pub ready : ℕ → IpFragment → Reassembly → Reassembly
+ready time f r = forgetting (most_of f) (without_late time f r)
+
+-- A fragment that isn't refused alone.
 pub record Takes (time : ℕ) (f : IpFragment) (o : FragmentOutcome) (r s : Reassembly) : Type 0 where
-  pub fits : is_too_long f ≡ false
-  pub even : is_uneven f ≡ false
-  pub becomes : Becomes time f o (forgetting time (weight_of f) r).waiting s.waiting
-  pub late : s.late ≡ (forgetting time (weight_of f) r).late
-  pub evicted : s.evicted ≡ (forgetting time (weight_of f) r).evicted
+  pub becomes : Becomes time f o (ready time f r).waiting s.waiting
+  pub late : s.late ≡ (ready time f r).late
+  pub evicted : s.evicted ≡ (ready time f r).evicted
 
 -- What a fragment does to the table and the counts.
-abbrev pub Adds : ℕ → IpFragment → FragmentOutcome → Reassembly → Reassembly → Type 0
-Adds time f (outcome.Refused refusal.TooLong) r s = (is_too_long f ≡ true) × (s ≡ r)
-Adds time f (outcome.Refused refusal.Uneven) r s =
-    (is_too_long f ≡ false) × (is_uneven f ≡ true) × (s ≡ r)
-Adds time f (outcome.Refused refusal.OtherEnd) r s =
-    Takes time f (outcome.Refused refusal.OtherEnd) r s
-Adds time f outcome.Waits r s = Takes time f outcome.Waits r s
-Adds time f (outcome.Whole d) r s = Takes time f (outcome.Whole d) r s
+abbrev pub AddsBy : ℕ → IpFragment → FragmentOutcome → Reassembly → Reassembly
+    → Option FragmentRefusal → Type 0
+AddsBy time f o r s (Some q) = (o ≡ outcome.Refused q) × (s ≡ r)
+AddsBy time f o r s None = Takes time f o r s
 
--- There was no memory for the bytes of a fragment that would be added. Datagrams that are over were
--- dropped before.
+abbrev pub Adds : ℕ → IpFragment → FragmentOutcome → Reassembly → Reassembly → Type 0
+Adds time f o r s = AddsBy time f o r s (refused_alone f)
+
+-- There was no memory for the bytes of a fragment that would be added. Datagrams that are late or
+-- over the limit were dropped before.
 pub record LeavesOut (time : ℕ) (f : IpFragment) (r s : Reassembly) : Type 0 where
-  pub fits : is_too_long f ≡ false
-  pub even : is_uneven f ≡ false
-  pub agrees : is_other_end f (its time f (forgetting time (weight_of f) r).waiting) ≡ false
-  pub forgets : s ≡ forgetting time (weight_of f) r
+  pub alone : refused_alone f ≡ None
+  pub agrees : is_other_end f (its time f (ready time f r).waiting) ≡ false
+  pub forgets : s ≡ ready time f r

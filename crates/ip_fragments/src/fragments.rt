@@ -1,66 +1,27 @@
 //! Datagrams in reassembly.
-ghost use Rattle.std.specs.Prelude.{◌≡◌, ◌≤◌, ◌<◌, ◌+◌, ◌-◌, ◌^◌, ◌==◌, if◌then◌else◌, [], ◌∷◌, length, IfOk, OnErr, OnOk, IfSome, true, false, Some, None};
-ghost use Rattle.ip_fragments.specs.Waiting.{is_other_end, is_whole as is_whole_datagram, weight_of as weight_of_fragment, Waiting};
+ghost use Rattle.std.specs.Prelude.{◌≡◌, ◌≤◌, ◌<◌, ◌+◌, ◌-◌, ◌*◌, ◌^◌, ◌==◌, [], ◌∷◌, nat_lt, length, is_some, true, false, Some, None, IfOk, IfSome, OnErr, OnOk};
+ghost use Rattle.ip_fragments.specs.Waiting.{begun, counted, is_other_end, most_of as most_of_fragment, received, weight_of, Receives, Waiting};
 ghost use Rattle.ip_fragments.specs.Key.{key_of};
-ghost use Rattle.ip_fragments.specs.Table.{at, counted, evicted_in, dropped, forgetting, is_late as is_late_datagram, is_over as is_over_datagram, its, kept, late_in, others, weight, Adds, AddsAt, Becomes, BeginsAt, HandsOut, LeavesOut};
+ghost use Rattle.ip_fragments.specs.Table.{at, forgetting, is_late as is_late_datagram, its, kept, limit_of, others, ready, weight, with_other, without_late, Adds, Becomes, BeginsAt, LeavesOut, ReceivesAt};
 
 use crate::key::Key;
-use crate::waiting::{ReassembledDatagram, Waiting, weight_of};
-use capture::IpFragment;
+use crate::outcome::FragmentOutcome;
+use crate::waiting::{Waiting, most_of, refused_alone};
+use capture::{Address, IpFragment};
 use lru::LruCache;
 use std::alloc::{AllocError, Global};
 use std::hash::RandomState;
 use std::marker::Model;
 
-/// How long a datagram waits for fragments after its first, in nanoseconds of the capture's clock:
-/// 30 seconds, as in Linux.
+/// How long a datagram of IPv4 waits for fragments after its first, in nanoseconds of the capture's
+/// clock: 30 seconds, as in Linux.
 pub const WAIT_LIMIT: u64 = 30_000_000_000;
+
+/// How long a datagram of IPv6 waits: 60 seconds (RFC 8200, section 4.5).
+pub const WAIT_LIMIT_V6: u64 = 60_000_000_000;
 
 /// The most memory for all datagrams in reassembly: 32 MiB.
 pub const HELD_LIMIT: usize = 33_554_432;
-
-/// What a fragment counts besides twice its bytes, in bytes: two pages of `segments`, of 2,056
-/// bytes each, and entries in the tree of pages and in the table.
-pub const FRAGMENT_COST: usize = 5120;
-
-/// The longest datagram in bytes, header included.
-const MAX_DATAGRAM: usize = 65_535;
-
-/// Why a fragment is refused. Its datagram doesn't change.
-#[derive(Clone, Copy, Debug, PartialEq, Eq)]
-pub enum FragmentRefusal {
-    /// The datagram would exceed 65,535 bytes.
-    TooLong,
-    /// It isn't the last fragment, and its length isn't a multiple of 8.
-    Uneven,
-    /// Its end contradicts other fragments: it is a last fragment that ends elsewhere than another,
-    /// or before bytes that arrived, or it goes past the end.
-    OtherEnd,
-}
-
-/// What happened to a fragment.
-#[derive(Debug, PartialEq, Drop)]
-pub enum FragmentOutcome {
-    /// It completed its datagram.
-    Whole(ReassembledDatagram),
-    /// Its datagram waits for more fragments.
-    Waits,
-    /// It was refused.
-    Refused(FragmentRefusal),
-}
-
-/// What happened to a fragment of a datagram in reassembly.
-#[derive(Clone, Copy)]
-enum Step {
-    /// No fragment of its datagram arrived before.
-    Missing,
-    /// Its end contradicts other fragments.
-    OtherEnd,
-    /// The datagram waits for more fragments.
-    Waits,
-    /// The datagram is complete.
-    Whole,
-}
 
 /// The datagrams in reassembly.
 #[derive(Drop)]
@@ -89,118 +50,103 @@ impl Model for FragmentTable {
         × (f.held ≤ 33554432) };
 }
 
-/// Adds a fragment to its datagram, if that is in the table.
+/// What a fragment did to a datagram in the table: the outcome, and how much more memory the
+/// datagram counts.
+#[derive(Drop)]
+struct Received {
+    outcome: FragmentOutcome,
+    added: usize,
+}
+
+/// Adds a fragment to its datagram. `None` if that isn't in the table.
 #[tactic(auto, using(crate::proofs::TableLemmas::weight_at))]
-fn add_at(
+fn receive_at(
     table: &mut LruCache<Key, Waiting, RandomState>,
+    alloc: Global,
     key: &Key,
     fragment: &IpFragment<'_>,
-) -> Result<Step, AllocError>
+) -> Result<Option<Received>, AllocError>
     requires short { length fragment.now.payload.now < 2 ^ 16 }
     requires light { weight table.old.entries ≤ 33554432 }
-    ensures adds { IfOk result
-        (λ step. AddsAt step key.now fragment.now table.old.entries table.new.entries) }
+    ensures receives { IfOk result (λ received. ReceivesAt key.now fragment.now received
+        table.old.entries table.new.entries) }
     ensures err { OnErr result (table.new ≡ table.old) }
     ensures agrees { OnErr result ((v : Waiting) × (at key.now table.old.entries ≡ Some v)
         × (is_other_end fragment.now v ≡ false)) }
     ensures cap { table.new.cap ≡ table.old.cap }
 {
     let Some(waiting) = table.peek_mut(key) else {
-        return Ok(Step::Missing);
+        return Ok(None);
     };
-    if waiting.is_other_end(fragment) {
-        return Ok(Step::OtherEnd);
-    }
-    waiting.add(fragment)?;
-    if waiting.is_whole() {
-        Ok(Step::Whole)
-    } else {
-        Ok(Step::Waits)
+    let before = waiting.weight();
+    let outcome = waiting.receive(alloc, fragment)?;
+    let added = waiting.weight() - before;
+    Ok(Some(Received { outcome, added }))
+}
+
+/// Returns how long the datagrams with this source wait.
+fn limit_from(source: Address) -> u64
+    ensures { result ≡ limit_of source }
+{
+    match source {
+        Address::V4(_) => WAIT_LIMIT,
+        Address::V6(_, _) => WAIT_LIMIT_V6,
     }
 }
 
-/// The memory of the datagrams in the table, and how many were dropped for which reason.
+/// Returns whether a fragment with this source arrives too late for its datagram.
+fn is_late(time: u64, source: Address, waiting: &Waiting) -> bool
+    ensures { result ≡ is_late_datagram time source waiting.now }
+{
+    time.saturating_sub(waiting.since()) > limit_from(source)
+}
+
+/// The memory of the datagrams in the table, and how many were dropped.
 #[derive(Clone, Copy)]
 struct Left {
     held: usize,
-    late: u64,
     evicted: u64,
 }
 
-/// Returns whether a datagram has waited too long.
-fn is_late(time: u64, waiting: &Waiting) -> bool
-    ensures { result ≡ is_late_datagram time waiting.now }
-{
-    time.saturating_sub(waiting.since()) > WAIT_LIMIT
-}
-
-/// Returns whether a datagram has waited too long, or all exceed their memory with `more` bytes.
-fn is_over(time: u64, more: usize, held: usize, waiting: &Waiting) -> bool
+/// Returns whether datagrams that hold so many bytes leave no room for `more`.
+fn is_over(more: usize, held: usize) -> bool
     requires { more + held < 2 ^ 63 }
-    ensures is { result ≡ is_over_datagram time more held waiting.now }
+    ensures is { result ≡ nat_lt 33554432 (held + more) }
     ensures room { result ≡ false → held + more ≤ 33554432 }
 {
-    is_late(time, waiting) || held + more > HELD_LIMIT
+    held + more > HELD_LIMIT
 }
 
-/// Returns the count, or one more if the datagram is counted.
-fn count_if(is_counted: bool, count: u64) -> u64
-    ensures { result ≡ counted count (if is_counted then 1 else 0) }
+/// Returns one more than a count.
+fn count_one(count: u64) -> u64
+    ensures { result ≡ counted count 1 }
 {
-    if is_counted {
-        count.saturating_add(1)
-    } else {
-        count
-    }
+    count.saturating_add(1)
 }
 
-/// Drops the oldest datagrams that have waited too long, and further ones until there is room for
-/// `more` bytes.
+/// Drops the oldest datagrams until there is room for `more` bytes.
 #[tactic(auto, using(crate::proofs::TableLemmas::weight_front))]
-fn forget_over(
-    waiting: &mut LruCache<Key, Waiting, RandomState>,
-    before: Left,
-    time: u64,
-    more: usize,
-) -> Left
+fn forget_over(waiting: &mut LruCache<Key, Waiting, RandomState>, before: Left, more: usize) -> Left
     requires few { more ≤ 200000 }
     requires held { before.held ≡ weight waiting.old.entries }
     requires within { before.held ≤ 33554432 }
-    ensures kept { waiting.new.entries ≡ kept time more waiting.old.entries }
-    ensures late { result.late
-        ≡ counted before.late (late_in time (dropped time more waiting.old.entries)) }
-    ensures evicted { result.evicted
-        ≡ counted before.evicted (evicted_in time (dropped time more waiting.old.entries)) }
+    ensures kept { waiting.new.entries ≡ kept more waiting.old.entries }
+    ensures evicted { result.evicted ≡ counted before.evicted
+        (length waiting.old.entries - length (kept more waiting.old.entries)) }
     ensures held { result.held ≡ weight waiting.new.entries }
     ensures room { result.held + more ≤ 33554432 }
     ensures cap { waiting.new.cap ≡ waiting.old.cap }
 {
-    let (mut sum, mut late, mut evicted) = (before.held, before.late, before.evicted);
+    let (mut sum, mut evicted) = (before.held, before.evicted);
     while let Some((_, oldest)) = waiting.peek_lru() {
-        if !is_over(time, more, sum, oldest) {
+        if !is_over(more, sum) {
             break;
         }
-        let too_late = is_late(time, oldest);
-        late = count_if(too_late, late);
-        evicted = count_if(!too_late, evicted);
         sum -= oldest.weight();
+        evicted = count_one(evicted);
         waiting.pop_lru();
     }
-    Left {
-        held: sum,
-        late,
-        evicted,
-    }
-}
-
-/// Returns the outcome for a fragment that completed its datagram.
-fn handed_out(waiting: Waiting, fragment: &IpFragment<'_>) -> FragmentOutcome
-    ensures { is_whole_datagram waiting ≡ true → HandsOut fragment.now waiting result }
-{
-    match waiting.into_whole(fragment) {
-        Some(whole) => FragmentOutcome::Whole(whole),
-        None => FragmentOutcome::Waits,
-    }
+    Left { held: sum, evicted }
 }
 
 /// Adds a datagram at the front, under a key that the table doesn't have.
@@ -235,8 +181,8 @@ impl FragmentTable {
         })
     }
 
-    /// Returns the memory of the datagrams in reassembly, in bytes: for each fragment twice its
-    /// bytes and [`FRAGMENT_COST`]. At most [`HELD_LIMIT`].
+    /// Returns the memory of the datagrams in reassembly, in bytes: twice the bytes that arrived,
+    /// 128 for each run of bytes without a gap, and 640 for each datagram. At most [`HELD_LIMIT`].
     pub fn held(&self) -> usize
         ensures is { result ≡ weight self.now.waiting }
         ensures within { result ≤ 33554432 }
@@ -258,8 +204,8 @@ impl FragmentTable {
         self.waiting.is_empty()
     }
 
-    /// Returns how many datagrams were dropped because a fragment was missing for longer than
-    /// [`WAIT_LIMIT`].
+    /// Returns how many datagrams were dropped because a fragment came later than [`WAIT_LIMIT`] or
+    /// [`WAIT_LIMIT_V6`].
     pub fn late(&self) -> u64
         ensures { result ≡ self.now.late }
     {
@@ -273,21 +219,43 @@ impl FragmentTable {
         self.evicted
     }
 
-    /// Drops the oldest datagrams that have waited too long, and further ones until there is room
-    /// for `more` bytes.
-    fn forget(&mut self, time: u64, more: usize)
+    /// Drops the datagram of a key.
+    #[tactic(auto, using(crate::proofs::TableLemmas::missed, crate::proofs::TableLemmas::weight_others, crate::proofs::TableLemmas::weight_at))]
+    fn drop_at(&mut self, key: &Key)
+        ensures { self.new ≡ record self.old { waiting = others key.now self.old.waiting } }
+    {
+        if let Some(waiting) = self.waiting.pop(key) {
+            self.held -= waiting.weight();
+        }
+    }
+
+    /// Drops the datagram of a fragment, if the fragment arrives too late for it.
+    fn drop_late(&mut self, time: u64, key: &Key, fragment: &IpFragment<'_>)
+        requires { key.now ≡ key_of fragment.now }
+        ensures { self.new ≡ without_late time fragment.now self.old }
+    {
+        let is_late = match self.waiting.peek(key) {
+            Some(waiting) => is_late(time, fragment.source, waiting),
+            None => false,
+        };
+        if is_late {
+            self.drop_at(key);
+            self.late = count_one(self.late);
+        }
+    }
+
+    /// Drops the oldest datagrams until there is room for `more` bytes.
+    fn forget(&mut self, more: usize)
         requires { more ≤ 200000 }
-        ensures forgets { self.new ≡ forgetting time more self.old }
+        ensures forgets { self.new ≡ forgetting more self.old }
         ensures room { weight self.new.waiting + more ≤ 33554432 }
     {
         let before = Left {
             held: self.held,
-            late: self.late,
             evicted: self.evicted,
         };
-        let left = forget_over(&mut self.waiting, before, time, more);
+        let left = forget_over(&mut self.waiting, before, more);
         self.held = left.held;
-        self.late = left.late;
         self.evicted = left.evicted;
     }
 
@@ -300,17 +268,18 @@ impl FragmentTable {
     ) -> Result<FragmentOutcome, AllocError>
         requires short { length fragment.now.payload.now < 2 ^ 16 }
         requires missing { at key self.old.waiting ≡ None }
-        requires room { weight self.old.waiting + weight_of_fragment fragment.now ≤ 33554432 }
+        requires room { weight self.old.waiting + most_of_fragment fragment.now ≤ 33554432 }
         ensures begins { IfOk result
-            (λ o. BeginsAt time key fragment.now o self.old.waiting self.new.waiting) }
+            (λ o. BeginsAt key fragment.now o self.old.waiting self.new.waiting
+            (received fragment.now (begun time))) }
         ensures late { self.new.late ≡ self.old.late }
         ensures evicted { self.new.evicted ≡ self.old.evicted }
         ensures err { OnErr result (self.new ≡ self.old) }
     {
         let mut waiting = Waiting::new(self.alloc, time);
-        waiting.add(fragment)?;
-        if waiting.is_whole() {
-            return Ok(handed_out(waiting, fragment));
+        let outcome = waiting.receive(self.alloc, fragment)?;
+        if !outcome.is_waiting() {
+            return Ok(outcome);
         }
         let weight = waiting.weight();
         put_in_front(&mut self.waiting, key, waiting)?;
@@ -318,27 +287,16 @@ impl FragmentTable {
         Ok(FragmentOutcome::Waits)
     }
 
-    /// Removes a complete datagram and returns it.
-    #[tactic(auto, using(crate::proofs::TableLemmas::missed, crate::proofs::TableLemmas::weight_others, crate::proofs::TableLemmas::weight_at))]
-    fn take(&mut self, key: &Key, fragment: &IpFragment<'_>) -> FragmentOutcome
-        ensures handed_out { IfSome (at key.now self.old.waiting)
-            (λ w. is_whole_datagram w ≡ true → HandsOut fragment.now w result) }
-        ensures left { self.new ≡ record self.old { waiting = others key.now self.old.waiting } }
-    {
-        match self.waiting.pop(key) {
-            Some(waiting) => {
-                self.held -= waiting.weight();
-                handed_out(waiting, fragment)
-            }
-            None => FragmentOutcome::Waits,
-        }
-    }
-
     /// Adds a fragment to its datagram. There is room for its bytes.
-    #[tactic(auto, using(crate::proofs::TableLemmas::at_with, crate::proofs::TableLemmas::others_with, crate::proofs::TableLemmas::weight_with))]
-    fn put(&mut self, time: u64, fragment: &IpFragment<'_>) -> Result<FragmentOutcome, AllocError>
+    fn put(
+        &mut self,
+        time: u64,
+        key: Key,
+        fragment: &IpFragment<'_>,
+    ) -> Result<FragmentOutcome, AllocError>
+        requires key { key ≡ key_of fragment.now }
         requires short { length fragment.now.payload.now < 2 ^ 16 }
-        requires room { weight self.old.waiting + weight_of_fragment fragment.now ≤ 33554432 }
+        requires room { weight self.old.waiting + most_of_fragment fragment.now ≤ 33554432 }
         ensures becomes { IfOk result
             (λ o. Becomes time fragment.now o self.old.waiting self.new.waiting) }
         ensures late { self.new.late ≡ self.old.late }
@@ -347,24 +305,19 @@ impl FragmentTable {
         ensures agrees { OnErr result
             (is_other_end fragment.now (its time fragment.now self.old.waiting) ≡ false) }
     {
-        let key = Key::of(fragment);
-        match add_at(&mut self.waiting, &key, fragment)? {
-            Step::Missing => self.begin(time, key, fragment),
-            Step::OtherEnd => Ok(FragmentOutcome::Refused(FragmentRefusal::OtherEnd)),
-            Step::Waits => {
-                self.held += weight_of(fragment);
-                Ok(FragmentOutcome::Waits)
-            }
-            Step::Whole => {
-                self.held += weight_of(fragment);
-                Ok(self.take(&key, fragment))
-            }
+        let Some(received) = receive_at(&mut self.waiting, self.alloc, &key, fragment)? else {
+            return self.begin(time, key, fragment);
+        };
+        self.held += received.added;
+        if !received.outcome.is_waiting() {
+            self.drop_at(&key);
         }
+        Ok(received.outcome)
     }
 
     /// Adds a fragment that was captured at `time` to its datagram, and returns the datagram once
-    /// it is complete. Datagrams that have waited too long are dropped first, and then the oldest
-    /// if there is no room.
+    /// it is complete. A datagram for which the fragment is too late is dropped first, and then the
+    /// oldest ones if there is no room.
     ///
     /// `AllocError` if there is no memory for the fragment. It is left out then, but the datagrams
     /// dropped before stay dropped.
@@ -376,14 +329,12 @@ impl FragmentTable {
         ensures adds { IfOk result (λ o. Adds time fragment.now o self.old self.new) }
         ensures err { OnErr result (LeavesOut time fragment.now self.old self.new) }
     {
-        let end = fragment.offset as usize + fragment.payload.len();
-        if fragment.in_front > MAX_DATAGRAM || end > MAX_DATAGRAM - fragment.in_front {
-            return Ok(FragmentOutcome::Refused(FragmentRefusal::TooLong));
+        if let Some(refusal) = refused_alone(fragment) {
+            return Ok(FragmentOutcome::Refused(refusal));
         }
-        if fragment.has_more && fragment.payload.len() % 8 != 0 {
-            return Ok(FragmentOutcome::Refused(FragmentRefusal::Uneven));
-        }
-        self.forget(time, weight_of(fragment));
-        self.put(time, fragment)
+        let key = Key::of(fragment);
+        self.drop_late(time, &key, fragment);
+        self.forget(most_of(fragment));
+        self.put(time, key, fragment)
     }
 }

@@ -16,11 +16,13 @@ pub struct Key {
     identification: u32,
     // 0 in IPv6, where the fragments of one datagram may have different ones.
     protocol: u8,
+    is_header_right: bool,
 }
 
 impl Key {
     /// Returns a fragment's key: source, destination, identification and protocol (RFC 791, section
-    /// 3.2). In IPv6 the protocol doesn't count (RFC 8200, section 4.5).
+    /// 3.2). In IPv6 the protocol doesn't count (RFC 8200, section 4.5). Fragments with a wrong
+    /// header checksum are apart from others, since a host drops them.
     pub(crate) fn of(fragment: &IpFragment<'_>) -> Key
         ensures { result ≡ key_of fragment.now }
     {
@@ -33,6 +35,7 @@ impl Key {
             destination: fragment.destination,
             identification: fragment.identification,
             protocol,
+            is_header_right: fragment.is_header_right,
         }
     }
 }

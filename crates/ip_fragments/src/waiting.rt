@@ -1,13 +1,20 @@
 //! A datagram in reassembly.
-ghost use Rattle.std.specs.Prelude.{◌≡◌, ◌≤◌, ◌<◌, ◌+◌, ◌^◌, length, is_some, true, IfSome, Some, OnOk, OnErr};
-ghost use Rattle.segments.specs.Cells.{differing, run};
-ghost use Rattle.ip_fragments.specs.Waiting.{IsHandedOut, IsWith, begun, is_other_end as is_other_end_of, is_whole as is_whole_datagram, unlike, weight_of as weight_of_fragment};
+ghost use Rattle.std.specs.Prelude.{◌≡◌, ◌≤◌, ◌<◌, ◌+◌, ◌*◌, ◌^◌, ◌==◌, ◌&&◌, ◌||◌, if◌then◌else◌, not, max, nat_lt, length, is_some, false, Some, IfNone, IfOk, IfSome, OnErr, OnOk};
+ghost use Rattle.ip_fragments.specs.Runs.{placing_of, runs_with, IsGap, IsPlace};
+ghost use Rattle.ip_fragments.specs.Waiting.{begun, by_placing, bytes_of as bytes_of_fragment, completed_or_not, end_of, first_protocol, is_other_end as is_other_end_of, most_of as most_of_fragment, received, refused_alone as refused_alone_by, weight_of, with_repeat, with_runs, Receives};
 
-use crate::fragments::FRAGMENT_COST;
+use crate::outcome::{FragmentOutcome, FragmentRefusal};
+use crate::runs::{Gap, Place, RUN_COST, Run, join, place_of, put};
 use capture::{Address, IpFragment};
-use segments::TcpReassembler;
 use std::alloc::{AllocError, Global};
 use std::marker::Model;
+
+/// The longest datagram in bytes, header included.
+const MAX_DATAGRAM: usize = 65_535;
+
+/// The bytes that a datagram counts besides its runs: its entry in the table, which may have as
+/// much room again, and the first rows of its vector of runs.
+pub const DATAGRAM_COST: usize = 640;
 
 /// A reassembled datagram.
 #[derive(Debug, PartialEq, Drop)]
@@ -19,7 +26,7 @@ pub struct ReassembledDatagram {
     /// The protocol of the fragment with offset 0; in IPv6 the number of the first header in the
     /// payload.
     pub protocol: u8,
-    /// Whether the header checksums of all fragments were correct.
+    /// Whether the header checksums of its fragments were correct: of all or of none.
     pub is_header_right: bool,
     /// The reassembled payload.
     pub payload: Vec<u8>,
@@ -27,64 +34,146 @@ pub struct ReassembledDatagram {
     pub disagreeing: usize,
 }
 
-/// The bytes of a datagram that arrived, and the fields of its fragments.
-#[derive(Drop)]
-pub struct Waiting {
-    segments: TcpReassembler,
+/// What the headers of the fragments that arrived say of their datagram.
+#[derive(Clone, Copy)]
+pub struct Extent {
     // The offset behind the last byte that arrived, and whether the datagram ends there.
     reach: usize,
     is_ended: bool,
+    // Those of the fragment with offset 0, if it arrived.
     protocol: Option<u8>,
-    is_header_right: bool,
-    disagreeing: usize,
+    in_front: usize,
+}
+
+/// The bytes of a datagram that arrived, and the fields of its fragments.
+#[derive(Drop)]
+pub struct Waiting {
+    runs: Vec<Run>,
+    extent: Extent,
+    // How many bytes the runs have, and the memory that they count.
+    filled: usize,
     weight: usize,
+    disagreeing: usize,
     since: u64,
 }
 
 impl Model for Waiting {
-    ghost use Rattle.std.specs.Prelude.{◌≡◌, ◌≤◌};
+    ghost use Rattle.std.specs.Prelude.{◌≡◌};
+    ghost use Rattle.ip_fragments.specs.Runs.{filled as filled_in, weight_in};
     ghost use Rattle.ip_fragments.specs.Waiting.{Waiting};
 
     ghost Value = { Waiting };
 
     ghost view = { λ w. record {
-      cells = w.segments.cells;
-      reach = w.reach;
-      is_ended = w.is_ended;
-      protocol =
-          w.protocol;
-      is_header_right = w.is_header_right;
+      runs = w.runs.items;
+      reach = w.extent.reach;
+      is_ended = w.extent.is_ended;
+      protocol = w.extent.protocol;
+      in_front = w.extent.in_front;
       disagreeing = w.disagreeing;
-      weight =
-          w.weight;
       since = w.since;
     } };
 
-    ghost invariant = { λ w. (w.segments.first ≡ 0) × (w.segments.taken ≡ 0)
-        × (w.disagreeing ≤ w.weight) };
+    ghost invariant = { λ w. (w.filled ≡ filled_in w.runs.items)
+        × (w.weight ≡ weight_in w.runs.items) };
 }
 
-/// Returns the memory that a fragment counts, in bytes.
-pub(crate) fn weight_of(fragment: &IpFragment<'_>) -> usize
-    requires { length fragment.now.payload.now < 2 ^ 16 }
-    ensures { result ≡ weight_of_fragment fragment.now }
+/// Returns a fragment's bytes: in IPv4 their number is rounded down to a multiple of 8, except in
+/// the last fragment, as in Linux.
+fn bytes_of<'a>(fragment: &IpFragment<'a>) -> &'a [u8]
+    ensures is { result.now ≡ bytes_of_fragment fragment.now }
+    ensures within { length result.now ≤ length fragment.now.payload.now }
 {
-    fragment.payload.len() * 2 + FRAGMENT_COST
+    let payload = fragment.payload;
+    match fragment.source {
+        Address::V4(_) => {
+            if fragment.has_more {
+                &payload[..payload.len() / 8 * 8]
+            } else {
+                payload
+            }
+        }
+        Address::V6(_, _) => payload,
+    }
 }
 
-/// Returns at how many positions two slices differ, up to the shorter one's end.
-fn count_unlike(bytes: &[u8], others: &[u8]) -> usize
-    ensures is { result ≡ unlike bytes.now others.now }
-    ensures within { result ≤ length others.now }
+/// Returns why a fragment is dropped alone, whatever arrived before.
+pub(crate) fn refused_alone(fragment: &IpFragment<'_>) -> Option<FragmentRefusal>
+    ensures is { result ≡ refused_alone_by fragment.now }
+    ensures short { IfNone result (length fragment.now.payload.now < 2 ^ 16) }
 {
-    let common = bytes.len().min(others.len());
-    let mut count = 0;
-    for i in 0..common {
-        if bytes[i] != others[i] {
-            count += 1;
+    let len = fragment.payload.len();
+    match fragment.source {
+        Address::V4(_) => {
+            if len > MAX_DATAGRAM {
+                return Some(FragmentRefusal::TooLong);
+            }
+        }
+        Address::V6(_, _) => {
+            if fragment.offset as usize + len > MAX_DATAGRAM {
+                return Some(FragmentRefusal::TooLong);
+            }
+            if fragment.has_more && len % 8 != 0 {
+                return Some(FragmentRefusal::Uneven);
+            }
         }
     }
-    count
+    None
+}
+
+/// Returns the most memory that a fragment adds to what its datagram counts, in bytes.
+pub(crate) fn most_of(fragment: &IpFragment<'_>) -> usize
+    requires { length fragment.now.payload.now < 2 ^ 16 }
+    ensures { result ≡ most_of_fragment fragment.now }
+{
+    fragment.payload.len() * 2 + RUN_COST + DATAGRAM_COST
+}
+
+impl Extent {
+    /// Returns the extent with a fragment of `count` bytes.
+    fn with(self, fragment: &IpFragment<'_>, count: usize) -> Extent
+        requires { count < 2 ^ 16 }
+        ensures reach { result.reach ≡ max self.reach (fragment.now.offset + count) }
+        ensures ended { result.is_ended ≡ (self.is_ended || not fragment.now.has_more) }
+        ensures protocol { result.protocol ≡ first_protocol self.protocol fragment.now }
+        ensures in_front { result.in_front
+            ≡ (if fragment.now.offset == 0 then fragment.now.in_front else self.in_front) }
+    {
+        let is_first = fragment.offset == 0;
+        Extent {
+            reach: self.reach.max(fragment.offset as usize + count),
+            is_ended: self.is_ended || !fragment.has_more,
+            protocol: match self.protocol {
+                Some(protocol) => Some(protocol),
+                None => is_first.then_some(fragment.protocol),
+            },
+            in_front: if is_first {
+                fragment.in_front
+            } else {
+                self.in_front
+            },
+        }
+    }
+
+    /// Returns the protocol if a datagram of this extent is whole once so many bytes arrived.
+    fn protocol_if_whole(&self, filled: usize) -> Option<u8>
+        ensures whole { is_some result ≡ (self.now.is_ended
+            && ((filled == self.now.reach) && is_some self.now.protocol)) }
+        ensures is { IfSome result (λ protocol. self.now.protocol ≡ Some protocol) }
+    {
+        if self.is_ended && filled == self.reach {
+            self.protocol
+        } else {
+            None
+        }
+    }
+
+    /// Returns whether the datagram exceeds 65,535 bytes.
+    fn is_too_long(&self) -> bool
+        ensures { result ≡ nat_lt 65535 (self.now.in_front + self.now.reach) }
+    {
+        self.in_front > MAX_DATAGRAM || self.reach > MAX_DATAGRAM - self.in_front
+    }
 }
 
 impl Waiting {
@@ -93,13 +182,16 @@ impl Waiting {
         ensures { result ≡ begun time }
     {
         Waiting {
-            segments: TcpReassembler::new(alloc, 0, 65_535),
-            reach: 0,
-            is_ended: false,
-            protocol: None,
-            is_header_right: true,
-            disagreeing: 0,
+            runs: Vec::new(alloc),
+            extent: Extent {
+                reach: 0,
+                is_ended: false,
+                protocol: None,
+                in_front: 0,
+            },
+            filled: 0,
             weight: 0,
+            disagreeing: 0,
             since: time,
         }
     }
@@ -113,93 +205,154 @@ impl Waiting {
 
     /// Returns the memory that the datagram counts, in bytes.
     pub(crate) fn weight(&self) -> usize
-        ensures { result ≡ self.now.weight }
+        requires { weight_of self.now < 2 ^ 40 }
+        ensures { result ≡ weight_of self.now }
     {
-        self.weight
+        self.weight + DATAGRAM_COST
     }
 
     /// Returns whether a fragment's end contradicts those of others, or it goes past the end.
-    pub(crate) fn is_other_end(&self, fragment: &IpFragment<'_>) -> bool
+    fn is_other_end(&self, fragment: &IpFragment<'_>, end: usize) -> bool
+        requires { end ≡ end_of fragment.now }
         ensures { result ≡ is_other_end_of fragment.now self.now }
     {
-        let end = fragment.offset as usize + fragment.payload.len();
-        let ends_before = !fragment.has_more && end < self.reach;
-        let goes_behind = self.is_ended && self.reach < end;
+        let ends_before = !fragment.has_more && end < self.extent.reach;
+        let goes_behind = self.extent.is_ended && self.extent.reach < end;
         ends_before || goes_behind
     }
 
-    /// Returns at how many offsets a fragment's byte differs from one that arrived before.
-    #[tactic(auto, using(crate::proofs::CountLemmas::differing_behind))]
-    fn count_differing(&self, fragment: &IpFragment<'_>) -> usize
-        requires { length fragment.now.payload.now < 2 ^ 16 }
-        ensures is { result ≡ differing fragment.now.offset fragment.now.payload.now
-            self.now.cells }
-        ensures within { result ≤ length fragment.now.payload.now }
+    /// Notes a fragment that ends here and repeats bytes, `count` of them with another value.
+    fn repeat(&mut self, fragment: &IpFragment<'_>, end: usize, count: usize)
+        requires { end ≡ end_of fragment.now }
+        ensures { self.new ≡ with_repeat fragment.now count self.old }
     {
-        let front = self.segments.available();
-        let offset = fragment.offset as usize;
-        if offset >= front.len() {
-            return self
-                .segments
-                .differing(u32::from(fragment.offset), fragment.payload);
-        }
-        let standing = &front[offset..];
-        if fragment.payload.len() <= standing.len() {
-            return count_unlike(standing, fragment.payload);
-        }
-        let (there, behind) = fragment.payload.split_at(standing.len());
-        count_unlike(standing, there) + self.segments.differing(front.len() as u32, behind)
+        self.extent.reach = self.extent.reach.max(end);
+        self.extent.is_ended = self.extent.is_ended || !fragment.has_more;
+        self.disagreeing = self.disagreeing.saturating_add(count);
     }
 
-    /// Adds the bytes of a fragment at the offsets that have none yet.
-    ///
-    /// `AllocError` if there is no memory for them. Nothing changes then.
-    #[tactic(auto, using(segments::proofs::PutLemmas::put_bytes))]
-    pub(crate) fn add(&mut self, fragment: &IpFragment<'_>) -> Result<(), AllocError>
-        requires short { length fragment.now.payload.now < 2 ^ 16 }
-        requires light { self.old.weight < 2 ^ 40 }
-        ensures added { OnOk result (IsWith fragment.now self.old self.new) }
-        ensures refused { OnErr result (self.new ≡ self.old) }
+    /// Adds a fragment's bytes where they fit. The datagram is of this extent then.
+    #[tactic(auto, using(crate::proofs::RunLemmas::filled_with, crate::proofs::RunLemmas::weight_with_run, crate::proofs::RunLemmas::filled_low))]
+    fn hold(
+        &mut self,
+        alloc: Global,
+        fragment: &IpFragment<'_>,
+        bytes: &[u8],
+        gap: Gap,
+    ) -> Result<(), AllocError>
+        requires bytes { bytes.now ≡ bytes_of_fragment fragment.now }
+        requires short { length bytes.now < 2 ^ 16 }
+        requires gap { IsGap gap self.old.runs }
+        requires light { weight_of self.old < 2 ^ 40 }
+        ensures ok { OnOk result (self.new ≡ with_runs fragment.now
+            (runs_with gap fragment.now.offset bytes.now self.old.runs) self.old) }
+        ensures err { OnErr result (self.new ≡ self.old) }
     {
-        let differing = self.count_differing(fragment);
-        let place = u32::from(fragment.offset);
-        // (no datagram exceeds the reassembler's limit, so only memory can fail)
-        if self.segments.put(place, fragment.payload).is_err() {
-            return Err(AllocError);
-        }
-        self.disagreeing += differing;
-        self.weight += weight_of(fragment);
-        self.reach = self
-            .reach
-            .max(fragment.offset as usize + fragment.payload.len());
-        self.is_ended = self.is_ended || !fragment.has_more;
-        self.is_header_right = self.is_header_right && fragment.is_header_right;
-        if self.protocol.is_none() && fragment.offset == 0 {
-            self.protocol = Some(fragment.protocol);
-        }
+        put(&mut self.runs, alloc, gap, fragment.offset, bytes)?;
+        self.extent = self.extent.with(fragment, bytes.len());
+        self.filled += bytes.len();
+        self.weight += bytes.len() * 2 + gap.cost();
         Ok(())
     }
 
-    /// Returns whether all bytes up to the end arrived.
-    pub(crate) fn is_whole(&self) -> bool
-        ensures { result ≡ is_whole_datagram self.now }
+    /// Adds a fragment's bytes where they fit, or returns the datagram that they complete.
+    fn receive_bytes(
+        &mut self,
+        alloc: Global,
+        fragment: &IpFragment<'_>,
+        bytes: &[u8],
+        gap: Gap,
+    ) -> Result<FragmentOutcome, AllocError>
+        requires bytes { bytes.now ≡ bytes_of_fragment fragment.now }
+        requires short { length bytes.now < 2 ^ 16 }
+        requires gap { IsGap gap self.old.runs }
+        requires light { weight_of self.old < 2 ^ 40 }
+        ensures receives { IfOk result
+            (λ outcome. Receives fragment.now outcome self.old self.new
+            (completed_or_not (with_runs fragment.now
+            (runs_with gap fragment.now.offset bytes.now self.old.runs) self.old))) }
+        ensures err { OnErr result (self.new ≡ self.old) }
+        ensures grows { weight_of self.old ≤ weight_of self.new }
+        ensures most { weight_of self.new ≤ weight_of self.old + length bytes.now * 2 + 128 }
     {
-        self.is_ended && self.segments.available().len() == self.reach && self.protocol.is_some()
-    }
-
-    /// Returns the datagram between the addresses of this fragment, if the protocol is known.
-    pub(crate) fn into_whole(self, fragment: &IpFragment<'_>) -> Option<ReassembledDatagram>
-        ensures some { is_whole_datagram self ≡ true → is_some result ≡ true }
-        ensures is { IfSome result (IsHandedOut fragment.now self) }
-    {
-        let protocol = self.protocol?;
-        Some(ReassembledDatagram {
+        let extent = self.extent.with(fragment, bytes.len());
+        let Some(protocol) = extent.protocol_if_whole(self.filled + bytes.len()) else {
+            self.hold(alloc, fragment, bytes, gap)?;
+            return Ok(FragmentOutcome::Waits);
+        };
+        if extent.is_too_long() {
+            return Ok(FragmentOutcome::Refused(FragmentRefusal::TooLong));
+        }
+        let payload = join(alloc, &self.runs, gap, fragment.offset, bytes, extent.reach)?;
+        Ok(FragmentOutcome::Whole(ReassembledDatagram {
             source: fragment.source,
             destination: fragment.destination,
             protocol,
-            is_header_right: self.is_header_right,
-            payload: self.segments.into_available(),
+            is_header_right: fragment.is_header_right,
+            payload,
             disagreeing: self.disagreeing,
-        })
+        }))
+    }
+
+    /// Receives a fragment whose bytes have this place.
+    fn receive_at(
+        &mut self,
+        alloc: Global,
+        fragment: &IpFragment<'_>,
+        bytes: &[u8],
+        place: Place,
+    ) -> Result<FragmentOutcome, AllocError>
+        requires bytes { bytes.now ≡ bytes_of_fragment fragment.now }
+        requires short { length bytes.now < 2 ^ 16 }
+        requires place { IsPlace place self.old.runs }
+        requires light { weight_of self.old < 2 ^ 40 }
+        ensures receives { IfOk result
+            (λ outcome. Receives fragment.now outcome self.old self.new
+            (by_placing fragment.now self.old
+            (placing_of place fragment.now.offset bytes.now self.old.runs))) }
+        ensures err { OnErr result (self.new ≡ self.old) }
+        ensures grows { weight_of self.old ≤ weight_of self.new }
+        ensures most { weight_of self.new ≤ weight_of self.old + length bytes.now * 2 + 128 }
+    {
+        match place {
+            Place::Fits(gap) => self.receive_bytes(alloc, fragment, bytes, gap),
+            Place::Repeats(count) => {
+                let end = fragment.offset as usize + bytes.len();
+                self.repeat(fragment, end, count);
+                Ok(FragmentOutcome::Waits)
+            }
+            Place::Overlaps => Ok(FragmentOutcome::Refused(FragmentRefusal::Overlap)),
+        }
+    }
+
+    /// Receives a fragment. It changes the datagram only if this waits for more: on any other
+    /// outcome the datagram is over.
+    ///
+    /// `AllocError` if there is no memory for the bytes. Nothing changes then.
+    pub(crate) fn receive(
+        &mut self,
+        alloc: Global,
+        fragment: &IpFragment<'_>,
+    ) -> Result<FragmentOutcome, AllocError>
+        requires short { length fragment.now.payload.now < 2 ^ 16 }
+        requires light { weight_of self.old < 2 ^ 40 }
+        ensures receives { IfOk result
+            (λ outcome. Receives fragment.now outcome self.old self.new
+            (received fragment.now self.old)) }
+        ensures err { OnErr result (self.new ≡ self.old) }
+        ensures agrees { OnErr result (is_other_end_of fragment.now self.old ≡ false) }
+        ensures grows { weight_of self.old ≤ weight_of self.new }
+        ensures most { weight_of self.new
+            ≤ weight_of self.old + length fragment.now.payload.now * 2 + 128 }
+    {
+        let bytes = bytes_of(fragment);
+        if self.is_other_end(fragment, fragment.offset as usize + bytes.len()) {
+            return Ok(FragmentOutcome::Refused(FragmentRefusal::OtherEnd));
+        }
+        if bytes.is_empty() {
+            return Ok(FragmentOutcome::Refused(FragmentRefusal::Empty));
+        }
+        let place = place_of(&self.runs, fragment.offset, bytes);
+        self.receive_at(alloc, fragment, bytes, place)
     }
 }

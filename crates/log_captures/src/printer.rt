@@ -13,7 +13,7 @@ use log_io::{LineError, Output};
 use std::alloc::Global;
 use std::io::Write;
 
-/// Prints the lines of connections, of which `K` keeps pieces until they are printed.
+/// Prints the lines of connections. `K` collects a connection's pieces until they are printed.
 pub trait LinePrinter<K> {
     // How many messages or certificates of a connection were sent, if each has a line.
     ghost pieces: { Self → Connection (TlsAnalysis K) → ℕ };

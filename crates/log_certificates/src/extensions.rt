@@ -1,6 +1,20 @@
 //! The fields of a certificate's extensions (RFC 5280, section 4.2). Those that are missing or
 //! malformed have none.
-use crate::field::CertificateField;
+ghost use Rattle.std.specs.Prelude.{◌≡◌, [], map, IfOk};
+ghost use Rattle.std.specs.Option.{option_map};
+ghost use Rattle.std.specs.String.{string_bytes};
+ghost use Rattle.layouts.specs.Items.{items_in};
+ghost use Rattle.x509.specs.Certificate.{extension};
+ghost use Rattle.x509.specs.Extensions.{first_of, view_basic_constraints};
+ghost use Rattle.x509.specs.GeneralName.{general_name, view_general_name};
+ghost use Rattle.x509_text.specs.Host.{alt_names};
+ghost use Rattle.log_formats.specs.Data.{count_data, value_of as data_of};
+ghost use Rattle.log_certificates.specs.Read.{view_read};
+ghost use Rattle.log_certificates.specs.Values.{constraints_in, is_ca as is_ca_by, is_ca_value};
+ghost use Rattle.log_certificates.specs.Values.{may_be_ca_value, names_value, path_length_in as path_length_of};
+ghost use Rattle.log_certificates.specs.Values.{tag_of as tag_by, texts_of_kind};
+
+use crate::read::ReadCertificate;
 use der::{Element, ObjectIdentifier};
 use layouts::Items;
 use log_formats::cell::Cell;
@@ -8,7 +22,7 @@ use log_formats::lists::{Texts, some_texts};
 use log_formats::text::add_text;
 use std::alloc::{AllocError, Global};
 use x509::{
-    AccessDescriptions, BasicConstraints, Certificate, GeneralName, GeneralNames, KeyUsage,
+    AccessDescriptions, BasicConstraints, Extensions, GeneralName, GeneralNames, KeyUsage,
     Policies, first_extension, oid, parse_authority_info_access, parse_basic_constraints,
     parse_certificate_policies, parse_extended_key_usage, parse_general_names, parse_key_usage,
 };
@@ -17,54 +31,95 @@ use x509_text::{
     object_text, purpose_id, purposes_fault,
 };
 
+/// The tags of the kinds of names (section 4.2.1.6).
+pub(crate) const MAIL: u8 = 1;
+
+pub(crate) const DNS_NAME: u8 = 2;
+
+pub(crate) const URI: u8 = 6;
+
+pub(crate) const ADDRESS: u8 = 7;
+
+/// In the place of the tag of any other kind.
+pub(crate) const OTHER: u8 = 0;
+
 /// Returns the value of the first extension of this type.
 pub(crate) fn value_of<'a>(
-    certificate: &Certificate<'a>,
+    extensions: Items<'a, Extensions>,
     id: ObjectIdentifier<'_>,
-) -> Option<&'a [u8]> {
-    let found = first_extension(certificate.tbs_certificate.extensions, id)?;
+) -> Option<&'a [u8]>
+    ensures { option_map (λ v. v.now) result ≡ option_map (λ e. e.extn_value)
+        (first_of id.entry.content.now (items_in extension extensions.entry.bytes.now)) }
+{
+    let found = first_extension(extensions, id)?;
     Some(found.extn_value)
 }
 
+/// Returns no names.
+fn no_names<'a>() -> Items<'a, GeneralNames>
+    ensures { items_in general_name result.bytes.now ≡ [] }
+{
+    Items::new(&[])
+}
+
 /// Returns the names in the subjectAltName (section 4.2.1.6).
-fn alternative_names<'a>(certificate: &Certificate<'a>) -> Items<'a, GeneralNames> {
-    let Some(value) = value_of(certificate, oid::SUBJECT_ALT_NAME) else {
-        return Items::new(&[]);
+fn alternative_names<'a>(extensions: Items<'a, Extensions>) -> Items<'a, GeneralNames>
+    ensures { items_in general_name result.bytes.now
+        ≡ alt_names (items_in extension extensions.entry.bytes.now) }
+{
+    let Some(found) = first_extension(extensions, oid::SUBJECT_ALT_NAME) else {
+        return no_names();
     };
-    match parse_general_names(value) {
+    match parse_general_names(found.extn_value) {
         Ok((_, names)) => names,
-        Err(_) => Items::new(&[]),
+        Err(_) => no_names(),
     }
 }
 
-/// Returns whether a name is of the kind that a field lists.
-fn is_listed(name: &GeneralName<'_>, field: &CertificateField) -> bool {
-    matches!(
-        (field, name),
-        (CertificateField::DnsNames, GeneralName::DnsName(_))
-            | (CertificateField::Emails, GeneralName::Rfc822Name(_))
-            | (
-                CertificateField::Uris,
-                GeneralName::UniformResourceIdentifier(_)
-            )
-            | (CertificateField::Addresses, GeneralName::IpAddress(_))
-            | (CertificateField::OtherNames, GeneralName::Other(_))
-    )
+/// Returns the tag of a name's kind.
+fn tag_of(name: &GeneralName<'_>) -> u8
+    ensures { result ≡ tag_by (view_general_name name.now) }
+{
+    match name {
+        GeneralName::Rfc822Name(_) => MAIL,
+        GeneralName::DnsName(_) => DNS_NAME,
+        GeneralName::UniformResourceIdentifier(_) => URI,
+        GeneralName::IpAddress(_) => ADDRESS,
+        GeneralName::Other(_) => OTHER,
+    }
 }
 
-/// Returns the names of one kind in the subjectAltName.
-pub(crate) fn names_cell<'c>(
+/// Returns the names of the kind with this tag, as texts.
+fn texts_of(
     alloc: Global,
-    certificate: &Certificate<'_>,
-    field: &CertificateField,
-) -> Result<Option<Cell<'c>>, AllocError> {
+    names: Items<'_, GeneralNames>,
+    tag: u8,
+) -> Result<Vec<String>, AllocError>
+    ensures { IfOk result (λ all. map string_bytes all.items
+        ≡ texts_of_kind tag (items_in general_name names.entry.bytes.now)) }
+{
     let mut all = Vec::new(alloc);
-    for name in alternative_names(certificate) {
-        if is_listed(&name, field) {
-            add_text(&mut all, general_name_text(alloc, name))?;
+    for name in names {
+        if tag_of(&name) == tag {
+            all.push(general_name_text(alloc, name)?)?;
         }
     }
-    Ok(some_texts(Texts::Owned(all)))
+    Ok(all)
+}
+
+/// Returns the names in the subjectAltName of the kind with this tag.
+pub(crate) fn names_cell<'c>(
+    alloc: Global,
+    read: &ReadCertificate<'_>,
+    tag: u8,
+) -> Result<Option<Cell<'c>>, AllocError>
+    ensures { IfOk result (λ cell. data_of cell ≡ names_value tag (view_read read.now).extensions) }
+{
+    let Some(extensions) = read.extensions() else {
+        return Ok(None);
+    };
+    let texts = texts_of(alloc, alternative_names(extensions), tag)?;
+    Ok(some_texts(Texts::Owned(texts)))
 }
 
 /// The tag of a directoryName; that of an otherName is 0xa0.
@@ -73,11 +128,14 @@ const DIRECTORY_NAME: u8 = 0xa4;
 /// Returns the decoded names in the subjectAltName: directoryNames, or else userPrincipalNames.
 pub(crate) fn decoded_names_cell<'c>(
     alloc: Global,
-    certificate: &Certificate<'_>,
+    read: &ReadCertificate<'_>,
     are_directories: bool,
 ) -> Result<Option<Cell<'c>>, AllocError> {
+    let Some(extensions) = read.extensions() else {
+        return Ok(None);
+    };
     let mut all = Vec::new(alloc);
-    for name in alternative_names(certificate) {
+    for name in alternative_names(extensions) {
         let GeneralName::Other(Element { tag, .. }) = name else {
             continue;
         };
@@ -92,8 +150,8 @@ pub(crate) fn decoded_names_cell<'c>(
 }
 
 /// Returns where to find information on the issuer (section 4.2.2.1).
-fn accesses<'a>(certificate: &Certificate<'a>) -> Items<'a, AccessDescriptions> {
-    let Some(value) = value_of(certificate, oid::AUTHORITY_INFO_ACCESS) else {
+fn accesses<'a>(extensions: Items<'a, Extensions>) -> Items<'a, AccessDescriptions> {
+    let Some(value) = value_of(extensions, oid::AUTHORITY_INFO_ACCESS) else {
         return Items::new(&[]);
     };
     match parse_authority_info_access(value) {
@@ -105,11 +163,14 @@ fn accesses<'a>(certificate: &Certificate<'a>) -> Items<'a, AccessDescriptions> 
 /// Returns where to find information of one kind on the issuer.
 pub(crate) fn access_cell<'c>(
     alloc: Global,
-    certificate: &Certificate<'_>,
+    read: &ReadCertificate<'_>,
     method: ObjectIdentifier<'_>,
 ) -> Result<Option<Cell<'c>>, AllocError> {
+    let Some(extensions) = read.extensions() else {
+        return Ok(None);
+    };
     let mut all = Vec::new(alloc);
-    for access in accesses(certificate) {
+    for access in accesses(extensions) {
         if access.access_method.content == method.content {
             add_text(&mut all, general_name_text(alloc, access.access_location))?;
         }
@@ -118,8 +179,8 @@ pub(crate) fn access_cell<'c>(
 }
 
 /// Returns the policies that it was issued under (section 4.2.1.4).
-fn policies<'a>(certificate: &Certificate<'a>) -> Items<'a, Policies> {
-    let Some(value) = value_of(certificate, oid::CERTIFICATE_POLICIES) else {
+fn policies<'a>(extensions: Items<'a, Extensions>) -> Items<'a, Policies> {
+    let Some(value) = value_of(extensions, oid::CERTIFICATE_POLICIES) else {
         return Items::new(&[]);
     };
     match parse_certificate_policies(value) {
@@ -131,19 +192,25 @@ fn policies<'a>(certificate: &Certificate<'a>) -> Items<'a, Policies> {
 /// Returns the policies that it was issued under, as dotted numbers.
 pub(crate) fn policies_cell<'c>(
     alloc: Global,
-    certificate: &Certificate<'_>,
+    read: &ReadCertificate<'_>,
 ) -> Result<Option<Cell<'c>>, AllocError> {
+    let Some(extensions) = read.extensions() else {
+        return Ok(None);
+    };
     let mut all = Vec::new(alloc);
-    for policy in policies(certificate) {
+    for policy in policies(extensions) {
         add_text(&mut all, object_text(alloc, policy))?;
     }
     Ok(some_texts(Texts::Owned(all)))
 }
 
 /// Returns the basicConstraints (section 4.2.1.9).
-fn constraints<'a>(certificate: &Certificate<'a>) -> Option<BasicConstraints<'a>> {
-    let value = value_of(certificate, oid::BASIC_CONSTRAINTS)?;
-    match parse_basic_constraints(value) {
+fn constraints<'a>(extensions: Items<'a, Extensions>) -> Option<BasicConstraints<'a>>
+    ensures { option_map view_basic_constraints result
+        ≡ constraints_in (items_in extension extensions.entry.bytes.now) }
+{
+    let found = first_extension(extensions, oid::BASIC_CONSTRAINTS)?;
+    match parse_basic_constraints(found.extn_value) {
         Ok((_, constraints)) => Some(constraints),
         Err(_) => None,
     }
@@ -151,23 +218,44 @@ fn constraints<'a>(certificate: &Certificate<'a>) -> Option<BasicConstraints<'a>
 
 /// Returns how many certificates may come between this one and the last; `None` if there is no
 /// limit, or one that is negative, or 2^64 or above.
-pub(crate) fn path_length<'c>(certificate: &Certificate<'_>) -> Option<Cell<'c>> {
-    let limit = constraints(certificate)?.path_len_constraint?;
-    Some(Cell::Number(natural_number(limit)?))
+fn path_length(read: &ReadCertificate<'_>) -> Option<u64>
+    ensures { result ≡ path_length_of (view_read read.now).extensions }
+{
+    let constraints = constraints(read.extensions()?)?;
+    natural_number(constraints.path_len_constraint?)
+}
+
+/// Returns [`path_length`] as a value.
+pub(crate) fn path_length_cell<'c>(read: &ReadCertificate<'_>) -> Option<Cell<'c>>
+    ensures { data_of result
+        ≡ option_map count_data (path_length_of (view_read read.now).extensions) }
+{
+    Some(Cell::Number(path_length(read)?))
 }
 
 /// Returns whether it may sign others; `None` without basicConstraints.
-pub(crate) fn may_be_ca<'c>(certificate: &Certificate<'_>) -> Option<Cell<'c>> {
-    let constraints = constraints(certificate)?;
+pub(crate) fn may_be_ca_cell<'c>(read: &ReadCertificate<'_>) -> Option<Cell<'c>>
+    ensures { data_of result ≡ may_be_ca_value (view_read read.now).extensions }
+{
+    let constraints = constraints(read.extensions()?)?;
     Some(Cell::Mark(constraints.ca))
 }
 
 /// Returns whether it may sign others; false without basicConstraints.
-pub(crate) fn is_ca(certificate: &Certificate<'_>) -> bool {
-    match constraints(certificate) {
+fn is_ca(extensions: Items<'_, Extensions>) -> bool
+    ensures { result ≡ is_ca_by (items_in extension extensions.entry.bytes.now) }
+{
+    match constraints(extensions) {
         Some(constraints) => constraints.ca,
         None => false,
     }
+}
+
+/// Returns [`is_ca`] as a value.
+pub(crate) fn is_ca_cell<'c>(read: &ReadCertificate<'_>) -> Option<Cell<'c>>
+    ensures { data_of result ≡ is_ca_value (view_read read.now).extensions }
+{
+    Some(Cell::Mark(is_ca(read.extensions()?)))
 }
 
 /// Returns the names of a KeyUsage's set bits; an empty list if none is set.
@@ -184,9 +272,12 @@ fn usage_cell<'c>(alloc: Global, usage: KeyUsage) -> Result<Option<Cell<'c>>, Al
 /// Returns the names of its key's uses (section 4.2.1.3).
 pub(crate) fn key_usage<'c>(
     alloc: Global,
-    certificate: &Certificate<'_>,
+    read: &ReadCertificate<'_>,
 ) -> Result<Option<Cell<'c>>, AllocError> {
-    let Some(value) = value_of(certificate, oid::KEY_USAGE) else {
+    let Some(extensions) = read.extensions() else {
+        return Ok(None);
+    };
+    let Some(value) = value_of(extensions, oid::KEY_USAGE) else {
         return Ok(None);
     };
     match parse_key_usage(value) {
@@ -207,9 +298,12 @@ fn purpose_text(alloc: Global, id: ObjectIdentifier<'_>) -> Result<String, Alloc
 /// no such extension, or none of its purposes can be read.
 pub(crate) fn purposes<'c>(
     alloc: Global,
-    certificate: &Certificate<'_>,
+    read: &ReadCertificate<'_>,
 ) -> Result<Option<Cell<'c>>, AllocError> {
-    let Some(value) = value_of(certificate, oid::EXTENDED_KEY_USAGE) else {
+    let Some(extensions) = read.extensions() else {
+        return Ok(None);
+    };
+    let Some(value) = value_of(extensions, oid::EXTENDED_KEY_USAGE) else {
         return Ok(None);
     };
     let Ok((_, list)) = parse_extended_key_usage(value) else {

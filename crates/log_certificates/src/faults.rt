@@ -1,4 +1,7 @@
 //! The fields of a certificate that can't be read, or not to their end.
+ghost use Rattle.std.specs.Prelude.{◌≡◌};
+ghost use Rattle.log_certificates.specs.Names.{error_text};
+
 use crate::extensions::value_of;
 use crate::read::{ReadCertificate, kind_of};
 use layouts::{Err, Error, ErrorKind, InPlace, Items};
@@ -6,13 +9,15 @@ use log_formats::cell::Cell;
 use log_formats::lists::{Texts, some_texts};
 use std::alloc::{AllocError, Global};
 use x509::{
-    Certificate, oid, parse_authority_info_access, parse_basic_constraints,
+    Extensions, oid, parse_authority_info_access, parse_basic_constraints,
     parse_certificate_policies, parse_extended_key_usage, parse_general_names, parse_key_usage,
 };
 use x509_text::{ListFault, extensions_fault, general_names_fault, name_fault, purposes_fault};
 
 /// Returns the name of a broken rule.
-pub fn error_name(kind: ErrorKind) -> &'static str {
+pub fn error_name(kind: ErrorKind) -> &'static str
+    ensures { result.now ≡ error_text kind }
+{
     match kind {
         ErrorKind::TooLarge => "too_large",
         ErrorKind::LengthValue => "length_value",
@@ -165,19 +170,19 @@ fn add_value(
 fn add_extensions(
     alloc: Global,
     all: &mut Vec<String>,
-    certificate: &Certificate<'_>,
+    extensions: Items<'_, Extensions>,
 ) -> Result<(), AllocError> {
-    let names = names_fault(value_of(certificate, oid::SUBJECT_ALT_NAME));
+    let names = names_fault(value_of(extensions, oid::SUBJECT_ALT_NAME));
     add_value(alloc, all, "subjectAltName", names)?;
-    let constraints = constraints_fault(value_of(certificate, oid::BASIC_CONSTRAINTS));
+    let constraints = constraints_fault(value_of(extensions, oid::BASIC_CONSTRAINTS));
     add_value(alloc, all, "basicConstraints", constraints)?;
-    let usage = usage_fault(value_of(certificate, oid::KEY_USAGE));
+    let usage = usage_fault(value_of(extensions, oid::KEY_USAGE));
     add_value(alloc, all, "keyUsage", usage)?;
-    let purposes = purpose_fault(value_of(certificate, oid::EXTENDED_KEY_USAGE));
+    let purposes = purpose_fault(value_of(extensions, oid::EXTENDED_KEY_USAGE));
     add_value(alloc, all, "extKeyUsage", purposes)?;
-    let accesses = access_fault(value_of(certificate, oid::AUTHORITY_INFO_ACCESS));
+    let accesses = access_fault(value_of(extensions, oid::AUTHORITY_INFO_ACCESS));
     add_value(alloc, all, "authorityInfoAccess", accesses)?;
-    let policies = policy_fault(value_of(certificate, oid::CERTIFICATE_POLICIES));
+    let policies = policy_fault(value_of(extensions, oid::CERTIFICATE_POLICIES));
     add_value(alloc, all, "certificatePolicies", policies)
 }
 
@@ -188,7 +193,8 @@ pub(crate) fn unread_fields<'c>(
 ) -> Result<Option<Cell<'c>>, AllocError> {
     let mut all = Vec::new(alloc);
     add_fields(alloc, &mut all, read)?;
-    add_extensions(alloc, &mut all, &read.certificate)?;
+    let extensions = read.certificate.tbs_certificate.extensions;
+    add_extensions(alloc, &mut all, extensions)?;
     let outer = read.unread.signature_algorithm;
     add_unread(alloc, &mut all, "signatureAlgorithm", outer)?;
     Ok(some_texts(Texts::Owned(all)))

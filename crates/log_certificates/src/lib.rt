@@ -4,7 +4,8 @@
 //! [`CertificateField`] of it. [`has_expired`] and [`is_not_yet_valid`] compare its times with
 //! another.
 //!
-//! This crate has no clauses, only tests.
+//! Clauses give the values of most fields by the definitions of `x509` and `x509_text`
+//! (`specs/Values.antt`, `specs/Read.antt`). The others are only tested.
 #![tactic(auto)]
 
 mod certificates;

@@ -1,6 +1,7 @@
 mod CapacityLemmas
 mod DatagramLemmas
 mod DialogueLemmas
+mod EndingLemmas
 mod FollowLemmas
 mod FrontLemmas
 mod LogLemmas

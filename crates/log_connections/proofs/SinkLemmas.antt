@@ -7,7 +7,7 @@ use Rattle.connections.specs.Memory.{IsAccounted, IsTakenOut, open_part, total}
 use Rattle.connections.specs.Table.{IsOver, NoneIsOver, Table, WasLast}
 use Rattle.connections.specs.declared.five_tuple.FiveTuple.{FiveTuple}
 use Rattle.connections.specs.declared.connection.Connection.{Connection}
-use Rattle.log_connections.specs.Sink.{Adds, EndsAs, Evicts, EndsIdle, EndsLast, AnalyzesLast, IsOverLimit, IsCutOff, IsEnded, IsLastEnded, PassesAllButLast, PassesEnded, Receives, at_originator, at_responder, cut_off, marked_early, none, one, wholly}
+use Rattle.log_connections.specs.Sink.{Adds, EndsAs, Evicts, EndsIdle, EndsLast, AnalyzesLast, IsOverLimit, IsEnded, IsLastEnded, PassesAllButLast, PassesEnded, Receives, cut_off, marked_early, none, one, wholly}
 use Rattle.log_connections.specs.declared.analysis.TlsAnalysis.{TlsAnalysis}
 
 module _ {X : Type 0} where
@@ -79,25 +79,11 @@ module _ {K : Type 0} where
     same = ap {A = Connection (TlsAnalysis K)} marked_early receives.same;
   })
 
-  cut_marked : (c d e : Connection (TlsAnalysis K)) → IsCutOff c d → e ≡ marked_early d
-      → IsCutOff c e
-  cut_marked c d e (at_originator last undone cut same) is =
-      subst (IsCutOff c) (sym is)
-      (at_originator last undone cut (ap {A = Connection (TlsAnalysis K)} marked_early same))
-  cut_marked c d e (at_responder between last receives undone cut same) is =
-      subst (IsCutOff c) (sym is)
-      (at_responder between last receives undone cut
-      (ap {A = Connection (TlsAnalysis K)} marked_early same))
-
-  pub ended_cut : (c d e : Connection (TlsAnalysis K)) → IsCutOff c d → e ≡ marked_early d
-      → IsEnded c e
-  ended_cut c d e cut is =
-      cut_off (cut_marked c d e cut is) (ap (λ x. x.attachment.is_ended_early) is)
-
   pub marked : (c d e : Connection (TlsAnalysis K)) → IsEnded c d → e ≡ marked_early d
       → IsEnded c e
-  marked c d e (wholly receives) is = wholly (received_marked c d e receives is)
-  marked c d e (cut_off cut early) is = ended_cut c d e cut is
+  marked c d e (wholly rest) is = wholly (rest.0, rest.1, received_marked rest.0 d e rest.2 is)
+  marked c d e (cut_off before cut early) is =
+      cut_off before cut (is ∙ ap {A = Connection (TlsAnalysis K)} marked_early early)
 
   pub marked_as : {B : Type 0} (value : B → Connection (TlsAnalysis K)) (taken : Option B)
       (d e : Connection (TlsAnalysis K)) → EndsAs (option_map value taken) (Some d)

@@ -17,7 +17,7 @@ use Rattle.tls_detection.specs.Front.{first_message}
 use Rattle.tls_flow.specs.Table.{outcome_at}
 use Rattle.tls_flow.specs.declared.symbol.Direction.{Direction}
 use Rattle.tls_flow.specs.declared.symbol.Direction.TheVariants.{ToServer, FromServer}
-use Rattle.tls_analyzer.specs.Analyzers.{IsReadAsNone, IsReadInSsl2, IsReadOn, IsNew, is_over, is_tls_on, is_unknown}
+use Rattle.tls_analyzer.specs.Analyzers.{IsReadAsNone, IsReadInSsl2, IsReadOn, IsNew, is_over, is_tls_on, is_unknown, known_as_tls}
 use Rattle.dtls_analyzer.specs.DatagramRecords.{no_datagrams, with_datagram}
 use Rattle.dtls_analyzer.specs.Datagrams.{IsKnown, received, nothing_observed}
 use Rattle.dtls_analyzer.specs.Datagrams as datagrams
@@ -35,7 +35,8 @@ use Rattle.log_connections.specs.declared.analysis.TransportAnalyzer.{TransportA
 use Rattle.log_connections.specs.declared.analysis.TransportAnalyzer.TheVariants as transport
 use Rattle.preambles.specs.declared.phase.Protocol.{Protocol as Preceding}
 use Rattle.log_connections.specs.Dialogue.{is_followed, protocol_in, state_of}
-use Rattle.log_connections.specs.Fronts.{At, InSsl2, IsFollowedBy, Nowhere, PassesOver as Passes, Start, Waits, beginning, begun_behind, no_preambles, passing, preamble, with_preamble, without_dialogue}
+use Rattle.log_connections.specs.Fronts.{At, InSsl2, IsFollowedBy, Next, Nowhere, PassesOver as Passes, Start, Waits, beginning, no_preambles, passing, preamble, with_preamble, without_dialogue}
+use Rattle.log_connections.specs.Tds.{behind_tls, tls_in}
 use Rattle.log_connections.specs.declared.fronts.Preambles.{Preambles}
 
 -- The originator is the client, unless a hello shows otherwise: then the sides are turned.
@@ -92,6 +93,11 @@ begins_in s d last (transport.Stream x f) b =
     beginning (state_of f.dialogue) (is_unknown x d) x.is_tls last (preamble s f) b
 begins_in s d last (transport.Datagrams x) b = Waits
 
+-- A side's TLS was found, behind n bytes that are skipped.
+abbrev pub begun_in : Side → Direction → ℕ → TransportAnalyzer → TransportAnalyzer
+begun_in s d n (transport.Stream x f) = transport.Stream (known_as_tls x d) (passing s n f)
+begun_in s d n (transport.Datagrams x) = transport.Datagrams x
+
 -- A side whose TLS was found and is complete, or that speaks none, is analyzed no further.
 abbrev pub is_over_in : Direction → TransportAnalyzer → Bool
 is_over_in d (transport.Stream x f) = is_over x d
@@ -111,6 +117,15 @@ preamble_of s (transport.Datagrams x) = 0
 abbrev pub dialogue_of : TransportAnalyzer → Option Preceding
 dialogue_of (transport.Stream x f) = protocol_in f.dialogue
 dialogue_of (transport.Datagrams x) = None
+
+-- The TLS in what a side sent next, and the place behind that in its packets, if it comes in any.
+abbrev pub tls_in_transport : Side → Bytes → TransportAnalyzer → Bytes
+tls_in_transport s b (transport.Stream x f) = tls_in s b f
+tls_in_transport s b (transport.Datagrams x) = b
+
+abbrev pub behind_tls_in : Side → Bytes → TransportAnalyzer → TransportAnalyzer
+behind_tls_in s b (transport.Stream x f) = transport.Stream x (behind_tls s b f)
+behind_tls_in s b (transport.Datagrams x) = transport.Datagrams x
 
 -- A dialogue in front of TLS goes on.
 abbrev pub is_followed_in : TransportAnalyzer → Bool
@@ -198,33 +213,57 @@ module _ {K : Type 0} where
     from_responder = if is_responder s then with_bytes b a.from_responder else a.from_responder;
   }
 
-  -- These bytes of a side were analyzed as TLS. They count, and the first of the connection show
-  -- which side is the client.
-  abbrev pub analyzing : Side → Bool → Bytes → TlsAnalysis K → TlsAnalysis K → TlsAnalysis K
-  analyzing s opened b a new = record (counting s b a) {
+  -- If nothing was analyzed before, the message with which these bytes of a side begin shows which
+  -- side is the client.
+  abbrev pub seeing_client : Side → Bool → Bytes → TlsAnalysis K → TlsAnalysis K
+  seeing_client s opened b a =
+      record a { is_turned = turned (first_message b) s opened a.transport a.is_turned }
+
+  -- These bytes of a side were analyzed, and count.
+  abbrev pub analyzing : Side → Bytes → TlsAnalysis K → TlsAnalysis K → TlsAnalysis K
+  analyzing s b a new = record (counting s b a) {
     transport = new.transport;
-    is_turned = turned (first_message b) s opened a.transport a.is_turned;
     received = plus a.received (length b);
     collector = new.collector;
   }
 
-  -- The next bytes of a side's stream were analyzed behind the n bytes before its TLS, and all of
-  -- them were read. The stream is read no further if the side is over then.
-  abbrev pub AnalyzesAtIn : TransportAnalyzer → TransportAnalyzer → Side → Bool → ℕ → Stream
-      → Stream
+  -- This TLS of a side was analyzed. It was in the next bytes of its stream, which were all read.
+  -- The stream is read no further if the side is over then.
+  abbrev pub AnalyzesTlsIn : TransportAnalyzer → TransportAnalyzer → Side → Bytes → Stream → Stream
       → TlsAnalysis K → TlsAnalysis K → Type 0
-  AnalyzesAtIn (transport.Stream x f) (transport.Stream y g) s opened n t u a b =
-      IsReadOn x (direction_of b.is_turned s) (drop n (next_bytes t t.reading)) y
-      × (g ≡ begun_behind (is_unknown x (direction_of b.is_turned s)) s n f)
-      × (u ≡ stopped_if (is_over y (direction_of b.is_turned s))
+  AnalyzesTlsIn (transport.Stream x f) (transport.Stream y g) s tls t u a b =
+      IsReadOn x (direction_of a.is_turned s) tls y × (g ≡ f)
+      × (u ≡ stopped_if (is_over y (direction_of a.is_turned s))
       (handing_on (length (next_bytes t t.reading)) t))
-      × (b ≡ analyzing s opened (drop n (next_bytes t t.reading)) a b)
-  AnalyzesAtIn (transport.Stream x f) (transport.Datagrams y) s opened n t u a b = ⊥
-  AnalyzesAtIn (transport.Datagrams x) y s opened n t u a b = (b ≡ a) × (u ≡ t)
+      × (b ≡ analyzing s tls a b)
+  AnalyzesTlsIn (transport.Stream x f) (transport.Datagrams y) s tls t u a b = ⊥
+  AnalyzesTlsIn (transport.Datagrams x) y s tls t u a b = (b ≡ a) × (u ≡ t)
 
-  unfoldable pub AnalyzesAt : Side → Bool → ℕ → Stream → Stream → TlsAnalysis K → TlsAnalysis K
+  unfoldable pub AnalyzesTls : Side → Bytes → Stream → Stream → TlsAnalysis K → TlsAnalysis K
       → Type 0
-  AnalyzesAt s opened n t u a b = AnalyzesAtIn a.transport b.transport s opened n t u a b
+  AnalyzesTls s tls t u a b = AnalyzesTlsIn a.transport b.transport s tls t u a b
+
+  -- TLS was found behind n of a side's next bytes: it begins there, and isn't looked for again.
+  abbrev pub begun_at : Side → ℕ → TlsAnalysis K → TlsAnalysis K
+  begun_at s n a =
+      record a { transport = begun_in s (direction_of a.is_turned s) n a.transport }
+
+  abbrev pub AnalyzesAt : Side → Bool → ℕ → Stream → Stream → TlsAnalysis K → TlsAnalysis K
+      → Type 0
+  AnalyzesAt s opened n t u a b = AnalyzesTls s (drop n (next_bytes t t.reading)) t u
+      (begun_at s n (seeing_client s opened (drop n (next_bytes t t.reading)) a)) b
+
+  -- How far the packets are behind these bytes of a side, if its TLS comes in packets.
+  abbrev pub behind_tls_of : Side → Bytes → TlsAnalysis K → TlsAnalysis K
+  behind_tls_of s b a = record a { transport = behind_tls_in s b a.transport }
+
+  -- A side's TLS began before its next bytes, or begins with them, whatever they are: the analyzer
+  -- looks at its first 5. If the TLS comes in packets, it is taken out of them.
+  abbrev pub AnalyzesAll : Side → Bool → Stream → Stream → TlsAnalysis K → TlsAnalysis K → Type 0
+  AnalyzesAll s opened t u a b =
+      AnalyzesTls s (tls_in_transport s (next_bytes t t.reading) a.transport) t u
+      (seeing_client s opened (tls_in_transport s (next_bytes t t.reading) a.transport)
+      (behind_tls_of s (next_bytes t t.reading) a)) b
 
   -- This many bytes of it were skipped, and no more.
   abbrev pub PassesOverIn : TransportAnalyzer → Side → ℕ → Stream → Stream → TlsAnalysis K
@@ -287,6 +326,7 @@ module _ {K : Type 0} where
   AnalyzesBy (Passes n) s opened t u a b = PassesOver s n t u a b
   AnalyzesBy (At n) s opened t u a b = AnalyzesAt s opened n t u a b
   AnalyzesBy (InSsl2 hello n) s opened t u a b = AnalyzesHello s hello a b × (u ≡ handing_on n t)
+  AnalyzesBy Next s opened t u a b = AnalyzesAll s opened t u a b
   AnalyzesBy Nowhere s opened t u a b = AnalyzesNone s t u a b
 
   -- The next bytes of a side's stream were analyzed from where its TLS begins, or skipped.

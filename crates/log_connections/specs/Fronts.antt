@@ -5,6 +5,7 @@ use Rattle.layouts.specs.Meaning.{Answer}
 use Rattle.layouts.specs.Reading.{reading}
 use Rattle.ssl2_hello.specs.ClientHello.{ClientHello, client_hello, view_client_hello}
 use Rattle.ssl2_hello.specs.Front.{begins_ssl2_hello_in}
+use Rattle.preambles.specs.TdsPayload.{begun, reader_at}
 use Rattle.tls_detection.specs.Front.{begins_tls}
 use Rattle.tls_detection.specs.Place.{place_behind}
 use Rattle.connections.specs.declared.connection.Side.{Side}
@@ -16,12 +17,14 @@ use Rattle.log_connections.specs.declared.fronts.Beginning.{Beginning}
 use Rattle.log_connections.specs.declared.fronts.Beginning.TheVariants as beginnings
 
 -- Where TLS begins on a side: undecided (too few bytes), not within this many bytes, after this
--- many, with an SSL 2.0 ClientHello in a record of this many bytes, or nowhere.
+-- many, with an SSL 2.0 ClientHello in a record of this many bytes, with the next byte or before
+-- it, or nowhere.
 pub data Start : Type 0 where
   Waits : Start
   PassesOver : ℕ → Start
   At : ℕ → Start
   InSsl2 : ClientHello → ℕ → Start
+  Next : Start
   Nowhere : Start
 
 abbrev pub view_beginning : Beginning → Start
@@ -29,6 +32,7 @@ view_beginning beginnings.Waits = Waits
 view_beginning (beginnings.PassesOver n) = PassesOver n
 view_beginning (beginnings.At n) = At n
 view_beginning (beginnings.InSsl2 hello n) = InSsl2 (view_client_hello hello) n
+view_beginning beginnings.Next = Next
 view_beginning beginnings.Nowhere = Nowhere
 
 -- The count saturates.
@@ -76,26 +80,26 @@ beginning_at_once answers last skipped b =
     if begins_there b last then At 0
     else beginning_by (reading client_hello b) answers last skipped b
 
--- Where a search finds TLS: by the side's next bytes after those that were skipped, which may be its
--- last. A side answers if the other side's TLS began.
+-- Where a search finds TLS in a side's next bytes, behind those that were skipped. They may be its
+-- last ones. A side answers if the other side's TLS began.
 abbrev pub beginning_by_search : Bool → Bool → ℕ → Bytes → Start
 beginning_by_search answers last skipped b =
     if skipped == 0 then beginning_at_once answers last skipped b
     else beginning_behind answers last skipped b
 
--- Where TLS begins on a side. Behind a dialogue that is known it begins with the next byte, whatever
--- that is; and nowhere if the dialogue goes on without it. While the dialogue is followed, both sides
+-- Where TLS begins on a side. Behind a known dialogue it begins with the next byte, whatever that
+-- is, or nowhere if the dialogue goes on without TLS. While the dialogue is followed, both sides
 -- wait. Where none is known, TLS is searched for.
 abbrev pub beginning_in : State → Bool → Bool → ℕ → Bytes → Start
 beginning_in (GoesOn tunnel p i j) answers last skipped b = Waits
-beginning_in (Tls p) answers last skipped b = At 0
+beginning_in (Tls p) answers last skipped b = Next
 beginning_in Plain answers last skipped b = Nowhere
 beginning_in Unknown answers last skipped b = beginning_by_search answers last skipped b
 
--- The same, if TLS is sought there. If it isn't, it began before.
+-- Where TLS begins, if it didn't begin before, that is, if it is still sought.
 abbrev pub beginning : State → Bool → Bool → Bool → ℕ → Bytes → Start
 beginning s sought answers last skipped b =
-    if not sought then At 0 else beginning_in s answers last skipped b
+    if not sought then Next else beginning_in s answers last skipped b
 
 abbrev pub preamble : Side → Preambles → ℕ
 preamble Originator f = f.originator
@@ -107,16 +111,17 @@ with_preamble Responder n f = record f { responder = n }
 
 -- No bytes were skipped or read.
 abbrev pub no_preambles : Preambles
-no_preambles = record { originator = 0; responder = 0; dialogue = dialogue.New }
+no_preambles = record {
+  originator = 0;
+  responder = 0;
+  dialogue = dialogue.New;
+  packets_of_originator = reader_at begun;
+  packets_of_responder = reader_at begun;
+}
 
 -- This many more bytes of a side are skipped.
 abbrev pub passing : Side → ℕ → Preambles → Preambles
 passing s n f = with_preamble s (behind (preamble s f) n) f
-
--- A side's TLS begins after these bytes, unless it began before.
-abbrev pub begun_behind : Bool → Side → ℕ → Preambles → Preambles
-begun_behind true s n f = passing s n f
-begun_behind false s n f = f
 
 -- Both sides' next bytes lead the dialogue on. Those that it passes are skipped.
 abbrev pub IsPassedBy : Steps → Preambles → Preambles → ℕ × ℕ → Type 0

@@ -1,9 +1,12 @@
 pub mod Dialogue
 pub mod Fronts
+pub mod Tds
 pub mod Analysis
 pub mod Accessors
 pub mod Capacity
 pub mod Found
+pub mod Sides
+pub mod AtEnd
 pub mod Sink
 pub mod Log
 pub mod Reading

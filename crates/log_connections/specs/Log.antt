@@ -1,6 +1,6 @@
 -- What an arrival does to the log: its connection accepts it, and that connection's analysis
 -- processes it.
-use Rattle.std.specs.Prelude.{◌≡◌, ⊤, ℕ, ◌+◌, Bool, true, false, if◌then◌else◌, IfNone, IfSome, Option, Some, None, is_some, List, ◌∷◌, ◌&&◌}
+use Rattle.std.specs.Prelude.{◌≡◌, ⊤, ℕ, ◌+◌, Bool, true, false, if◌then◌else◌, IfNone, IfSome, Option, Some, None, is_some, List, ◌∷◌}
 use Rattle.std.specs.Option.{option_map}
 use Rattle.arrivals.specs.Arrival.{five_tuple_in, source_of}
 use Rattle.arrivals.specs.Counts.{nothing_counted, one_more}
@@ -8,11 +8,11 @@ use Rattle.arrivals.specs.declared.arrival.Arrival.{Arrival}
 use Rattle.arrivals.specs.declared.arrival.Arrival.TheVariants as arrival
 use Rattle.arrivals.specs.declared.counts.Counts.{Counts}
 use Rattle.arrivals.specs.declared.reader.ArrivalReader.{ArrivalReader}
-use Rattle.connections.specs.Connection.{AcceptsKept, has_opening, is_datagram_damaged, lets_in, shows_damage, side_of, verdict_of}
+use Rattle.connections.specs.Connection.{is_datagram_damaged, lets_in, shows_damage, side_of, verdict_of}
 use Rattle.connections.specs.Datagram.{five_tuple_of_datagram}
 use Rattle.connections.specs.Memory.{IsSettled}
-use Rattle.connections.specs.Segment.{begins, five_tuple_of, has_data, header_of, is_refused}
-use Rattle.connections.specs.Stream.{with_more_disagreeing, is_cut_short}
+use Rattle.connections.specs.Segment.{begins, five_tuple_of, has_data, is_refused}
+use Rattle.connections.specs.Stream.{with_more_disagreeing}
 use Rattle.connections.specs.Table.{BeginsAfter, ComesFirst, DropsDatagram, HasBegun, Replaced, Restarts, Table, TakesDatagram, TakesSegment, at, belongs, changing, closed_behind, ended, others, pending_outcome_in, with_dropped_segment, with_waiting_segment, without_ended, without_pending_segment}
 use Rattle.connections.specs.Waiting.{Kept}
 use Rattle.connections.specs.declared.connection.Connection.{Connection}
@@ -29,8 +29,9 @@ use Rattle.connections.specs.declared.receiver.Judgement.TheVariants as judgemen
 use Rattle.connections.specs.declared.segment.Segment.{Segment}
 use Rattle.tls_detection.specs.Front.{held_datagram}
 use Rattle.log_connections.specs.Accessors.{BeginsAnother}
-use Rattle.log_connections.specs.Analysis.{AnalyzesDatagram, AnalyzesOn, IsBegun, direction_of, AnalyzesStream, FollowsOnce, is_followed_in, undialogued}
+use Rattle.log_connections.specs.Analysis.{AnalyzesDatagram, IsBegun, direction_of}
 use Rattle.log_connections.specs.Capacity.{IsWeighedAt, most_bytes_of}
+pub use Rattle.log_connections.specs.Sides.{AnalyzesKept, AnalyzesSender, AnalyzesSide, AnalyzesWaiting, FollowsDialogue, FollowsIf, FollowsOpened, IsReady}
 use Rattle.log_connections.specs.Sink.{EndsAs}
 use Rattle.log_connections.specs.declared.analysis.TlsAnalysis.{TlsAnalysis}
 use Rattle.log_connections.specs.declared.exchanges.Delivery.{Delivery}
@@ -75,75 +76,6 @@ with_stray s c =
     if is_refused s.checksum then damaged_if true c else stray_if (has_data s) c
 
 module _ {K : Type 0} where
-  -- A packet's tunnels are noted, and its pieces kept. Nothing else in the analysis changes.
-  abbrev pub IsReady : TlsAnalysis K → TlsAnalysis K → Type 0
-  IsReady a b = b ≡ record a { tunnels = b.tunnels; collector = b.collector }
-
-  -- The next bytes of a side's stream are analyzed. Everything else in the connection stays, the
-  -- other side's stream included.
-  abbrev pub AnalyzesSender : Segment → Side → Connection (TlsAnalysis K) → Connection (TlsAnalysis K)
-      → Type 0
-  AnalyzesSender s Originator c c' =
-      (a : TlsAnalysis K) × IsReady c.attachment a
-      × AnalyzesOn Originator (has_opening c) s c.from_originator c'.from_originator a c'.attachment
-      × (c' ≡ record c { from_originator = c'.from_originator; attachment = c'.attachment })
-  AnalyzesSender s Responder c c' =
-      (a : TlsAnalysis K) × IsReady c.attachment a
-      × AnalyzesOn Responder (has_opening c) s c.from_responder c'.from_responder a c'.attachment
-      × (c' ≡ record c { from_responder = c'.from_responder; attachment = c'.attachment })
-
-  -- The bytes of the other side that waited are analyzed. Everything else stays.
-  abbrev pub AnalyzesWaiting : Side → Connection (TlsAnalysis K) → Connection (TlsAnalysis K)
-      → Type 0
-  AnalyzesWaiting Originator c d =
-      AnalyzesStream Responder (has_opening c)
-      (is_cut_short c.from_responder c.from_responder.reading) c.from_responder d.from_responder
-      c.attachment d.attachment
-      × (d ≡ record c { from_responder = d.from_responder; attachment = d.attachment })
-  AnalyzesWaiting Responder c d =
-      AnalyzesStream Originator (has_opening c)
-      (is_cut_short c.from_originator c.from_originator.reading) c.from_originator d.from_originator
-      c.attachment d.attachment
-      × (d ≡ record c { from_originator = d.from_originator; attachment = d.attachment })
-
-  -- The dialogue in front of TLS is followed, and one behind that, as that behind a tunnel. Then the
-  -- other side's bytes are analyzed that waited for the sender's.
-  pub record FollowsDialogue (side : Side) (c d : Connection (TlsAnalysis K)) : Type 0 where
-    pub first : Connection (TlsAnalysis K)
-    pub second : Connection (TlsAnalysis K)
-    pub follows :
-        FollowsOnce c.from_originator first.from_originator c.from_responder first.from_responder
-        c.attachment first.attachment
-    pub follows_next :
-        FollowsOnce first.from_originator second.from_originator first.from_responder
-        second.from_responder first.attachment second.attachment
-    pub same :
-        second ≡ record c {
-          from_originator = second.from_originator;
-          from_responder = second.from_responder;
-          attachment = second.attachment;
-        }
-    pub waiting : AnalyzesWaiting side second d
-
-  -- A dialogue is followed from the connection's opening on, if that was captured.
-  abbrev pub FollowsOpened : Bool → Side → Connection (TlsAnalysis K) → Connection (TlsAnalysis K)
-      → Type 0
-  FollowsOpened true side c d = FollowsDialogue side c d
-  FollowsOpened false side c d = d ≡ record c { attachment = undialogued c.attachment }
-
-  abbrev pub FollowsIf : Bool → Side → Connection (TlsAnalysis K) → Connection (TlsAnalysis K)
-      → Type 0
-  FollowsIf true side c d = FollowsOpened (has_opening c) side c d
-  FollowsIf false side c d = d ≡ c
-
-  -- A segment's data leads the dialogue in front of TLS on, if one is followed. Then the next bytes
-  -- of its sender are analyzed.
-  abbrev pub AnalyzesSide : Segment → Side → Connection (TlsAnalysis K) → Connection (TlsAnalysis K)
-      → Type 0
-  AnalyzesSide s side c c' = (d : Connection (TlsAnalysis K))
-      × FollowsIf (has_data s && is_followed_in c.attachment.transport) side c d
-      × AnalyzesSender s side d c'
-
   -- The segment's connection takes it, and the next bytes of its sender's stream are analyzed. One
   -- that begins has analyzed nothing before. All other connections stay.
   pub record AnalyzesSegment (s : Segment) (old new : Table (TlsAnalysis K)) : Type 0 where
@@ -198,16 +130,7 @@ module _ {K : Type 0} where
       → Option (Connection (TlsAnalysis K)) → Type 0
   TakesIn s old new over = TakesIf (belongs s old) s old new over
 
-  -- A pending segment is added to its sender's stream, whose next bytes are analyzed. Its
-  -- connection comes first then, and all others stay.
-  pub record AnalyzesKept (k : Kept) (c c' : Connection (TlsAnalysis K)) : Type 0 where
-    pub put : Connection (TlsAnalysis K)
-    pub segment : Segment
-    pub header : header_of segment ≡ k.header
-    pub payload : segment.payload.now ≡ k.bytes
-    pub accepts : AcceptsKept k c put
-    pub receives : AnalyzesSide segment (side_of put segment.source) put c'
-
+  -- A pending segment is analyzed. Its connection comes first then, and all others stay.
   abbrev pub AnalyzesPending : FiveTuple → Kept → Table (TlsAnalysis K) → Table (TlsAnalysis K)
       → Type 0
   AnalyzesPending e k old new = ComesFirst e (AnalyzesKept k) (at e old.live) old new
@@ -463,9 +386,9 @@ module _ {K : Type 0} where
   abbrev pub with_disagreeing : Arrival → ℕ → Table (TlsAnalysis K) → Table (TlsAnalysis K)
   with_disagreeing a n t = changing (five_tuple_in a) (disagreeing_of a n) t
 
--- What holds where the memory of an arrival's connection is accounted anew, which is wherever its
--- bytes may change and it is still open then. A segment without data that is let in at once, and one
--- that is dropped and not kept, bring no bytes.
+-- What holds where the memory of an arrival's connection is accounted anew: wherever its bytes may
+-- change and it stays open. A segment that is let in at once without data, or that is dropped and
+-- not kept, brings no bytes.
 module _ {C : Type 0} (over : Option C) (Weighed : Type 0) where
   abbrev pub WhereJudged : Judgement → Segment → Type 0
   WhereJudged judgement.Taken s = IfNone over Weighed
@@ -486,7 +409,7 @@ module _ {C : Type 0} (over : Option C) (Weighed : Type 0) where
   WhereSegment None s = IfNone over Weighed
   WhereSegment (Some v) s = WhereLetIn (lets_in v) v s
 
--- The same of a segment that its open connection analyzes, or doesn't; and of a datagram.
+-- What holds of a segment by its reception in its open connection: only received data counts.
 abbrev pub WhereReceived : Reception → Type 0 → Segment → Type 0
 WhereReceived (reception.Received closed) Weighed s = has_data s ≡ true → Weighed
 WhereReceived (reception.Judged verdict) Weighed s = ⊤

@@ -7,6 +7,7 @@ use Rattle.connections.specs.declared.five_tuple.FiveTuple.{FiveTuple}
 use Rattle.connections.specs.declared.connection.Connection.{Connection}
 use Rattle.connections.specs.declared.connection.Side.TheVariants.{Originator, Responder}
 use Rattle.log_connections.specs.Analysis.{AnalyzesStream, IsCutIn, is_done, undialogued}
+use Rattle.log_connections.specs.AtEnd.{AnalyzesAllAtEnd, RefusesSomeAtEnd}
 use Rattle.log_connections.specs.declared.analysis.TlsAnalysis.{TlsAnalysis}
 use Rattle.log_connections.specs.declared.sink.LogError.{LogError}
 use Rattle.log_connections.specs.declared.sink.LogError.TheVariants.{OutOfMemory, Sink}
@@ -45,8 +46,8 @@ module _ {X : Type 0} where
   Receives old new (Err e) x = Adds old new []
 
 module _ {K : Type 0} where
-  -- A dialogue in front of TLS that goes on is over. The last bytes of both streams, which were held
-  -- back, were analyzed, and it may be marked as ended early. All else stays.
+  -- The dialogue in front of TLS is over. The last bytes of both streams, held back before, were
+  -- analyzed, and it may be marked as ended early. All else stays.
   pub record AnalyzesLast (c c' : Connection (TlsAnalysis K)) : Type 0 where
     pub between : TlsAnalysis K
     pub last : TlsAnalysis K
@@ -85,11 +86,25 @@ module _ {K : Type 0} where
         }
         → IsCutOff c c'
 
-  -- A connection ended: its last bytes were analyzed, or it ended early, since memory was refused
-  -- for them.
+  -- It is marked as ended early.
+  abbrev pub marked_early : Connection (TlsAnalysis K) → Connection (TlsAnalysis K)
+  marked_early c = record c { attachment = record c.attachment { is_ended_early = true } }
+
+  -- The pending segments that count as taken at the end were analyzed, and then the last bytes.
+  abbrev pub AnalyzesRest : Connection (TlsAnalysis K) → Connection (TlsAnalysis K) → Type 0
+  AnalyzesRest c c' = (d : Connection (TlsAnalysis K)) × AnalyzesAllAtEnd c d × AnalyzesLast d c'
+
+  -- Memory was refused for one of the former, or for the latter.
+  pub data IsCutShort (c c' : Connection (TlsAnalysis K)) : Type 0 where
+    at_pending : RefusesSomeAtEnd c c' → IsCutShort c c'
+    at_last :
+        (d : Connection (TlsAnalysis K)) → AnalyzesAllAtEnd c d → IsCutOff d c' → IsCutShort c c'
+
+  -- A connection ended: the rest was analyzed; or memory was refused for that, and it ended early.
   pub data IsEnded (c c' : Connection (TlsAnalysis K)) : Type 0 where
-    wholly : AnalyzesLast c c' → IsEnded c c'
-    cut_off : IsCutOff c c' → c'.attachment.is_ended_early ≡ true → IsEnded c c'
+    wholly : AnalyzesRest c c' → IsEnded c c'
+    cut_off :
+        (d : Connection (TlsAnalysis K)) → IsCutShort c d → c' ≡ marked_early d → IsEnded c c'
 
   abbrev pub EndsAs : Option (Connection (TlsAnalysis K)) → Option (Connection (TlsAnalysis K))
       → Type 0
@@ -133,10 +148,6 @@ module _ {K : Type 0} where
   TakesPieces c c' = c' ≡ record c {
     attachment = record c.attachment { collector = c'.attachment.collector };
   }
-
-  -- It is marked as ended early.
-  abbrev pub marked_early : Connection (TlsAnalysis K) → Connection (TlsAnalysis K)
-  marked_early c = record c { attachment = record c.attachment { is_ended_early = true } }
 
   -- A connection that was closed for lack of memory is marked as ended early.
   abbrev pub AreEarly : Option (Connection (TlsAnalysis K)) → Type 0

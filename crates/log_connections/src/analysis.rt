@@ -1,31 +1,29 @@
 //! The TLS or DTLS analysis of a connection.
-ghost use Rattle.std.specs.Prelude.{◌≡◌, ◌≤◌, ◌||◌, ◌^◌, ℕ, OnErr, OnOk, Some, drop, false};
+ghost use Rattle.std.specs.Prelude.{◌≡◌, ◌≤◌, ◌||◌, ◌^◌, ℕ, IfOk, OnErr, OnOk, Some, drop, false};
 ghost use Rattle.std.specs.Option.{option_copied_mut, option_map};
 ghost use Rattle.std.specs.Borrow.{sem};
-ghost use Rattle.tls_detection.specs.Front.{first_message as first_in, held_datagram as held_datagram_of};
-ghost use Rattle.connections.specs.Stream.{is_cut_short};
-ghost use Rattle.ssl2_hello.specs.ClientHello.{view_client_hello as view_ssl2_hello};
+ghost use Rattle.tls_detection.specs.Front.{held_datagram as held_datagram_of};
 ghost use Rattle.tls_summary.specs.HandshakeSummary.{view_summary};
 ghost use Rattle.log_connections.specs.Accessors.{BeginsAnother, HasHandshake, HasHistory, HasOutcome, HasStop, IsEstablishedBy, IsResumedBy, LacksFront, records_of};
-ghost use Rattle.log_connections.specs.Analysis.{AnalyzesAt, AnalyzesDatagram, AnalyzesFurther, AnalyzesHeld, AnalyzesHello, AnalyzesNone, AnalyzesStream, Decides, IsBegun as IsBegunAs, IsCut, IsCutIn, IsPrepared, IsTlsBy, Keeps, PassesOver, SeesHello, TurnsTo, are_passed as are_passed_on, begins_in, counted, counting, direction_of as direction_by, is_answered as is_answered_in, is_done as is_done_in, is_over_in, is_responder as is_responder_side, is_silent_in, noted_tunnels, preamble_of, stopped_if, tunnels_in, turned, turned_by as turned_by_message, FollowsOnce, dialogue_of, is_followed_in, without_dialogue_in};
+ghost use Rattle.log_connections.specs.Analysis.{IsBegun as IsBegunAs, IsPrepared, IsTlsBy, Keeps, are_passed as are_passed_on, behind_tls_of, direction_of as direction_by, is_answered as is_answered_in, is_responder as is_responder_side, is_silent_in, noted_tunnels, preamble_of, stopped_if, tls_in_transport, tunnels_in, turned_by as turned_by_message, FollowsOnce, dialogue_of, is_followed_in, without_dialogue_in};
 ghost use Rattle.log_connections.specs.Capacity.{buffers_of as buffers_by, least_bytes_of, least_of_transport, most_bytes_of, most_of_transport, of_collector as of_collector_in, of_tunnels as of_tunnels_in};
-ghost use Rattle.log_connections.specs.Fronts.{view_beginning};
 ghost use Rattle.log_connections.specs.Lends.{lends_collector};
+ghost use Rattle.log_connections.specs.Tds.{tls_of as tls_by};
 
-use crate::fronts::{Beginning, Preambles, begins_at};
-use crate::piece_observer::PieceObserver;
-use crate::turning::{is_other, turned_from};
+use crate::fronts::Preambles;
 use connections::{Attachment, Protocol, Side, Stream};
 use dtls_analyzer::{DatagramAnalyzer, DatagramRecordCounter};
-use ssl2_hello::Ssl2ClientHello;
 use std::alloc::{AllocError, Global};
-use std::mem::{self, size_of};
+use std::mem::size_of;
 use tls_analyzer::{Analyzer, RecordCounter};
-use tls_detection::{first_message, held_datagram};
+use tls_detection::held_datagram;
 use tls_flow::{Direction, Outcome, Stop};
 use tls_observer::Observer;
-use tls_summary::{CertificateCache, HandshakeSummary};
+use tls_summary::HandshakeSummary;
 use tunnels::{Tunnel, Tunnels};
+
+mod datagrams;
+mod streams;
 
 /// The types of the first handshake messages of client and server (RFC 8446, section 4).
 const CLIENT_HELLO: u8 = 1;
@@ -93,7 +91,7 @@ enum TransportAnalyzer {
 /// The analysis of a connection.
 #[derive(Drop)]
 pub struct TlsAnalysis<K> {
-    alloc: Global,
+    pub(crate) alloc: Global,
     protocol: Protocol,
     transport: TransportAnalyzer,
     // Whether the originator is the TLS server.
@@ -115,8 +113,8 @@ pub struct TlsAnalysis<K> {
     by_responder: DatagramRecordCounter,
 }
 
-/// Returns an upper bound for the buffers of a conversation of which this many bytes were analyzed.
-/// Their memory grows by doubling.
+/// Returns an upper bound for a conversation's buffers, by the number of bytes analyzed. Their
+/// memory grows by doubling.
 fn buffers_of(received: usize) -> usize
     ensures { result ≡ buffers_by received }
 {
@@ -219,7 +217,7 @@ impl<K: PieceCollector> Attachment for TlsAnalysis<K> {
         ensures { IsBegunAs protocol result }
     {
         let transport = match protocol {
-            Protocol::Tcp => TransportAnalyzer::Stream(Analyzer::new(alloc), Preambles::NONE),
+            Protocol::Tcp => TransportAnalyzer::Stream(Analyzer::new(alloc), Preambles::new()),
             Protocol::Udp => TransportAnalyzer::Datagrams(DatagramAnalyzer::new(alloc)),
         };
         TlsAnalysis {
@@ -265,8 +263,9 @@ impl<K: PieceCollector> TlsAnalysis<K> {
         }
     }
 
-    /// Returns whether a side with other bytes before its TLS is answered in TLS, or TLS begins behind
-    /// a dialogue. A lone hello may be part of another protocol's content, such as a file.
+    /// Returns whether a side's TLS counts: it has no other bytes in front, TLS began behind a
+    /// dialogue, or the other side answers in TLS. A lone hello may be part of another protocol's
+    /// content, such as a file.
     fn is_answered(&self, side: Side, other: Side) -> bool
         ensures { result ≡ is_answered_in side other self.now.is_turned self.now.transport }
     {
@@ -527,308 +526,16 @@ impl<K: PieceCollector> TlsAnalysis<K> {
         }
     }
 
-    /// Decides which side is the client, if these are the first analyzed bytes of the connection.
-    fn see_client(&mut self, side: Side, bytes: &[u8], is_opened: bool)
-        ensures { self.new ≡ record self.old {
-          is_turned =
-              turned (first_in bytes.now) side is_opened self.old.transport self.old.is_turned;
-        } }
+    /// Takes TLS out of what a side sent next, if it comes in packets.
+    fn take_tls(&mut self, side: Side, sent: &[u8]) -> Result<Option<Vec<u8>>, AllocError>
+        ensures tls { IfOk result (λ taken. tls_by (option_map (λ t. t.items) taken) sent.now
+            ≡ tls_in_transport side sent.now self.old.transport) }
+        ensures behind { OnOk result (self.new ≡ behind_tls_of side sent.now self.old) }
+        ensures err { OnErr result (self.new ≡ self.old) }
     {
-        if !self.are_silent() {
-            return;
+        match &mut self.transport {
+            TransportAnalyzer::Stream(_, preambles) => preambles.take_tls(side, self.alloc, sent),
+            TransportAnalyzer::Datagrams(_) => Ok(None),
         }
-        self.is_turned = turned_by(first_message(bytes), side, is_opened);
-    }
-
-    /// Decides which side is the client, if an SSL 2.0 ClientHello of this side is the first
-    /// message of the connection.
-    fn see_ssl2_client(&mut self, side: Side)
-        ensures { self.new ≡ record self.old
-            { is_turned = turned (Some 1) side false self.old.transport self.old.is_turned } }
-    {
-        if !self.are_silent() {
-            return;
-        }
-        self.is_turned = is_responder(side);
-    }
-
-    /// Counts the records in a side's next bytes.
-    pub(crate) fn count_records(&mut self, side: Side, bytes: &[u8])
-        ensures { self.new ≡ counting side bytes.now self.old }
-    {
-        match side {
-            Side::Originator => self.from_originator.add(bytes),
-            Side::Responder => self.from_responder.add(bytes),
-        }
-    }
-
-    /// Analyzes a side's bytes behind the `n` bytes before its TLS.
-    #[tactic(auto, unfolding(crate::specs::Analysis::AnalyzesAt))]
-    fn analyze_at(
-        &mut self,
-        stream: &mut Stream,
-        side: Side,
-        is_opened: bool,
-        n: usize,
-        known: &mut CertificateCache,
-    ) -> Result<(), AllocError>
-        ensures analysis { OnOk result
-            (AnalyzesAt side is_opened n stream.old stream.new self.old self.new) }
-        ensures cut { OnErr result (IsCut stream.old stream.new self.old self.new) }
-    {
-        let all = stream.available();
-        let bytes = behind(all, n);
-        self.see_client(side, bytes, is_opened);
-        let direction = self.direction(side);
-        let TransportAnalyzer::Stream(analyzer, preambles) = &mut self.transport else {
-            return Ok(());
-        };
-        preambles.begin(analyzer.is_unknown(direction), side, n);
-        self.received = self.received.saturating_add(bytes.len());
-        let mut observer = PieceObserver {
-            collector: mem::replace(&mut self.collector, None),
-            known,
-        };
-        let is_received = analyzer.analyze_with(self.alloc, direction, bytes, &mut observer);
-        let PieceObserver {
-            collector,
-            known: _,
-        } = observer;
-        self.collector = collector;
-        is_received?;
-        let is_over = analyzer.is_over(direction);
-        self.count_records(side, bytes);
-        let len = all.len();
-        stream.take(len);
-        stop_if(stream, is_over);
-        Ok(())
-    }
-
-    /// Analyzes the SSL 2.0 ClientHello with which a side begins. What is behind it is analyzed
-    /// with the next bytes.
-    #[tactic(auto, unfolding(crate::specs::Analysis::AnalyzesHello))]
-    fn analyze_ssl2(&mut self, side: Side, hello: &Ssl2ClientHello<'_>) -> Result<(), AllocError>
-        ensures analysis { OnOk result
-            (AnalyzesHello side (view_ssl2_hello hello.now) self.old self.new) }
-        ensures cut { OnErr result (IsCutIn self.old self.new) }
-    {
-        self.see_ssl2_client(side);
-        let direction = self.direction(side);
-        let TransportAnalyzer::Stream(analyzer, _) = &mut self.transport else {
-            return Ok(());
-        };
-        analyzer.analyze_ssl2(self.alloc, direction, hello)
-    }
-
-    /// Analyzes a side as one that doesn't speak TLS, and stops reading its stream.
-    #[tactic(auto, unfolding(crate::specs::Analysis::AnalyzesNone))]
-    fn skip_side(&mut self, stream: &mut Stream, side: Side)
-        ensures { AnalyzesNone side stream.old stream.new self.old self.new }
-    {
-        let direction = self.direction(side);
-        let TransportAnalyzer::Stream(analyzer, preambles) = &mut self.transport else {
-            return;
-        };
-        preambles.clear(side);
-        analyzer.skip_side(direction);
-        stream.stop();
-    }
-
-    /// Skips bytes of a side before its TLS.
-    #[tactic(auto, unfolding(crate::specs::Analysis::PassesOver))]
-    fn pass_over(&mut self, stream: &mut Stream, side: Side, n: usize)
-        ensures { PassesOver side n stream.old stream.new self.old self.new }
-    {
-        if let TransportAnalyzer::Stream(_, preambles) = &mut self.transport {
-            preambles.pass(side, n);
-            stream.take(n);
-        }
-    }
-
-    /// Returns where a side's TLS begins in its next bytes. They are its last, or the last before
-    /// an urgent byte, if they `are_last`.
-    fn beginning<'b>(&self, bytes: &'b [u8], side: Side, are_last: bool) -> Beginning<'b>
-        ensures { view_beginning result
-            ≡ begins_in side (direction_by self.now.is_turned side) are_last self.now.transport
-            bytes.now }
-    {
-        match &self.transport {
-            TransportAnalyzer::Stream(analyzer, preambles) => begins_at(
-                &preambles.dialogue,
-                analyzer.is_unknown(self.direction(side)),
-                analyzer.is_tls(),
-                are_last,
-                preambles.of(side),
-                bytes,
-            ),
-            TransportAnalyzer::Datagrams(_) => Beginning::Waits,
-        }
-    }
-
-    /// Returns whether a side is analyzed no further.
-    fn is_over(&self, side: Side) -> bool
-        ensures { result ≡ is_over_in (direction_by self.now.is_turned side) self.now.transport }
-    {
-        match &self.transport {
-            TransportAnalyzer::Stream(analyzer, _) => analyzer.is_over(self.direction(side)),
-            TransportAnalyzer::Datagrams(_) => false,
-        }
-    }
-
-    /// Returns whether a side is over and has no next bytes.
-    fn is_done(&self, stream: &Stream, side: Side) -> bool
-        ensures { result ≡ is_done_in side stream.now self.now }
-    {
-        stream.available().is_empty() && self.is_over(side)
-    }
-
-    /// Analyzes the next bytes of a side's stream, from where its TLS begins, and skips those
-    /// before. They are its last if they `are_last`. The connection's opening was captured if it
-    /// `is_opened`.
-    #[tactic(auto, unfolding(crate::specs::Analysis::AnalyzesStream))]
-    pub(crate) fn analyze_stream(
-        &mut self,
-        stream: &mut Stream,
-        side: Side,
-        is_opened: bool,
-        are_last: bool,
-        known: &mut CertificateCache,
-    ) -> Result<(), AllocError>
-        ensures analysis { OnOk result
-            (AnalyzesStream side is_opened (are_last || is_cut_short stream.old stream.old.reading)
-            stream.old stream.new self.old self.new) }
-        ensures cut { OnErr result (IsCut stream.old stream.new self.old self.new) }
-        ensures undone { OnErr result (is_done_in side stream.old self.old ≡ false) }
-    {
-        // (most packets come after the whole handshake was analyzed)
-        if self.is_done(stream, side) {
-            stream.stop();
-            return Ok(());
-        }
-        self.analyze_further(stream, side, is_opened, are_last, known)
-    }
-
-    /// Analyzes the next bytes of a side that has any, or may be analyzed further.
-    #[tactic(auto, unfolding(crate::specs::Analysis::AnalyzesFurther))]
-    fn analyze_further(
-        &mut self,
-        stream: &mut Stream,
-        side: Side,
-        is_opened: bool,
-        are_last: bool,
-        known: &mut CertificateCache,
-    ) -> Result<(), AllocError>
-        ensures analysis { OnOk result
-            (AnalyzesFurther side is_opened (are_last || is_cut_short stream.old stream.old.reading)
-            stream.old stream.new self.old self.new) }
-        ensures cut { OnErr result (IsCut stream.old stream.new self.old self.new) }
-    {
-        let are_last = are_last || stream.is_cut();
-        match self.beginning(stream.available(), side, are_last) {
-            Beginning::Waits => Ok(()),
-            Beginning::PassesOver(n) => {
-                self.pass_over(stream, side, n);
-                Ok(())
-            }
-            Beginning::At(n) => self.analyze_at(stream, side, is_opened, n, known),
-            Beginning::InSsl2(hello, n) => {
-                self.analyze_ssl2(side, &hello)?;
-                stream.take(n);
-                Ok(())
-            }
-            Beginning::Nowhere => {
-                self.skip_side(stream, side);
-                Ok(())
-            }
-        }
-    }
-
-    /// Counts the records in a side's datagram.
-    fn count_datagram(&mut self, side: Side, payload: &[u8], connection_id_len: usize, is_13: bool)
-        ensures { self.new ≡ counted side payload.now is_13 connection_id_len self.old }
-    {
-        match side {
-            Side::Originator => self.by_originator.add(payload, connection_id_len, is_13),
-            Side::Responder => self.by_responder.add(payload, connection_id_len, is_13),
-        }
-    }
-
-    /// Returns the direction of a datagram, if the hello that it begins with shows which side is
-    /// the client.
-    fn deciding_direction(&self, datagram: &[u8]) -> Option<Direction>
-        ensures { Decides result datagram.now self.now.transport }
-    {
-        match &self.transport {
-            TransportAnalyzer::Stream(_, _) => None,
-            TransportAnalyzer::Datagrams(analyzer) => analyzer.deciding_direction(datagram),
-        }
-    }
-
-    /// Turns the sides, if they aren't already. Forgets what was analyzed of their datagrams, which
-    /// belongs to no handshake.
-    fn turn(&mut self, is_turned: bool)
-        ensures { TurnsTo is_turned self.old self.new }
-    {
-        if !is_other(self.is_turned, is_turned) {
-            return;
-        }
-        self.is_turned = is_turned;
-        self.transport = TransportAnalyzer::Datagrams(DatagramAnalyzer::new(self.alloc));
-    }
-
-    /// Decides which side is the client, if the hello that a side's datagram begins with shows it.
-    fn see_hello(&mut self, side: Side, datagram: &[u8])
-        ensures { SeesHello side datagram.now self.old self.new }
-    {
-        let direction = self.deciding_direction(datagram);
-        self.turn(turned_from(direction, side, self.is_turned));
-    }
-
-    /// Analyzes a side's DTLS datagram.
-    fn analyze_held(
-        &mut self,
-        side: Side,
-        datagram: &[u8],
-        known: &mut CertificateCache,
-    ) -> Result<(), AllocError>
-        ensures { OnOk result (AnalyzesHeld side datagram.now self.old self.new) }
-    {
-        let direction = self.direction(side);
-        let TransportAnalyzer::Datagrams(analyzer) = &mut self.transport else {
-            return Ok(());
-        };
-        let mut observer = PieceObserver {
-            collector: mem::replace(&mut self.collector, None),
-            known,
-        };
-        let is_received = analyzer.analyze_with(self.alloc, direction, datagram, &mut observer);
-        let PieceObserver {
-            collector,
-            known: _,
-        } = observer;
-        self.collector = collector;
-        is_received?;
-        // (the version and the connection ids may be in this datagram, before its encrypted
-        // records)
-        let id_len = analyzer.handshake().connection_id_len(direction);
-        let is_13 = analyzer.is_13();
-        self.count_datagram(side, datagram, id_len, is_13);
-        Ok(())
-    }
-
-    /// Analyzes a side's datagram, or the DTLS datagram inside it. The first ClientHello shows which
-    /// side is the client, whoever sent the connection's first datagram.
-    pub(crate) fn analyze_datagram(
-        &mut self,
-        side: Side,
-        payload: &[u8],
-        known: &mut CertificateCache,
-    ) -> Result<(), AllocError>
-        ensures { OnOk result
-            (AnalyzesDatagram side (held_datagram_of payload.now) self.old self.new) }
-    {
-        let datagram = held_datagram(payload);
-        self.see_hello(side, datagram);
-        self.analyze_held(side, datagram, known)
     }
 }

@@ -1,19 +1,101 @@
-//! How connections end: the last bytes of those that are removed from the table.
-ghost use Rattle.std.specs.Prelude.{◌≡◌, ◌<◌, IfSome, OnErr, OnOk, length};
+//! How connections end: what still counts of those that are removed from the table.
+ghost use Rattle.std.specs.Prelude.{◌≡◌, ◌<◌, IfOk, IfSome, OnErr, OnOk, length};
 ghost use Rattle.std.specs.Option.{option_map};
+ghost use Rattle.connections.specs.Connection.{side_of};
 ghost use Rattle.connections.specs.Memory.{IsAccounted};
 ghost use Rattle.connections.specs.Table.{IsForgotten, NoneToForget};
+ghost use Rattle.log_connections.specs.AtEnd.{AnalyzesAllAtEnd, AnalyzesOneAtEnd, RefusesKept, RefusesOneAtEnd, RefusesSomeAtEnd};
 ghost use Rattle.log_connections.specs.Log.{uncounted};
-ghost use Rattle.log_connections.specs.Sink.{EndsAs, EndsIdle, EndsLast, AnalyzesLast, IsCutOff, IsEnded};
+ghost use Rattle.log_connections.specs.Sides.{AnalyzesKept, AnalyzesSender, ChangesAnalysis};
+ghost use Rattle.log_connections.specs.Sink.{AnalyzesLast, AnalyzesRest, EndsAs, EndsIdle, EndsLast, IsCutOff, IsCutShort, IsEnded};
 
 use crate::analysis::{PieceCollector, TlsAnalysis};
-use crate::log::Log;
-use connections::{Connection, Side};
+use crate::following::follow_front;
+use crate::log::{Log, analyze_side};
+use connections::{Connection, MAX_PENDING, PendingOutcome, PendingSegment, Segment, Side};
 use std::alloc::AllocError;
 use tls_summary::CertificateCache;
 
+/// Analyzes the next bytes of a segment's sender, in a connection that is over.
+fn analyze_sender_at_end<K: PieceCollector>(
+    connection: &mut Connection<TlsAnalysis<K>>,
+    segment: &Segment<'_>,
+    known: &mut CertificateCache,
+) -> Result<(), AllocError>
+    ensures analysis { OnOk result
+        (AnalyzesSender segment.now (side_of connection.old segment.now.source) connection.old
+        connection.new) }
+    ensures same { ChangesAnalysis connection.old connection.new }
+{
+    let (side, is_opened) = (connection.side_of(segment.source), connection.has_opening());
+    let analysis = &mut connection.attachment;
+    match side {
+        Side::Originator => {
+            let stream = &mut connection.from_originator;
+            analyze_side(analysis, stream, side, is_opened, segment, known)
+        }
+        Side::Responder => {
+            let stream = &mut connection.from_responder;
+            analyze_side(analysis, stream, side, is_opened, segment, known)
+        }
+    }
+}
+
+/// Adds a pending segment that counts as taken to the stream of its connection, which is over, and
+/// analyzes the bytes that it completes.
+fn analyze_taken<K: PieceCollector>(
+    connection: &mut Connection<TlsAnalysis<K>>,
+    kept: &PendingSegment,
+    known: &mut CertificateCache,
+) -> Result<(), AllocError>
+    ensures analysis { OnOk result (AnalyzesKept kept.now connection.old connection.new) }
+    ensures refused { OnErr result (RefusesKept kept.now connection.old connection.new) }
+{
+    let alloc = connection.attachment.alloc;
+    connection.accept_pending(alloc, kept)?;
+    let segment = kept.segment();
+    follow_front(connection, &segment, known)?;
+    analyze_sender_at_end(connection, &segment, known)
+}
+
+/// Removes a pending segment that counts as taken, now that its connection is over, and analyzes it
+/// if bytes of it are missing. Returns whether there was one.
+fn analyze_one_at_end<K: PieceCollector>(
+    connection: &mut Connection<TlsAnalysis<K>>,
+    known: &mut CertificateCache,
+) -> Result<bool, AllocError>
+    ensures analysis { IfOk result
+        (λ was_one. AnalyzesOneAtEnd connection.old connection.new was_one) }
+    ensures refused { OnErr result (RefusesOneAtEnd connection.old connection.new) }
+{
+    match connection.take_at_end() {
+        Some(PendingOutcome::Taken(kept)) => {
+            analyze_taken(connection, &kept, known)?;
+            Ok(true)
+        }
+        Some(PendingOutcome::Had) => Ok(true),
+        None => Ok(false),
+    }
+}
+
+/// Analyzes the pending segments that count as taken, now that their connection is over.
+fn analyze_pending_at_end<K: PieceCollector>(
+    connection: &mut Connection<TlsAnalysis<K>>,
+    known: &mut CertificateCache,
+) -> Result<(), AllocError>
+    ensures analysis { OnOk result (AnalyzesAllAtEnd connection.old connection.new) }
+    ensures refused { OnErr result (RefusesSomeAtEnd connection.old connection.new) }
+{
+    'waiting: for count in 0..MAX_PENDING {
+        if !analyze_one_at_end(connection, known)? {
+            return Ok(());
+        }
+    }
+    Ok(())
+}
+
 /// Analyzes the last bytes of both streams, which were held back while more could come.
-fn analyze_last<K: PieceCollector>(
+fn analyze_last_bytes<K: PieceCollector>(
     connection: &mut Connection<TlsAnalysis<K>>,
     known: &mut CertificateCache,
 ) -> Result<(), AllocError>
@@ -27,6 +109,18 @@ fn analyze_last<K: PieceCollector>(
     analysis.analyze_stream(stream, Side::Originator, is_opened, true, known)?;
     let stream = &mut connection.from_responder;
     analysis.analyze_stream(stream, Side::Responder, is_opened, true, known)
+}
+
+/// Analyzes the pending segments that count as taken at the end, and then the last bytes.
+fn analyze_last<K: PieceCollector>(
+    connection: &mut Connection<TlsAnalysis<K>>,
+    known: &mut CertificateCache,
+) -> Result<(), AllocError>
+    ensures analysis { OnOk result (AnalyzesRest connection.old connection.new) }
+    ensures cut { OnErr result (IsCutShort connection.old connection.new) }
+{
+    analyze_pending_at_end(connection, known)?;
+    analyze_last_bytes(connection, known)
 }
 
 impl<K: PieceCollector> Log<K> {
@@ -68,7 +162,7 @@ impl<K: PieceCollector> Log<K> {
         self.with_last(taken)
     }
 
-    /// Removes and returns one of the remaining connections, and analyzes its last bytes.
+    /// Removes and returns one of the remaining connections, and analyzes the rest of it.
     pub(crate) fn take_remaining(&mut self) -> Option<Box<Connection<TlsAnalysis<K>>>>
         ensures last { EndsLast self.old.connections.live self.new.connections.live
             (option_map (λ b. b.value) result) }
@@ -81,8 +175,8 @@ impl<K: PieceCollector> Log<K> {
         self.with_last(taken)
     }
 
-    /// Analyzes the last bytes of a removed connection, and returns it. If the system refuses
-    /// memory for them, the connection ended early, and the reserve is freed for its sink.
+    /// Analyzes the rest of a removed connection, and returns it. If the system refuses memory for
+    /// that, the connection ended early, and the reserve is freed for its sink.
     pub(crate) fn with_last(
         &mut self,
         taken: Option<Box<Connection<TlsAnalysis<K>>>>,
@@ -99,7 +193,7 @@ impl<K: PieceCollector> Log<K> {
         Some(over)
     }
 
-    /// Analyzes the last bytes of a connection that was removed from the table.
+    /// Analyzes the rest of a connection that was removed from the table.
     fn analyze_removed(&mut self, over: &mut Connection<TlsAnalysis<K>>)
         ensures ended { IsEnded over.old over.new }
         ensures connections { self.new.connections ≡ self.old.connections }

@@ -156,8 +156,9 @@ impl<K: PieceCollector> Log<K> {
             self.old.connections self.new.connections) }
         ensures others { KeepsOthers (five_tuple_of_datagram datagram.now) self.old.connections.live
             self.new.connections.live }
-        ensures weighed { OnOk result (at (five_tuple_of_datagram datagram.now) self.old.connections.live
-            ≡ None → (IsWeighedUnless K.most_bytes self.new.is_unsettled
+        ensures weighed { OnOk result
+            (at (five_tuple_of_datagram datagram.now) self.old.connections.live ≡ None
+            → (IsWeighedUnless K.most_bytes self.new.is_unsettled
             (five_tuple_of_datagram datagram.now) self.new.connections)) }
         ensures accounted { IsAccounted self.old.connections
             → IsAccounted self.new.connections }

@@ -3,7 +3,7 @@ ghost use Rattle.std.specs.Prelude.{◌≡◌, ◌&&◌, OnOk};
 ghost use Rattle.connections.specs.Connection.{has_opening, side_of};
 ghost use Rattle.connections.specs.Segment.{has_data};
 ghost use Rattle.log_connections.specs.Analysis.{is_followed_in};
-ghost use Rattle.log_connections.specs.Log.{AnalyzesWaiting, FollowsDialogue, FollowsIf, FollowsOpened};
+ghost use Rattle.log_connections.specs.Sides.{AnalyzesWaiting, ChangesAnalysis, FollowsDialogue, FollowsIf, FollowsOpened};
 
 use crate::analysis::{PieceCollector, TlsAnalysis};
 use connections::{Connection, Segment, Side};
@@ -17,6 +17,7 @@ fn analyze_waiting<K: PieceCollector>(
     known: &mut CertificateCache,
 ) -> Result<(), AllocError>
     ensures dialogue { OnOk result (AnalyzesWaiting side connection.old connection.new) }
+    ensures same { ChangesAnalysis connection.old connection.new }
     ensures weight { connection.new.weight ≡ connection.old.weight }
 {
     let is_opened = connection.has_opening();
@@ -33,15 +34,15 @@ fn analyze_waiting<K: PieceCollector>(
     }
 }
 
-/// Follows the dialogue in front of TLS by the next bytes of both sides, of which this one sent
-/// some, and one behind that, as that behind a tunnel. Then the other side's bytes that waited are
-/// analyzed.
+/// Follows the dialogue in front of TLS through the next bytes of both sides, and the next dialogue
+/// behind a tunnel. Then analyzes the bytes of the other side that waited for this one's.
 fn follow_opened<K: PieceCollector>(
     connection: &mut Connection<TlsAnalysis<K>>,
     side: Side,
     known: &mut CertificateCache,
 ) -> Result<(), AllocError>
     ensures dialogue { OnOk result (FollowsDialogue side connection.old connection.new) }
+    ensures same { ChangesAnalysis connection.old connection.new }
     ensures weight { connection.new.weight ≡ connection.old.weight }
 {
     let analysis = &mut connection.attachment;
@@ -66,6 +67,7 @@ fn follow_dialogue<K: PieceCollector>(
 ) -> Result<(), AllocError>
     ensures dialogue { OnOk result
         (FollowsOpened (has_opening connection.old) side connection.old connection.new) }
+    ensures same { ChangesAnalysis connection.old connection.new }
     ensures weight { connection.new.weight ≡ connection.old.weight }
 {
     if connection.has_opening() {
@@ -85,6 +87,7 @@ pub(crate) fn follow_front<K: PieceCollector>(
     ensures dialogue { OnOk result
         (FollowsIf (has_data segment.now && is_followed_in connection.old.attachment.transport)
         (side_of connection.old segment.now.source) connection.old connection.new) }
+    ensures same { ChangesAnalysis connection.old connection.new }
     ensures weight { connection.new.weight ≡ connection.old.weight }
 {
     if segment.has_data() && connection.attachment.is_followed() {

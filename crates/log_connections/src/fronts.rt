@@ -1,10 +1,11 @@
 //! Where TLS begins in a side's stream: behind a dialogue that is known, or else by a search.
 ghost use Rattle.std.specs.Prelude.{◌≡◌};
 ghost use Rattle.log_connections.specs.Dialogue.{state_of};
-ghost use Rattle.log_connections.specs.Fronts.{IsFollowedBy, begins_there, beginning as begins, beginning_at_once, beginning_behind, beginning_by_search, beginning_in, begun_behind, found as found_in, is_waiting, may_begin as may_begin_in, no_preambles, passing, preamble as preamble_in, view_beginning, with_preamble, without_dialogue};
+ghost use Rattle.log_connections.specs.Fronts.{IsFollowedBy, begins_there, beginning as begins, beginning_at_once, beginning_behind, beginning_by_search, beginning_in, found as found_in, is_waiting, may_begin as may_begin_in, no_preambles, passing, preamble as preamble_in, view_beginning, with_preamble, without_dialogue};
 
 use crate::dialogue::Dialogue;
 use connections::Side;
+use preambles::TdsReader;
 use ssl2_hello::{Ssl2ClientHello, begins_ssl2_hello, parse_ssl2_client_hello};
 use tls_detection::{HEADER_LEN, HELLO_FRONT_LEN, begins_tls, place_behind};
 
@@ -20,6 +21,9 @@ pub(crate) struct Preambles {
     originator: u64,
     responder: u64,
     pub(crate) dialogue: Dialogue,
+    // Behind the dialogue of SQL Server, how far the packets are in which each side sends its TLS.
+    pub(crate) packets_of_originator: TdsReader,
+    pub(crate) packets_of_responder: TdsReader,
 }
 
 /// Where TLS begins on a side, by its next bytes.
@@ -29,10 +33,12 @@ pub(crate) enum Beginning<'a> {
     Waits,
     /// Not within this many bytes; too few follow them to decide.
     PassesOver(usize),
-    /// After this many bytes.
+    /// After this many bytes, where it was found.
     At(usize),
     /// At once, with this ClientHello in the SSL 2.0 format, in a record of this many bytes.
     InSsl2(Ssl2ClientHello<'a>, usize),
+    /// With the next byte, whatever that is, behind a dialogue; or it began before.
+    Next,
     /// Nowhere: the side doesn't speak TLS.
     Nowhere,
 }
@@ -88,7 +94,7 @@ fn begins_behind(answers: bool, are_last: bool, skipped: u64, bytes: &[u8]) -> B
     found(place_behind(bytes, answers), are_last, skipped, bytes.len())
 }
 
-/// Returns where TLS begins on a side of which no bytes were skipped.
+/// Returns where TLS begins on a side, if none of its bytes were skipped.
 fn begins_at_once(answers: bool, are_last: bool, skipped: u64, bytes: &[u8]) -> Beginning<'_>
     ensures { view_beginning result ≡ beginning_at_once answers are_last skipped bytes.now }
 {
@@ -125,7 +131,7 @@ fn begins_in<'a>(
 {
     match dialogue {
         Dialogue::New | Dialogue::GoesOn(_) => Beginning::Waits,
-        Dialogue::Tls(_) => Beginning::At(0),
+        Dialogue::Tls(_) => Beginning::Next,
         Dialogue::Plain => Beginning::Nowhere,
         Dialogue::Unknown => begins_by_search(answers, are_last, skipped, bytes),
     }
@@ -146,18 +152,24 @@ pub(crate) fn begins_at<'a>(
         ≡ begins (state_of dialogue.now) is_sought answers are_last skipped bytes.now }
 {
     if !is_sought {
-        return Beginning::At(0);
+        return Beginning::Next;
     }
     begins_in(dialogue, answers, are_last, skipped, bytes)
 }
 
 impl Preambles {
-    /// No bytes are skipped: the state of a connection before any bytes.
-    pub(crate) const NONE: Preambles = Preambles {
-        originator: 0,
-        responder: 0,
-        dialogue: Dialogue::New,
-    };
+    /// Returns the state of a connection before any bytes: none is skipped.
+    pub(crate) fn new() -> Preambles
+        ensures { result ≡ no_preambles }
+    {
+        Preambles {
+            originator: 0,
+            responder: 0,
+            dialogue: Dialogue::New,
+            packets_of_originator: TdsReader::new(),
+            packets_of_responder: TdsReader::new(),
+        }
+    }
 
     /// Returns how many bytes of a side were skipped.
     pub(crate) fn of(&self, side: Side) -> u64
@@ -184,15 +196,6 @@ impl Preambles {
     {
         let skipped = self.of(side).saturating_add(n as u64);
         self.set(side, skipped);
-    }
-
-    /// Skips the bytes of a side before its TLS, if that `is_sought`.
-    pub(crate) fn begin(&mut self, is_sought: bool, side: Side, n: usize)
-        ensures { self.new ≡ begun_behind is_sought side n self.old }
-    {
-        if is_sought {
-            self.pass(side, n);
-        }
     }
 
     /// Counts no bytes before a side that doesn't speak TLS.

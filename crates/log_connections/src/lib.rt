@@ -8,9 +8,9 @@
 //! connection.
 //!
 //! Promise: `Log` in `specs/` defines which connection an arrival changes and which bytes its
-//! analysis gets, `TlsAnalysis` what the analysis does with them, and `Fronts` where TLS begins in
-//! a stream, and `Sink` which connections are passed on. Collected pieces have no clauses, only
-//! tests.
+//! analysis gets, `TlsAnalysis` what the analysis does with them, `Fronts` where TLS begins in a
+//! stream, `Tds` how it is taken out of packets, and `Sink` which connections are passed on.
+//! Collected pieces have no clauses, only tests.
 #![tactic(auto)]
 
 mod analysis;
@@ -25,6 +25,7 @@ mod log;
 mod memory;
 mod piece_observer;
 mod sink;
+mod tds;
 mod turning;
 
 pub use analysis::{ANALYSIS_COST, PieceCollector, PieceKind, TlsAnalysis};

@@ -92,7 +92,7 @@ fn analyze_next<K: PieceCollector>(
 /// Analyzes the next bytes of a side's stream. In a stream that is analyzed no further, counts the
 /// segment's records.
 #[inline(always)]
-fn analyze_side<K: PieceCollector>(
+pub(crate) fn analyze_side<K: PieceCollector>(
     analysis: &mut TlsAnalysis<K>,
     stream: &mut Stream,
     side: Side,
@@ -174,8 +174,8 @@ fn count_disagreeing<K: PieceCollector>(
 }
 
 impl<K: PieceCollector> Log<K> {
-    /// Returns the log of a capture of which nothing was read. `keys` keys the hashes of its
-    /// tables. Such pieces of connections as `kept` are kept until they are taken.
+    /// Returns a log for a new capture. `keys` keys the hashes of its tables. Pieces of connections
+    /// of the kind `kept` are kept until they are taken.
     pub fn new(
         alloc: Global,
         keys: RandomState,

@@ -20,7 +20,7 @@ pub trait Sink<K> {
     ghost received: { Self → Option (List (Connection (TlsAnalysis K))) } = { λ _. None };
 
     /// Receives a connection that is over, with the pieces that weren't taken from its collector.
-    /// `time` is that of the packet that ended it, or of its own last packet.
+    /// `time` is the time of the packet that ended it, or of its last packet.
     fn connection(
         &mut self,
         over: Box<Connection<TlsAnalysis<K>>>,

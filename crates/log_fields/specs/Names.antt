@@ -2,6 +2,7 @@
 use Rattle.std.specs.Prelude.{ℕ, Bool, true, false, List, [], ◌∷◌, Option, Some, None, codes}
 use Rattle.tls_base.specs.Names.{look_up}
 use Rattle.tls_base.specs.Registered.{registered_alerts}
+use Rattle.log_certificates.specs.Names.{error_text}
 use Rattle.log_formats.specs.Texts.{name_or_number}
 use Rattle.preambles.specs.declared.phase.Protocol as dialogues
 use Rattle.preambles.specs.declared.phase.Protocol.TheVariants as dialogue
@@ -15,6 +16,8 @@ use Rattle.tls_flow.specs.declared.symbol.Direction as directions
 use Rattle.tls_flow.specs.declared.symbol.Direction.TheVariants as direction
 use Rattle.tls_flow.specs.declared.symbol.Kind as kinds
 use Rattle.tls_flow.specs.declared.symbol.Kind.TheVariants as kind
+use Rattle.tls_summary.specs.declared.parts.CertificateFault as faults
+use Rattle.tls_summary.specs.declared.parts.CertificateFault.TheVariants as fault
 use Rattle.tunnels.specs.declared.tunnel.TunnelKind as tunnels
 use Rattle.tunnels.specs.declared.tunnel.TunnelKind.TheVariants as tunnel
 
@@ -93,6 +96,12 @@ drop_reasons =
     ∷ reason.Fin
     ∷ []
 
+-- Why a certificate can't be parsed.
+abbrev pub fault_text : faults.CertificateFault → List ℕ
+fault_text fault.Incomplete = codes "incomplete"
+fault_text fault.Trailing = codes "trailing"
+fault_text (fault.Broken kind) = error_text kind
+
 abbrev pub tunnel_text : tunnels.TunnelKind → List ℕ
 tunnel_text tunnel.Ipv4 = codes "ipv4"
 tunnel_text tunnel.Ipv6 = codes "ipv6"
@@ -122,10 +131,12 @@ dialogue_text dialogue.Socks5 = codes "socks5"
 dialogue_text dialogue.Postgres = codes "postgresql"
 dialogue_text dialogue.Mysql = codes "mysql"
 dialogue_text dialogue.Rdp = codes "rdp"
+dialogue_text dialogue.Tds = codes "tds"
 dialogue_text dialogue.Ldap = codes "ldap"
 dialogue_text dialogue.Xmpp = codes "xmpp"
 
--- The search that found TLS, if bytes came before it. The arguments are whether each side sent none.
+-- The search that found TLS, if bytes came before it. The arguments say whether each side sent
+-- none.
 abbrev pub search_text : Bool → Bool → Option (List ℕ)
 search_text true true = None
 search_text true false = Some (codes "search")

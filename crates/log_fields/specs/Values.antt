@@ -1,8 +1,32 @@
 -- The value of each field of a connection's line, by the definitions of the crates below; None if
 -- the field is left out.
-use Rattle.std.specs.Prelude.{ℕ, ◌-◌, ◌/◌, ◌==◌, Bool, ◌||◌, cond, List, [], ◌∷◌, Option, Some, None, flat_map, map, is_some}
+use Rattle.std.specs.Prelude.{
+  ℕ,
+  ◌+◌,
+  ◌-◌,
+  ◌/◌,
+  ◌==◌,
+  Bool,
+  ◌||◌,
+  cond,
+  List,
+  [],
+  ◌∷◌,
+  ◌++◌,
+  length,
+  Option,
+  Some,
+  None,
+  codes,
+  decimal,
+  flat_map,
+  map,
+  is_some,
+}
 use Rattle.std.specs.Net.Text.{ip_text}
 use Rattle.std.specs.Option.{option_map, unwrap_or}
+use Rattle.hex.specs.Hex.{encode_lower}
+use Rattle.layouts.specs.Bytes.{Bytes}
 use Rattle.text_forms.specs.Escaped.{escaped_text}
 use Rattle.text_forms.specs.Hexadecimal.{number_text}
 use Rattle.json_objects.specs.Data.{Data, text_list}
@@ -11,7 +35,21 @@ use Rattle.connections.specs.Stream.{lacks}
 use Rattle.connection_ids.specs.CommunityId.{community_id_of}
 use Rattle.connection_ids.specs.Uid.{uid_of}
 use Rattle.tls_summary.specs.Fields as hello
-use Rattle.tls_summary.specs.HandshakeSummary.{HandshakeSummary, view_summary}
+use Rattle.tls_summary.specs.HandshakeSummary.{HandshakeSummary}
+use Rattle.tls_summary.specs.declared.parts.CertificateFault.{CertificateFault}
+use Rattle.tls_summary.specs.declared.parts.CertificateSummary.{CertificateSummary}
+use Rattle.tls_fingerprints.specs.Ja3.{digest_of, ja3_of, ja3_text_of}
+use Rattle.tls_fingerprints.specs.Ja4.{ja4_of}
+use Rattle.tls_fingerprints.specs.declared.hellos.Transport.{Transport}
+use Rattle.tls_fingerprints.specs.declared.hellos.Transport.TheVariants as over
+use Rattle.log_certificates.specs.Read.{ReadFields}
+use Rattle.log_certificates.specs.Values.{
+  certificate_value,
+  has_expired,
+  is_not_yet_valid,
+  names_host_in,
+}
+use Rattle.log_certificates.specs.declared.field.CertificateField.{CertificateField}
 use Rattle.log_formats.specs.Data.{
   count_data,
   mark_data,
@@ -39,8 +77,10 @@ use Rattle.log_formats.specs.Texts.{
   version_text,
 }
 use Rattle.log_formats.specs.declared.suites.Suites.{Suites}
+use Rattle.log_fields.specs.Known.{Known, printed_client}
 use Rattle.log_fields.specs.Names.{
   alert_text,
+  fault_text,
   gap_text,
   is_clients,
   kind_text,
@@ -60,7 +100,6 @@ use Rattle.connections.specs.declared.five_tuple.Protocol.TheVariants.{Tcp, Udp}
 use Rattle.connections.specs.declared.receiver.DropReason.{DropReason}
 use Rattle.tls_flow.specs.declared.flow.Stop.{Stop}
 use Rattle.tunnels.specs.declared.tunnel.Tunnel.{Tunnel}
-use Rattle.log_fields.specs.declared.context.FieldContext.{FieldContext}
 use Rattle.log_fields.specs.declared.fields.Field.{Field}
 use Rattle.log_fields.specs.declared.fields.Field.TheVariants as field
 use Rattle.log_fields.specs.declared.summary.Party.{Party}
@@ -75,6 +114,10 @@ use Rattle.log_fields.specs.declared.fields.Offer.{Offer}
 use Rattle.log_fields.specs.declared.fields.Offer.TheVariants as offer
 use Rattle.log_fields.specs.declared.fields.Answer.{Answer}
 use Rattle.log_fields.specs.declared.fields.Answer.TheVariants as answer
+use Rattle.log_fields.specs.declared.fields.Chain.{Chain}
+use Rattle.log_fields.specs.declared.fields.Chain.TheVariants as chain
+use Rattle.log_fields.specs.declared.fields.Fingerprint.{Fingerprint}
+use Rattle.log_fields.specs.declared.fields.Fingerprint.TheVariants as fingerprint
 use Rattle.log_fields.specs.declared.fields.SideTraffic.{SideTraffic}
 use Rattle.log_fields.specs.declared.fields.SideTraffic.TheVariants as traffic
 use Rattle.log_fields.specs.declared.fields.Encapsulation.{Encapsulation}
@@ -156,7 +199,8 @@ lifecycle_value lifecycle.Resumed s h = Some (mark_data s.is_resumed)
 lifecycle_value lifecycle.Established s h = Some (mark_data s.is_established)
 lifecycle_value lifecycle.Outcome s h = Some (text_data (outcome_text s.outcome))
 lifecycle_value lifecycle.Stop s h = some_stop s.stop
-lifecycle_value lifecycle.Gap s h = some_text (gap_text (has_gap s.originator) (has_gap s.responder))
+lifecycle_value lifecycle.Gap s h =
+    some_text (gap_text (has_gap s.originator) (has_gap s.responder))
 lifecycle_value lifecycle.EndedEarly s h = marked s.is_ended_early
 lifecycle_value lifecycle.History s h = some_letters s.history.now
 lifecycle_value lifecycle.Retried s h = marked h.is_retried
@@ -212,6 +256,100 @@ answer_value answer.Ticket h = marked h.has_ticket
 answer_value answer.TicketLifetime h = some_number h.ticket_lifetime_hint
 answer_value answer.Status h = marked h.has_status
 
+-- The number of certificates in a chain, if one was sent.
+abbrev pub count_value : Option (List CertificateSummary) → Option Data
+count_value = option_map (λ c. count_data (length c))
+
+-- The certificates of a chain.
+abbrev pub chain_of : Option (List CertificateSummary) → List CertificateSummary
+chain_of None = []
+chain_of (Some c) = c
+
+abbrev pub lengths_of : List CertificateSummary → List ℕ
+lengths_of = map (λ c. c.length)
+
+-- Their SHA-256.
+abbrev pub sums_of : List CertificateSummary → List Bytes
+sums_of = map (λ c. c.sha256)
+
+-- A certificate that can't be parsed, by its position, and why.
+abbrev pub fault_at : ℕ → Option CertificateFault → List Bytes
+fault_at n None = []
+fault_at n (Some fault) = (decimal n ++ codes ":" ++ fault_text fault) ∷ []
+
+-- Those of a chain; its first certificate has this position.
+abbrev pub faults_from : ℕ → List CertificateSummary → List Bytes
+faults_from n [] = []
+faults_from n (c ∷ cs) = fault_at n c.fault ++ faults_from (n + 1) cs
+
+-- The host that the client asked for is one of the certificate's names.
+abbrev pub host_match : Option Bytes → Option ReadFields → Option Data
+host_match (Some host) (Some read) = option_map mark_data (names_host_in host read)
+host_match (Some host) None = None
+host_match None certificate = None
+
+abbrev pub match_value : Known → Option Data
+match_value k = host_match (hello.server_name k.handshake) k.server
+
+-- The server's certificate isn't valid at the connection's first packet.
+abbrev pub expired_at : Option ReadFields → ℕ → Option Data
+expired_at None time = None
+expired_at (Some read) time = marked (has_expired read time)
+
+abbrev pub not_yet_valid_at : Option ReadFields → ℕ → Option Data
+not_yet_valid_at None time = None
+not_yet_valid_at (Some read) time = marked (is_not_yet_valid read time)
+
+abbrev pub expired_value : Known → Option Data
+expired_value k = expired_at k.server k.summary.first_time
+
+abbrev pub not_yet_valid_value : Known → Option Data
+not_yet_valid_value k = not_yet_valid_at k.server k.summary.first_time
+
+abbrev pub chain_value : Chain → Known → Option Data
+chain_value chain.ServerCount k = count_value k.handshake.server_certificates
+chain_value chain.ServerLengths k =
+    some_numbers (lengths_of (chain_of k.handshake.server_certificates))
+chain_value chain.ServerFingerprints k =
+    some_texts (map encode_lower (sums_of (chain_of k.handshake.server_certificates)))
+chain_value chain.Requested k = marked k.handshake.requests_certificate
+chain_value chain.ClientCount k = count_value k.handshake.client_certificates
+chain_value chain.ClientLengths k =
+    some_numbers (lengths_of (chain_of k.handshake.client_certificates))
+chain_value chain.ClientFingerprints k =
+    some_texts (map encode_lower (sums_of (chain_of k.handshake.client_certificates)))
+chain_value chain.NameMatches k = match_value k
+chain_value chain.Expired k = expired_value k
+chain_value chain.NotYetValid k = not_yet_valid_value k
+-- (validates nothing)
+chain_value chain.Validation k = None
+chain_value chain.ServerFaults k =
+    some_texts (faults_from 0 (chain_of k.handshake.server_certificates))
+chain_value chain.ClientFaults k =
+    some_texts (faults_from 0 (chain_of k.handshake.client_certificates))
+
+-- A field of a side's own certificate.
+abbrev pub own_value : CertificateField → Option ReadFields → Option (Option Data)
+own_value f None = Some None
+own_value f (Some read) = certificate_value f read
+
+-- The transport of a hello.
+abbrev pub transport_of : Protocol → Transport
+transport_of Tcp = over.Tcp
+transport_of Udp = over.Udp
+
+-- A fingerprint, if there is what it is of.
+abbrev pub some_print : {A : Type 0} → (A → Bytes) → Option A → Option Data
+some_print print = option_map (λ a. text_data (print a))
+
+abbrev pub fingerprint_value : Fingerprint → Known → Option Data
+fingerprint_value fingerprint.Ja3 k = some_print ja3_of (printed_client k.handshake)
+fingerprint_value fingerprint.Ja3Text k = some_print ja3_text_of (printed_client k.handshake)
+fingerprint_value fingerprint.Ja3s k = some_print digest_of k.ja3s_text
+fingerprint_value fingerprint.Ja3sText k = option_map text_data k.ja3s_text
+fingerprint_value fingerprint.Ja4 k =
+    some_print (ja4_of (transport_of k.summary.protocol)) (printed_client k.handshake)
+
 -- A side of a connection.
 abbrev pub party_of : Side → Summary → Party
 party_of Originator s = s.originator
@@ -257,22 +395,18 @@ encapsulation_value encapsulation.FoundBy s =
 encapsulation_value encapsulation.Tunnels s = tunnels_value s.tunnels.now
 encapsulation_value encapsulation.TunnelIds s = tunnel_ids_value s.tunnels.now
 
--- The value of a field. None if it has no definition here: those of certificates, of chains and of
--- fingerprints.
-abbrev pub defined_value : Field → FieldContext → Option (Option Data)
-defined_value (field.Identity f) c =
-    Some (identity_value f c.summary.now c.summary.now.first_time)
-defined_value (field.Negotiation f) c =
-    Some (negotiation_value f c.suites.now (view_summary c.handshake.now))
-defined_value (field.Lifecycle f) c =
-    Some (lifecycle_value f c.summary.now (view_summary c.handshake.now))
-defined_value (field.Offer f) c =
-    Some (offer_value f c.suites.now (view_summary c.handshake.now))
-defined_value (field.Answer f) c = Some (answer_value f (view_summary c.handshake.now))
-defined_value (field.Chain f) c = None
-defined_value (field.ServerCertificate f) c = None
-defined_value (field.ClientCertificate f) c = None
-defined_value (field.Fingerprint f) c = None
-defined_value (field.SideTraffic side f) c =
-    Some (traffic_value f c.summary.now.protocol (party_of side c.summary.now))
-defined_value (field.Encapsulation f) c = Some (encapsulation_value f c.summary.now)
+-- The value of a field: None if it is left out. Some fields of certificates have no definition:
+-- these have no value here.
+abbrev pub defined_value : Field → Known → Option (Option Data)
+defined_value (field.Identity f) k = Some (identity_value f k.summary k.summary.first_time)
+defined_value (field.Negotiation f) k = Some (negotiation_value f k.suites k.handshake)
+defined_value (field.Lifecycle f) k = Some (lifecycle_value f k.summary k.handshake)
+defined_value (field.Offer f) k = Some (offer_value f k.suites k.handshake)
+defined_value (field.Answer f) k = Some (answer_value f k.handshake)
+defined_value (field.Chain f) k = Some (chain_value f k)
+defined_value (field.ServerCertificate f) k = own_value f k.server
+defined_value (field.ClientCertificate f) k = own_value f k.client
+defined_value (field.Fingerprint f) k = Some (fingerprint_value f k)
+defined_value (field.SideTraffic side f) k =
+    Some (traffic_value f k.summary.protocol (party_of side k.summary))
+defined_value (field.Encapsulation f) k = Some (encapsulation_value f k.summary)

@@ -5,25 +5,27 @@ ghost use Rattle.std.specs.Option.{option_map};
 ghost use Rattle.std.specs.String.{string_bytes};
 ghost use Rattle.tls_summary.specs.HandshakeSummary.{view_summary};
 ghost use Rattle.log_formats.specs.Data.{cell_data, count_data, text_data, value_of};
+ghost use Rattle.log_fields.specs.Known.{known_of, own_certificate};
 ghost use Rattle.log_fields.specs.Names.{protocol_text};
 ghost use Rattle.log_fields.specs.Values.{bytes_sent, community_id_value, identity_value, uid_value};
 ghost use Rattle.log_fields.specs.Values.{lifecycle_value, negotiation_value};
 ghost use Rattle.log_fields.specs.Values.{some_alert as alert_of, some_count as count_of};
 ghost use Rattle.log_fields.specs.Values.{some_letters, some_stop, time_data};
 ghost use Rattle.log_fields.specs.Values.{encapsulation_value, traffic_value, tunnel_ids_value, tunnels_value};
-ghost use Rattle.log_fields.specs.Values.{defined_value, reason_if, reasons_value};
+ghost use Rattle.log_fields.specs.Values.{defined_value, own_value, reason_if, reasons_value};
 
-use crate::context::{FieldContext, Moment, SideContext};
+use crate::chains::compute_chain;
+use crate::context::{FieldContext, Moment, OwnCertificate, SideContext};
 use crate::fields::{
     Encapsulation, Field, Identity, Lifecycle, Negotiation, SideTraffic, fields, rows,
 };
 use crate::fingerprints::compute_fingerprint;
-use crate::hellos::{compute_answer, compute_chain, compute_offer, other_names_cell};
+use crate::hellos::{compute_answer, compute_offer, other_names_cell};
 use crate::names::{REASONS, kind_name, outcome_name, reason_name, tunnel_name};
 use crate::summary::Summary;
 use connection_ids::{community_id, uid};
 use connections::{DropReason, Dropped, End, Protocol};
-use log_certificates::{CertificateField, ReadCertificate, certificate_cell};
+use log_certificates::{CertificateField, certificate_cell};
 use log_formats::cell::{Cell, KeptCell, Row, Seconds, StopCell, TakesCell};
 use log_formats::lists::{Numbers, Texts, some_numbers, some_texts};
 use log_formats::text::{
@@ -132,8 +134,8 @@ pub fn identity_cell(
     moment: Moment<'_>,
     field: &Identity,
 ) -> Result<Option<Cell<'static>>, AllocError>
-    ensures { IfOk result
-        (λ cell. value_of cell ≡ identity_value field.now moment.entry.summary.now moment.entry.time) }
+    ensures { IfOk result (λ cell. value_of cell
+        ≡ identity_value field.now moment.entry.summary.now moment.entry.time) }
 {
     let mut kept: KeptCell<'static> = KeptCell { cell: None };
     compute_identity(moment, field, &mut kept)?;
@@ -170,8 +172,8 @@ fn compute_negotiation<'a, T: TakesCell<'a>>(
     to: &mut T,
 ) -> Result<(), AllocError>
     ensures { OnOk result (T.HasTaken
-        (negotiation_value field.now context.now.suites.now (view_summary context.now.handshake.now))
-        to.old to.new) }
+        (negotiation_value field.now context.now.suites.now
+        (view_summary context.now.handshake.now)) to.old to.new) }
 {
     rows!(computes [Negotiation context field to take_result])
 }
@@ -312,13 +314,18 @@ fn compute_encapsulation<'a, T: TakesCell<'a>>(
     rows!(computes [Encapsulation context field to take_result])
 }
 
-/// Returns a field of a certificate, if there is one.
+/// Returns a field of a side's own certificate; `None` without a certificate.
 fn own_cell<'a>(
     alloc: Global,
-    certificate: Option<&ReadCertificate<'_>>,
+    own: &mut OwnCertificate<'_>,
     field: &CertificateField,
-) -> Result<Option<Cell<'a>>, AllocError> {
-    match certificate {
+) -> Result<Option<Cell<'a>>, AllocError>
+    ensures value { IfOk result (λ cell. IfSome (own_value field.now (own_certificate own.old))
+        (λ value. value_of cell ≡ value)) }
+    ensures same { own_certificate own.new ≡ own_certificate own.old }
+{
+    own.parse();
+    match own.parsed() {
         Some(certificate) => certificate_cell(alloc, certificate, field),
         None => Ok(None),
     }
@@ -330,8 +337,9 @@ pub fn compute<'a, T: TakesCell<'a>>(
     field: &Field,
     to: &mut T,
 ) -> Result<(), AllocError>
-    ensures { OnOk result (IfSome (defined_value field.now context.old)
+    ensures value { OnOk result (IfSome (defined_value field.now (known_of context.old))
         (λ value. T.HasTaken value to.old to.new)) }
+    ensures same { known_of context.new ≡ known_of context.old }
 {
     match field {
         Field::Identity(field) => compute_identity(context.first_moment(), field, to),
@@ -341,10 +349,10 @@ pub fn compute<'a, T: TakesCell<'a>>(
         Field::Answer(field) => compute_answer(context, field, to),
         Field::Chain(field) => compute_chain(context, field, to),
         Field::ServerCertificate(field) => {
-            to.take_result(own_cell(context.alloc, context.server.certificate(), field))
+            to.take_result(own_cell(context.alloc, &mut context.server, field))
         }
         Field::ClientCertificate(field) => {
-            to.take_result(own_cell(context.alloc, context.client.certificate(), field))
+            to.take_result(own_cell(context.alloc, &mut context.client, field))
         }
         Field::Fingerprint(field) => compute_fingerprint(context, field, to),
         Field::SideTraffic(side, field) => compute_side_traffic(context.sender(*side), field, to),
@@ -357,8 +365,9 @@ pub fn cell_of<'a>(
     context: &mut FieldContext<'a>,
     field: &Field,
 ) -> Result<Option<Cell<'a>>, AllocError>
-    ensures { IfOk result (λ cell. IfSome (defined_value field.now context.old)
+    ensures value { IfOk result (λ cell. IfSome (defined_value field.now (known_of context.old))
         (λ value. value_of cell ≡ value)) }
+    ensures same { known_of context.new ≡ known_of context.old }
 {
     let mut kept = KeptCell { cell: None };
     compute(context, field, &mut kept)?;

@@ -1,5 +1,8 @@
 //! What the fields of a connection's line are computed from.
 ghost use Rattle.std.specs.Prelude.{◌≡◌};
+ghost use Rattle.std.specs.Option.{option_map};
+ghost use Rattle.log_certificates.specs.Read.{read_if, view_read};
+ghost use Rattle.log_fields.specs.Known.{known, known_of, own_certificate, parsed_certificate};
 ghost use Rattle.log_fields.specs.Values.{party_of};
 
 use crate::summary::{Party, Summary};
@@ -33,7 +36,7 @@ pub struct SideContext<'a> {
     pub party: &'a Party<'a>,
 }
 
-/// The text of JA3S, kept from the field of its digest to that of the text.
+/// The text of JA3S, kept from the field of its digest for that of the text.
 #[derive(Drop)]
 pub struct KeptTexts {
     pub ja3s: Option<String>,
@@ -51,19 +54,39 @@ pub enum OwnCertificate<'a> {
 
 impl<'a> OwnCertificate<'a> {
     /// Returns the certificate in these bytes, unparsed.
-    fn new(bytes: Option<&'a [u8]>) -> OwnCertificate<'a> {
+    fn new(bytes: Option<&'a [u8]>) -> OwnCertificate<'a>
+        ensures { own_certificate result ≡ read_if (option_map (λ b. b.now) bytes.entry) }
+    {
         OwnCertificate::Unparsed(bytes)
+    }
+
+    /// Parses the certificate, unless it is parsed.
+    pub fn parse(&mut self)
+        ensures parsed { parsed_certificate self.new ≡ own_certificate self.old }
+        ensures same { own_certificate self.new ≡ own_certificate self.old }
+    {
+        match self {
+            OwnCertificate::Unparsed(bytes) => {
+                *self = OwnCertificate::Parsed(certificate_of(*bytes));
+            }
+            OwnCertificate::Parsed(_) => {}
+        }
+    }
+
+    /// Returns the parsed certificate, if it was sent and any of its fields can be read.
+    pub fn parsed(&self) -> Option<&ReadCertificate<'a>>
+        ensures { option_map (λ r. view_read r.now) result ≡ parsed_certificate self.now }
+    {
+        match self {
+            OwnCertificate::Unparsed(_) | OwnCertificate::Parsed(None) => None,
+            OwnCertificate::Parsed(Some(certificate)) => Some(certificate),
+        }
     }
 
     /// Returns the certificate, if it was sent and any of its fields can be read.
     pub fn certificate(&mut self) -> Option<&ReadCertificate<'a>> {
-        if let OwnCertificate::Unparsed(bytes) = self {
-            *self = OwnCertificate::Parsed(certificate_of(*bytes));
-        }
-        match self {
-            OwnCertificate::Parsed(Some(certificate)) => Some(certificate),
-            _ => None,
-        }
+        self.parse();
+        self.parsed()
     }
 }
 
@@ -99,6 +122,7 @@ impl<'a> FieldContext<'a> {
         ensures summary { result.summary.now ≡ summary.entry.now }
         ensures handshake { result.handshake.now ≡ summary.entry.now.handshake.now }
         ensures suites { result.suites.now ≡ suites.entry.now }
+        ensures known { known_of result ≡ known suites.entry.now summary.entry.now }
     {
         let handshake = summary.handshake;
         FieldContext {

@@ -160,7 +160,7 @@ pub enum Field {
 /// each row is its text, as [`columns`](crate::columns) explains.
 macro_rules! rows {
     ($then:ident $($words:tt)*) => {
-        $crate::fields::$then! {
+        $crate::row_macros::$then! {
             $($words)*
             Identity {
                 /// the time of the first packet: seconds since 1970-01-01 00:00 UTC, to the
@@ -242,8 +242,8 @@ macro_rules! rows {
                 /// RFC: 5246, 7.3; 8446, 2.2
                 /// Zeek: `resumed`
                 "resumed": Mark = Resumed => |context| Some(Cell::Mark(context.summary.is_resumed));
-                /// `true`: the readable part of the handshake is complete; in TLS 1.3 the client also
-                /// sent a record that can hold its Finished
+                /// `true`: the readable part of the handshake is complete; in TLS 1.3 the client
+                /// also sent a record that can hold its Finished
                 /// Zeek: `established`, which in TLS 1.3 waits for data
                 "established": Mark =
                     Established => |context| Some(Cell::Mark(context.summary.is_established));
@@ -270,8 +270,8 @@ macro_rules! rows {
                 /// Zeek: `missed_bytes` counts them
                 /// absent: no bytes are missing
                 "gap": Text = Gap => |context| some_name(context.summary.gap());
-                /// `true`: closed as the longest-idle connection, over the memory limit (`--memory`).
-                /// Its later packets start a new connection
+                /// `true`: closed as the longest-idle connection, over the memory limit
+                /// (`--memory`). Its later packets start a new connection
                 /// absent: it ended otherwise
                 "ended_early": Mark =
                     EndedEarly => |context| some_mark(context.summary.is_ended_early);
@@ -352,8 +352,8 @@ macro_rules! rows {
             Encapsulation {
                 /// how TLS was found behind these bytes: by the dialogue of `ftp`, `http_connect`,
                 /// `imap`, `irc`, `ldap`, `lmtp`, `mysql`, `nntp`, `pop3`, `postgresql`, `proxy`,
-                /// `rdp`, `sieve`, `smtp`, `socks4`, `socks5` or `xmpp`, of several the last one;
-                /// or by `search` (docs/CAPTURES.md, "Where TLS begins")
+                /// `rdp`, `sieve`, `smtp`, `socks4`, `socks5`, `tds` or `xmpp`, of several the
+                /// last; or by `search` (docs/CAPTURES.md, "Where TLS begins")
                 /// absent: there are no such bytes; DTLS
                 "found_by": Text =
                     FoundBy => |context| Ok(some_name(context.summary.found_by()));
@@ -556,11 +556,12 @@ macro_rules! rows {
                 /// Zeek: `cert_chain_fps`
                 /// absent: as above
                 "cert_lengths": Counts =
-                    ServerLengths => |context| lengths_cell(context.alloc, server_chain(context));
+                    ServerLengths => |context|
+                        lengths_cell(context.alloc, &context.handshake.server_certificates);
                 /// as above
                 "cert_chain_fps": Texts =
                     ServerFingerprints => |context|
-                        fingerprints_cell(context.alloc, server_chain(context));
+                        fingerprints_cell(context.alloc, &context.handshake.server_certificates);
                 /// `true`: the server sent a CertificateRequest
                 /// RFC: 5246, 7.4.4
                 /// absent: it didn't; TLS 1.3
@@ -574,11 +575,13 @@ macro_rules! rows {
                 /// the length in bytes and the SHA-256 of each
                 /// Zeek: `client_cert_chain_fps`
                 /// absent: it sent none
-                "client_cert_lengths": Counts = ClientLengths =>
-                    |context| lengths_cell(context.alloc, client_chain(context));
+                "client_cert_lengths": Counts =
+                    ClientLengths => |context|
+                        lengths_cell(context.alloc, &context.handshake.client_certificates);
                 /// as above
-                "client_cert_chain_fps": Texts = ClientFingerprints =>
-                    |context| fingerprints_cell(context.alloc, client_chain(context));
+                "client_cert_chain_fps": Texts =
+                    ClientFingerprints => |context|
+                        fingerprints_cell(context.alloc, &context.handshake.client_certificates);
             }
             ServerCertificate {
                 /// the names of the server's own certificate, as RFC 4514 writes them ("What
@@ -639,8 +642,8 @@ macro_rules! rows {
                 /// the algorithm in its signed part
                 /// absent: its signature's
                 "tbs_sig_alg": Text = InnerSignatureAlgorithm;
-                /// what isn't read, by RFC 5280's names, as `notBefore:verify`; in a list also after
-                /// how many bytes, as `subjectAltName@12:tag`
+                /// what isn't read, by RFC 5280's names, as `notBefore:verify`; in a list also
+                /// after how many bytes, as `subjectAltName@12:tag`
                 /// absent: all is read
                 "cert_unread_fields": Texts = UnreadFields;
             }
@@ -650,9 +653,7 @@ macro_rules! rows {
                 /// RFC: 9525, 6.3
                 /// Zeek: the same
                 /// absent: no `server_name`
-                "sni_matches_cert": Mark =
-                    NameMatches => |context|
-                        Ok(match_cell(context.handshake, context.server.certificate()));
+                "sni_matches_cert": Mark = NameMatches => |context| Ok(match_cell(context));
                 /// `true`: `not_after` is before `ts`, `not_before` after it
                 /// absent: it isn't so
                 "expired_at_connection": Mark = Expired => |context| Ok(expired_cell(context));
@@ -668,7 +669,8 @@ macro_rules! rows {
                 /// RFC: 5280, 4.1
                 /// absent: none does
                 "cert_error": Texts =
-                    ServerFaults => |context| faults_cell(context.alloc, server_chain(context));
+                    ServerFaults => |context|
+                        faults_cell(context.alloc, &context.handshake.server_certificates);
             }
             ClientCertificate {
                 /// the names of the client's own certificate
@@ -682,7 +684,8 @@ macro_rules! rows {
             Chain {
                 /// as `cert_error`, for the client's certificates
                 "client_cert_error": Texts =
-                    ClientFaults => |context| faults_cell(context.alloc, client_chain(context));
+                    ClientFaults => |context|
+                        faults_cell(context.alloc, &context.handshake.client_certificates);
             }
             Fingerprint {
                 /// the JA3 of the ClientHello, and the text whose MD5 it is ("Fingerprints", below)
@@ -690,13 +693,13 @@ macro_rules! rows {
                 /// absent: no ClientHello
                 "ja3": Text = Ja3 => |context| ja3_cell(context);
                 /// as above
-                "ja3_string": Text = Ja3Text => |context| Ok(text_cell(ja3_text(context)?));
+                "ja3_string": Text = Ja3Text => |context| ja3_text_cell(context);
                 /// the JA3S of the ServerHello, and its text
                 /// Zeek: `ja3s` of a package
                 /// absent: no ServerHello
                 "ja3s": Text = Ja3s => |context| ja3s_cell(context);
                 /// as above
-                "ja3s_string": Text = Ja3sText => |context| Ok(text_cell(ja3s_text(context)?));
+                "ja3s_string": Text = Ja3sText => |context| ja3s_text_cell(context);
                 /// the JA4 of the ClientHello, in three parts ("Fingerprints", below)
                 /// Zeek: `ja4` of a package
                 /// absent: no ClientHello
@@ -706,105 +709,6 @@ macro_rules! rows {
     };
 }
 
-/// Expands to the field of a variant, for one side if each side has it.
-macro_rules! field {
-    (SideTraffic $side:ident $variant:ident) => {
-        Field::SideTraffic(Side::$side, SideTraffic::$variant)
-    };
-    (ServerCertificate $side:ident $variant:ident) => {
-        Field::ServerCertificate(CertificateField::$variant)
-    };
-    (ClientCertificate $side:ident $variant:ident) => {
-        Field::ClientCertificate(CertificateField::$variant)
-    };
-    ($group:ident $side:ident $variant:ident) => {
-        Field::$group($group::$variant)
-    };
-}
-
-/// Expands to the columns of the rows.
-macro_rules! columns {
-    ($($group:ident { $(
-        $(#[doc = $text:literal])+
-        $name:literal $(, $responders:literal)?: $kind:ident =
-            $variant:ident $(=> |$given:ident| $cell:expr)?;
-    )* })*) => {
-        &[$($(
-            ($name, Type::$kind, field!($group Originator $variant)),
-            $(($responders, Type::$kind, field!($group Responder $variant)),)?
-        )*)*]
-    };
-}
-
-/// Expands to a match on the variant `$field` of a group. The row's closure computes its value from
-/// `$given`, and the method `$take` of `$to` takes it.
-macro_rules! computes {
-    // gathers the rows of the group's blocks
-    ([Identity $given:ident $field:ident $to:ident $take:ident $($row:tt)*]
-        Identity { $($more:tt)* } $($rest:tt)*) => {
-        $crate::fields::computes!(
-            [Identity $given $field $to $take $($row)* $($more)*] $($rest)*)
-    };
-    ([Negotiation $given:ident $field:ident $to:ident $take:ident $($row:tt)*]
-        Negotiation { $($more:tt)* } $($rest:tt)*) => {
-        $crate::fields::computes!(
-            [Negotiation $given $field $to $take $($row)* $($more)*] $($rest)*)
-    };
-    ([Lifecycle $given:ident $field:ident $to:ident $take:ident $($row:tt)*]
-        Lifecycle { $($more:tt)* } $($rest:tt)*) => {
-        $crate::fields::computes!(
-            [Lifecycle $given $field $to $take $($row)* $($more)*] $($rest)*)
-    };
-    ([Offer $given:ident $field:ident $to:ident $take:ident $($row:tt)*]
-        Offer { $($more:tt)* } $($rest:tt)*) => {
-        $crate::fields::computes!(
-            [Offer $given $field $to $take $($row)* $($more)*] $($rest)*)
-    };
-    ([Answer $given:ident $field:ident $to:ident $take:ident $($row:tt)*]
-        Answer { $($more:tt)* } $($rest:tt)*) => {
-        $crate::fields::computes!(
-            [Answer $given $field $to $take $($row)* $($more)*] $($rest)*)
-    };
-    ([Chain $given:ident $field:ident $to:ident $take:ident $($row:tt)*]
-        Chain { $($more:tt)* } $($rest:tt)*) => {
-        $crate::fields::computes!(
-            [Chain $given $field $to $take $($row)* $($more)*] $($rest)*)
-    };
-    ([Fingerprint $given:ident $field:ident $to:ident $take:ident $($row:tt)*]
-        Fingerprint { $($more:tt)* } $($rest:tt)*) => {
-        $crate::fields::computes!(
-            [Fingerprint $given $field $to $take $($row)* $($more)*] $($rest)*)
-    };
-    ([SideTraffic $given:ident $field:ident $to:ident $take:ident $($row:tt)*]
-        SideTraffic { $($more:tt)* } $($rest:tt)*) => {
-        $crate::fields::computes!(
-            [SideTraffic $given $field $to $take $($row)* $($more)*] $($rest)*)
-    };
-    ([Encapsulation $given:ident $field:ident $to:ident $take:ident $($row:tt)*]
-        Encapsulation { $($more:tt)* } $($rest:tt)*) => {
-        $crate::fields::computes!(
-            [Encapsulation $given $field $to $take $($row)* $($more)*] $($rest)*)
-    };
-    ([$($gathered:tt)*] $other:ident $block:tt $($rest:tt)*) => {
-        $crate::fields::computes!([$($gathered)*] $($rest)*)
-    };
-    // no block is left
-    ([$group:ident $given:ident $field:ident $to:ident $take:ident $(
-        $(#[doc = $text:literal])+
-        $name:literal $(, $responders:literal)?: $kind:ident =
-            $variant:ident => |$context:ident| $cell:expr;
-    )*]) => {
-        match $field {
-            $($crate::fields::$group::$variant => {
-                let $context = $given;
-                $to.$take($cell)
-            })*
-        }
-    };
-}
-
-pub(crate) use columns;
-pub(crate) use computes;
 pub(crate) use rows;
 
 /// The fields of a connection's line, in their order.

@@ -1,4 +1,4 @@
-//! The fields of hellos and of certificate chains.
+//! The fields of hellos.
 ghost use Rattle.std.specs.Prelude.{◌≡◌, IfOk, OnOk, map};
 ghost use Rattle.std.specs.Option.{option_map};
 ghost use Rattle.tls_summary.specs.Fields as hello;
@@ -11,17 +11,13 @@ ghost use Rattle.log_fields.specs.Values.{offer_value, some_code, some_count, so
 ghost use Rattle.log_fields.specs.Values.{some_number as number_of, typed_name_text};
 
 use crate::context::FieldContext;
-use crate::fields::{Answer, Chain, Offer, rows};
-use crate::names::fault_name;
-use log_certificates::{ReadCertificate, has_expired, is_not_yet_valid};
+use crate::fields::{Answer, Offer, rows};
 use log_formats::cell::{Cell, TakesCell};
 use log_formats::lists::{Numbers, Texts, some_numbers, some_texts};
 use log_formats::suites::Suites;
-use log_formats::text::{
-    Text, add_text, some_digits, some_group, some_mark, some_version, typed_text,
-};
+use log_formats::text::{Text, some_digits, some_group, some_mark, some_version, typed_text};
 use std::alloc::{AllocError, Global};
-use tls_summary::{CertificateSummary, HandshakeSummary};
+use tls_summary::HandshakeSummary;
 
 /// Returns the server names of types other than host_name, each behind the number of its type, such
 /// as `1:name`.
@@ -155,101 +151,4 @@ pub fn compute_answer<'a, T: TakesCell<'a>>(
         (answer_value field.now (view_summary context.now.handshake.now)) to.old to.new) }
 {
     rows!(computes [Answer context field to take])
-}
-
-/// Returns the number of certificates in a chain; `None` without a chain.
-fn count_cell<'a>(chain: &Option<Vec<CertificateSummary>>) -> Option<Cell<'a>> {
-    match chain {
-        Some(chain) => Some(Cell::Number(chain.len() as u64)),
-        None => None,
-    }
-}
-
-/// Returns the certificates of a chain; none without a chain.
-fn certificates(chain: &Option<Vec<CertificateSummary>>) -> &[CertificateSummary] {
-    match chain {
-        Some(chain) => chain.as_slice(),
-        None => &[],
-    }
-}
-
-/// Returns the certificates that the server sent.
-fn server_chain<'a>(context: &FieldContext<'a>) -> &'a [CertificateSummary] {
-    certificates(&context.handshake.server_certificates)
-}
-
-/// Returns the certificates that the client sent.
-fn client_chain<'a>(context: &FieldContext<'a>) -> &'a [CertificateSummary] {
-    certificates(&context.handshake.client_certificates)
-}
-
-/// Returns the lengths of a chain's certificates; `None` if there are none.
-fn lengths_cell<'a>(
-    alloc: Global,
-    chain: &[CertificateSummary],
-) -> Result<Option<Cell<'a>>, AllocError> {
-    let mut lengths = Vec::with_capacity(alloc, chain.len())?;
-    for one in chain {
-        lengths.push(one.length as u64)?;
-    }
-    Ok(some_numbers(Numbers::Owned(lengths)))
-}
-
-/// Returns the fingerprints of a chain's certificates; `None` if there are none.
-fn fingerprints_cell<'a>(
-    alloc: Global,
-    chain: &[CertificateSummary],
-) -> Result<Option<Cell<'a>>, AllocError> {
-    let mut fingerprints = Vec::with_capacity(alloc, chain.len())?;
-    for one in chain {
-        fingerprints.push(one.sha256)?;
-    }
-    Ok(some_texts(Texts::Digests(fingerprints)))
-}
-
-/// Returns which certificates of a chain can't be parsed, and why, such as `0:verify`; `None` if
-/// all can.
-fn faults_cell<'a>(
-    alloc: Global,
-    chain: &[CertificateSummary],
-) -> Result<Option<Cell<'a>>, AllocError> {
-    let mut all = Vec::new(alloc);
-    for (place, one) in chain.iter().enumerate() {
-        if let Some(fault) = one.fault {
-            let text = Text::Placed(place, fault_name(fault));
-            add_text(&mut all, text.to_string(alloc))?;
-        }
-    }
-    Ok(some_texts(Texts::Owned(all)))
-}
-
-/// Returns whether the host that the client asked for is a name in the server's certificate (RFC
-/// 9525, section 6.3); `None` without such a host or certificate.
-fn match_cell<'a>(
-    handshake: &HandshakeSummary,
-    certificate: Option<&ReadCertificate<'_>>,
-) -> Option<Cell<'a>> {
-    let host = handshake.server_name()?;
-    Some(Cell::Mark(certificate?.matches(host)?))
-}
-
-/// Returns true if the server's certificate had expired at the connection's first packet.
-fn expired_cell<'a>(context: &mut FieldContext<'_>) -> Option<Cell<'a>> {
-    let time = context.summary.first_time;
-    some_mark(has_expired(context.server.certificate()?, time))
-}
-
-/// Returns true if the server's certificate wasn't valid yet at the connection's first packet.
-fn not_yet_valid_cell<'a>(context: &mut FieldContext<'_>) -> Option<Cell<'a>> {
-    let time = context.summary.first_time;
-    some_mark(is_not_yet_valid(context.server.certificate()?, time))
-}
-
-/// Passes a field of [`Chain`] to `to`. An empty chain has no lengths and no fingerprints.
-pub fn compute_chain<'a, T: TakesCell<'a>>(
-    context: &mut FieldContext<'a>,
-    field: &Chain,
-    to: &mut T,
-) -> Result<(), AllocError> {
-    rows!(computes [Chain context field to take_result])
 }

@@ -5,10 +5,12 @@
 //! those of a message, and [`CERTIFICATE_FIELDS`](columns::CERTIFICATE_FIELDS) those of a
 //! certificate. Fields have the names in Zeek's logs where these have them.
 //!
-//! Clauses give the values of most fields by the definitions of the crates below
-//! (`specs/Values.antt`). Those of certificates, chains and fingerprints are only tested.
+//! Clauses give the fields' values by the definitions of the crates below (`specs/Values.antt`),
+//! as a function of what is known of the connection (`specs/Known.antt`). Some fields of
+//! certificates have no definition yet, and are only tested.
 #![tactic(auto)]
 
+mod chains;
 pub mod columns;
 pub mod connection;
 pub mod context;
@@ -17,5 +19,6 @@ mod fingerprints;
 mod hellos;
 pub mod joined_lists;
 pub mod names;
+mod row_macros;
 pub mod summary;
 pub mod timestamps;

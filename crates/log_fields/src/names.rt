@@ -1,7 +1,7 @@
 //! The names that are printed.
 ghost use Rattle.std.specs.Prelude.{◌≡◌};
 ghost use Rattle.log_fields.specs.Names.{kind_text, outcome_text, reason_text, sender_text};
-ghost use Rattle.log_fields.specs.Names.{dialogue_text, search_text, tunnel_text};
+ghost use Rattle.log_fields.specs.Names.{dialogue_text, fault_text, search_text, tunnel_text};
 ghost use Rattle.std.specs.Option.{option_map};
 ghost use Rattle.std.specs.Prelude.{◌==◌};
 
@@ -47,6 +47,7 @@ pub fn dialogue_name(protocol: Protocol) -> &'static str
         Protocol::Postgres => "postgresql",
         Protocol::Mysql => "mysql",
         Protocol::Rdp => "rdp",
+        Protocol::Tds => "tds",
         Protocol::Ldap => "ldap",
         Protocol::Xmpp => "xmpp",
     }
@@ -100,7 +101,9 @@ pub fn kind_name(kind: Kind) -> &'static str
 }
 
 /// Returns the name of the reason why a certificate can't be parsed.
-pub fn fault_name(fault: CertificateFault) -> &'static str {
+pub fn fault_name(fault: CertificateFault) -> &'static str
+    ensures { result.now ≡ fault_text fault }
+{
     match fault {
         CertificateFault::Incomplete => "incomplete",
         CertificateFault::Trailing => "trailing",

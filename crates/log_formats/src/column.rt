@@ -36,7 +36,7 @@ pub enum Type {
     Counts,
     /// addresses, with `,` between them
     Addresses,
-    /// JSON, since it has fields of its own
+    /// JSON of an object's fields
     Fields,
 }
 

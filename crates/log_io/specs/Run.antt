@@ -18,7 +18,7 @@ abbrev pub IsOfCapture : Failure → Type 0
 IsOfCapture (Capture text) = ⊤
 IsOfCapture f = ⊥
 
--- The same failure, or another text of what is wrong with the capture.
+-- Both are one failure; or both are faults of the capture, with any texts.
 abbrev pub IsSameCause : Failure → Failure → Type 0
 IsSameCause (Capture text) f = IsOfCapture f
 IsSameCause e f = f ≡ e

@@ -18,9 +18,9 @@ pub enum LineFormat {
     Ecs,
 }
 
-/// The formats, handed to the macro that is named, with what else is passed. A row has the name,
-/// its variant, and whether it has fields of its own and is for connections only. `log_writer`
-/// writes the lines themselves, where each match has an arm for each format.
+/// Calls the named macro with the table of formats. A row has a format's name, its variant, and
+/// whether its fields are fixed (then it prints connections only). `log_writer` writes the lines:
+/// each match there has an arm for each format.
 macro_rules! formats {
     ($then:ident $($given:tt)*) => {
         $then! {
@@ -58,7 +58,7 @@ macro_rules! name_of {
     };
 }
 
-/// Whether a format has fields of its own.
+/// Whether a format's fields are fixed.
 macro_rules! has_own {
     ($of:tt; $($name:literal $format:ident $has_own:literal;)*) => {
         match $of {
@@ -86,7 +86,7 @@ impl LineFormat {
         formats!(name_of self;)
     }
 
-    /// Whether it has fields of its own, and lines for connections only.
+    /// Returns whether its fields are fixed. Such a format prints connections only.
     pub fn has_own_fields(self) -> bool {
         formats!(has_own self;)
     }

@@ -1,4 +1,5 @@
 mod AcceptLemmas
+mod ClosedLemmas
 mod CountLemmas
 mod DroppedLemmas
 mod OrderLemmas

@@ -1,5 +1,5 @@
 -- The order of connections by their last packets.
-use Rattle.std.proofs.Common.{◌≡◌, ℕ, suc, ◌+◌, ◌-◌, ◌≤◌, true, false, cond, Some, None, List, [], ◌∷◌, ◌++◌, length, slice_get, refl, sym, ap, ◌∙◌, subst, arith}
+use Rattle.std.proofs.Common.{◌≡◌, ℕ, suc, ◌-◌, ◌≤◌, true, false, cond, Some, None, List, [], ◌∷◌, ◌++◌, length, slice_get, refl, sym, ap, ◌∙◌, subst, arith}
 use Rattle.std.specs.Map.{set_value}
 use Rattle.lru.specs.LruCache.{last_entry}
 use Rattle.connections.proofs.TableLemmas.{is_five_tuple-refl, the_same}
@@ -22,7 +22,7 @@ apart_back f g apart = (elim (is_five_tuple g f) as
 
 module _ {X : Type 0} where
   -- Where there is no entry, none is left of fewer.
-  removed_none : (e f : FiveTuple) (xs : List (FiveTuple × X)) → at f xs ≡ None
+  pub removed_none : (e f : FiveTuple) (xs : List (FiveTuple × X)) → at f xs ≡ None
       → at f (others e xs) ≡ None
   removed_none e f [] h = refl
   removed_none e f (x ∷ xs) h = (elim (is_five_tuple f x.0) as
@@ -97,7 +97,7 @@ module _ {X : Type 0} where
         | false ↦ λ t. rw t (alone e xs d.1)
       ]) refl
 
-  distinct_others : (e : FiveTuple) (xs : List (FiveTuple × X)) → Distinct xs
+  pub distinct_others : (e : FiveTuple) (xs : List (FiveTuple × X)) → Distinct xs
       → Distinct (others e xs)
   distinct_others e [] d = tt
   distinct_others e (x ∷ xs) d = elim (is_five_tuple e x.0) as
@@ -122,6 +122,16 @@ module _ {X : Type 0} where
       let on = distinct_front xs x d.1 in
       let apart = apart_back y.0 x.0 (last_apart y.0 xs x d.0) in
       ((front_none y.0 xs (x ∷ []) d.0, on.0), rw apart on.1)
+
+  -- The last entry.
+  abbrev pub last_of : FiveTuple × X → List (FiveTuple × X) → FiveTuple × X
+  last_of x [] = x
+  last_of x (y ∷ ys) = last_of y ys
+
+  pub last_is : (x : FiveTuple × X) (xs : List (FiveTuple × X))
+      → slice_get (x ∷ xs) (length xs) ≡ Some (last_of x xs)
+  last_is x [] = refl
+  last_is x (y ∷ ys) = last_is y ys
 
 module _ {T : Type 0} where
   pub distinct_placed : {f : FiveTuple} {time : ℕ} {xs ys : List (FiveTuple × Connection T)}
@@ -188,16 +198,6 @@ module _ {T : Type 0} where
       subst (λ l. InTime time l) (sym h) (in_time_later n time xs le i)
 
   -- If the last one isn't idle, none is.
-  abbrev last_of : FiveTuple × Connection T → List (FiveTuple × Connection T)
-      → FiveTuple × Connection T
-  last_of x [] = x
-  last_of x (y ∷ ys) = last_of y ys
-
-  last_is : (x : FiveTuple × Connection T) (xs : List (FiveTuple × Connection T))
-      → slice_get (x ∷ xs) (length xs) ≡ Some (last_of x xs)
-  last_is x [] = refl
-  last_is x (y ∷ ys) = last_is y ys
-
   older : (x : FiveTuple × Connection T) (xs : List (FiveTuple × Connection T))
       → InTime x.1.last_time xs → (last_of x xs).1.last_time ≤ x.1.last_time
   older x [] i = omega arith

@@ -1,8 +1,8 @@
 -- What comes out of a run under one five-tuple.
-use Rattle.std.proofs.Common.{◌≡◌, ℕ, ◌+◌, ◌-◌, ◌≤◌, ◌<◌, Bool, true, false, cond, Option, Some, None, List, [], ◌∷◌, ◌++◌, length, map, refl, sym, ap, ◌∙◌, subst, arith}
+use Rattle.std.proofs.Common.{◌≡◌, ℕ, ◌-◌, ◌≤◌, ◌<◌, Bool, true, false, cond, Option, Some, None, List, [], ◌∷◌, ◌++◌, length, map, refl, sym, ap, ◌∙◌, subst, arith}
 use Rattle.std.proofs.lemmas.Bool.{lt-ltb, ltb-true}
 use Rattle.std.proofs.lemmas.List.{append-nil, length-append}
-use Rattle.std.specs.Prelude.{⊤, if◌then◌else◌, filter}
+use Rattle.std.specs.Prelude.{⊤, if◌then◌else◌, filter, is_some}
 use Rattle.std.specs.Map.{set_value}
 use Rattle.std.specs.Option.{option_map}
 use Rattle.connections.proofs.TableLemmas.{is_five_tuple-refl, the_same}
@@ -46,9 +46,6 @@ pub recent_by : (s t : ℕ) → s ≤ t → (o p : Option ℕ) → recent s o �
     → recent t o ≡ recent t p
 recent_by s t le o p alike =
     sym (recent_recent s t le o) ∙ ap (recent t) alike ∙ recent_recent s t le p
-
-pub recent_twice : (t : ℕ) (o : Option ℕ) → recent t (recent t o) ≡ recent t o
-recent_twice t o = recent_recent t t (omega arith) o
 
 module _ {K V A : Type 0} (b : Behavior K V A) where
   pub views_append : (e : FiveTuple) (xs ys : List (FiveTuple × Connection (TlsAnalysis K)))
@@ -239,7 +236,8 @@ module _ {K V A : Type 0} (b : Behavior K V A) where
   abbrev pub step_at : ℕ → A → State V → State V
   step_at t a k = record {
     live = b.becomes a (awake t k.live) (recent t k.closed);
-    closed = b.closed a (awake t k.live) (recent t k.closed);
+    closed = b.closed a (is_some (awake t k.live))
+        (is_some (b.becomes a (awake t k.live) (recent t k.closed))) (recent t k.closed);
     outs =
         (k.outs ++ timed_out t k.live)
         ++ as_list (b.over a (awake t k.live) (recent t k.closed));

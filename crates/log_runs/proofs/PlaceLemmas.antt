@@ -176,7 +176,7 @@ module _ {K : Type 0} (f : FiveTuple) where
   StaysOpen old new = (others f new.live ≡ others f old.live)
       × ((d : Connection (TlsAnalysis K)) × (at f new.live ≡ Some d))
 
-  written_open : (old new : Table (TlsAnalysis K)) (c w : Connection (TlsAnalysis K))
+  pub written_open : (old new : Table (TlsAnalysis K)) (c w : Connection (TlsAnalysis K))
       → at f old.live ≡ Some c → new.live ≡ set_value (is_five_tuple f) old.live w
       → StaysOpen old new
   written_open old new c w found stands = (
@@ -191,7 +191,7 @@ module _ {K : Type 0} (f : FiveTuple) where
     (w, ap (at f) stands ∙ at_first f (others f old.live) w),
   )
 
-  changed_live : (g : Connection (TlsAnalysis K) → Connection (TlsAnalysis K))
+  pub changed_live : (g : Connection (TlsAnalysis K) → Connection (TlsAnalysis K))
       (old new : Table (TlsAnalysis K)) (c : Connection (TlsAnalysis K))
       → at f old.live ≡ Some c → new ≡ changing f g old
       → new.live ≡ set_value (is_five_tuple f) old.live (g c)
@@ -262,7 +262,7 @@ module _ {K : Type 0} (s : Segment) where
       (h.1.stands ∙ ap (λ l. (five_tuple_of s, h.1.its) ∷ l) rest)
       h.2.left
 
-  belongs_open : (t : Table (TlsAnalysis K)) (c : Connection (TlsAnalysis K))
+  pub belongs_open : (t : Table (TlsAnalysis K)) (c : Connection (TlsAnalysis K))
       → at (five_tuple_of s) t.live ≡ Some c → belongs s t ≡ true
   belongs_open t c found =
       ap (λ o. is_some o
@@ -304,7 +304,7 @@ module _ {K : Type 0} (s : Segment) where
       pending_open k old (without_pending_segment s old) new
       (without_pending_open old (without_pending_segment s old) c found refl) receives
 
-  acknowledged_open : {n : ℕ} {old new : Table (TlsAnalysis K)} (c : Connection (TlsAnalysis K))
+  pub acknowledged_open : {n : ℕ} {old new : Table (TlsAnalysis K)} (c : Connection (TlsAnalysis K))
       → AnalyzesAcknowledged s n old new → at (five_tuple_of s) old.live ≡ Some c
       → StaysOpen (five_tuple_of s) old new
   acknowledged_open c (enough t) found = (refl, (c, found))
@@ -341,7 +341,7 @@ module _ {K : Type 0} (s : Segment) where
       (changed_live (five_tuple_of s) (dropping r s) old new c found h.0)
 
   -- Another connection takes the place of the open one.
-  replaced_open : (old mid : Table (TlsAnalysis K)) (was : Option (Connection (TlsAnalysis K)))
+  pub replaced_open : (old mid : Table (TlsAnalysis K)) (was : Option (Connection (TlsAnalysis K)))
       (c : Connection (TlsAnalysis K)) → at (five_tuple_of s) old.live ≡ Some c
       → Replaced s old mid was → StaysOpen (five_tuple_of s) old mid
   replaced_open old mid None c found h = (

@@ -2,7 +2,7 @@
 use Rattle.std.proofs.Common.{◌≡◌, ℕ, ◌+◌, ◌-◌, ◌≤◌, ◌<◌, inl, inr, Bool, true, false, cond, Option, Some, None, List, [], ◌∷◌, ◌++◌, length, map, refl, sym, ap, ◌∙◌, subst, append_assoc, arith}
 use Rattle.std.proofs.lemmas.Bool.{ltb-false, ltb-true}
 use Rattle.std.proofs.lemmas.List.{append-nil}
-use Rattle.std.specs.Prelude.{⊤, IfSome}
+use Rattle.std.specs.Prelude.{⊤, IfSome, is_some}
 use Rattle.std.specs.Option.{option_map}
 use Rattle.arrivals.specs.Arrival.{five_tuple_in, time_of}
 use Rattle.arrivals.specs.declared.arrival.Arrival.{Arrival}
@@ -21,13 +21,14 @@ use Rattle.log_connections.specs.Reading.{Content, InFragments, Nothing, Whole}
 use Rattle.log_connections.specs.Sink.{EndInTurn, IsIdle, as_list}
 use Rattle.log_connections.specs.Sink.EndInTurn.{none, one}
 use Rattle.log_connections.specs.declared.analysis.TlsAnalysis.{TlsAnalysis}
+use Rattle.log_runs.proofs.ClosedLemmas.{ClosedInTime, Closes, arrives_closes, closes_order, closes_other, closes_own, closes_same, forgotten_order, forgotten_recent, still_recent}
 use Rattle.log_runs.proofs.OrderLemmas.{alone, apart_back, distinct_front, distinct_placed, in_time_front, in_time_placed, not_before_last}
-use Rattle.log_runs.proofs.OwnLemmas.{Agrees, Idle, State, after_all, after_append, all_of, awake, awake_own, ended_own, finish, idle_agrees, placed_apart, recent_by, recent_twice, step_at, timed_out, views_append, views_other}
+use Rattle.log_runs.proofs.OwnLemmas.{Agrees, Idle, State, after_all, after_append, all_of, awake_own, ended_own, finish, idle_agrees, placed_apart, recent_by, step_at, timed_out, views_append, views_other}
 use Rattle.log_runs.proofs.OwnLemmas.Agrees.{standing}
 use Rattle.log_runs.proofs.PlaceLemmas.{Placed, accepts_placed, placed_same, then_written}
 use Rattle.log_runs.specs.Parts.{is_of_part}
 use Rattle.log_runs.specs.Runs.{HandlesEach, IsRun, ended_in, log_of, none_yet, one_more, outs_by, outs_in, outs_of, outs_over, refused_in}
-use Rattle.log_runs.specs.Sharing.{Behavior, BehavesIn, BehavesOf, BehavesOver, Distinct, HasRoom, HasRoomOver, InOrder, InTime, IsPlain, PlainRun, RoomOf, arrivals_in, arrivals_of, arrivals_over, is_idle, last_time, of_part, own, recent, time_behind, views}
+use Rattle.log_runs.specs.Sharing.{Behavior, BehavesIn, BehavesOf, BehavesOver, Distinct, HasRoom, HasRoomOver, InOrder, InTime, IsPlain, PlainRun, RemembersClosed, RoomOf, arrivals_in, arrivals_of, arrivals_over, is_idle, last_time, may_close, of_part, own, recent, time_behind, views}
 
 snoc_nil : {X : Type 0} (xs : List X) (x : X) → xs ++ x ∷ [] ≡ [] → ⊥
 snoc_nil [] x h = cc
@@ -43,6 +44,15 @@ not_late time last h = (elim (is_idle time last) as
 by_state : {V X : Type 0} (g : Option V → Option ℕ → X) {o p : Option V} {c d : Option ℕ}
     → o ≡ p → c ≡ d → g o c ≡ g p d
 by_state g {o} {p} {c} {d} h k = ap (λ x. g x c) h ∙ ap (g p) k
+
+by_open : {X : Type 0} (g : Bool → Bool → Option ℕ → X) {a b x y : Bool} {c d : Option ℕ} → a ≡ b
+    → x ≡ y → c ≡ d → g a x c ≡ g b y d
+by_open g {a} {b} {x} {y} {c} {d} h k l =
+    ap (λ p. g p x c) h ∙ ap (λ p. g b p c) k ∙ ap (g b y) l
+
+is_some_mapped : {X Y : Type 0} (g : X → Y) (o : Option X) → is_some o ≡ is_some (option_map g o)
+is_some_mapped g None = refl
+is_some_mapped g (Some x) = refl
 
 module _ {K : Type 0} where
   -- None ended.
@@ -138,6 +148,18 @@ module _ {K : Type 0} {M : K → ℕ} {a : Arrival} where
         (arrives_placed p.arrives room.none_refused
         (ended_order s p.idle.ended d i).0)
 
+    -- The closed ones change by the arrival alone.
+    closes_behind : HasRoom p → RemembersClosed p → (s : ℕ) → Distinct old.live → InTime s old.live
+        → Closes (five_tuple_in a) (time_of a) p.awake.closed new.closed
+        (may_close a (is_some (at (five_tuple_in a) p.awake.live))
+        (at (five_tuple_in a) p.awake.closed))
+        (is_some (at (five_tuple_in a) p.awake.live)) (is_some (at (five_tuple_in a) new.live))
+    closes_behind room remembers s d i =
+        closes_same remembers.none_dropped
+        (ap (λ l. is_some (at (five_tuple_in a) l)) (full_is room))
+        (arrives_closes p.arrives room.none_refused
+        (alone (five_tuple_in a) p.awake.live (ended_order s p.idle.ended d i).0))
+
 module _ {K V A : Type 0} (b : Behavior K V A) where
   abbrev pub start : State V
   start = record { live = None; closed = None; outs = [] }
@@ -147,6 +169,8 @@ module _ {K V A : Type 0} (b : Behavior K V A) where
       (outs : List (FiveTuple × Connection (TlsAnalysis K))) : Type 0 where
     pub distinct : Distinct t.live
     pub in_time : InTime time t.live
+    pub distinct_closed : Distinct t.closed
+    pub closed_in_time : ClosedInTime time t.closed
     pub agrees : Agrees b (after_all b said start) time (at e t.live) (views b e outs)
     pub closed :
         recent time (at e t.closed) ≡ recent time (after_all b said start).closed
@@ -165,7 +189,7 @@ module _ {K V A : Type 0} (b : Behavior K V A) where
   module _ {M : K → ℕ} {a : Arrival} {limit : ℕ} {old new : Table (TlsAnalysis K)}
       {before after : Option (List (Connection (TlsAnalysis K)))}
       (p : Processes M a limit old new before after) (room : HasRoom p)
-      (behaves : BehavesIn b p) (s : ℕ) (le : s ≤ time_of a) where
+      (remembers : RemembersClosed p) (behaves : BehavesIn b p) (s : ℕ) (le : s ≤ time_of a) where
     idle_first : (e : FiveTuple) (said : List A)
         (outs : List (FiveTuple × Connection (TlsAnalysis K))) → Follows e said s old outs
         → Agrees b (after_all b said start) (time_of a) (at e p.awake.live)
@@ -191,6 +215,9 @@ module _ {K V A : Type 0} (b : Behavior K V A) where
         → Follows e said (time_of a) new (outs ++ outs_by p)
     other_step e said outs apart back f =
         let order = in_order_behind p room s le f.distinct f.in_time in
+        let awake_order = forgotten_order s p.forgotten f.distinct_closed f.closed_in_time in
+        let closing = closes_behind p room remembers s f.distinct f.in_time in
+        let closed_order = closes_order s le closing awake_order.0 awake_order.1 in
         let here : at e new.live ≡ at e p.awake.live =
         placed_apart (five_tuple_in a) e apart
         (placed_behind p room f.distinct s f.in_time) in
@@ -204,14 +231,16 @@ module _ {K V A : Type 0} (b : Behavior K V A) where
         record {
           distinct = order.0;
           in_time = order.1;
+          distinct_closed = closed_order.0;
+          closed_in_time = closed_order.1;
           agrees =
               subst (λ o. Agrees b (after_all b said start) (time_of a) o
               (views b e (outs ++ outs_by p))) (sym here)
               (subst (λ l. Agrees b (after_all b said start) (time_of a) (at e p.awake.live) l)
               (sym said_out) (idle_first e said outs f));
           closed =
-              ap (recent (time_of a)) (behaves.forgotten e apart)
-              ∙ recent_twice (time_of a) (at e old.closed)
+              ap (recent (time_of a)) (closes_other e apart back closing)
+              ∙ (forgotten_recent (time_of a) e p.forgotten remembers.few_closed).0
               ∙ recent_by s (time_of a) le (at e old.closed) (after_all b said start).closed
               f.closed;
         }
@@ -224,6 +253,9 @@ module _ {K V A : Type 0} (b : Behavior K V A) where
         let e = five_tuple_in a in
         let k = after_all b said start in
         let order = in_order_behind p room s le f.distinct f.in_time in
+        let awake_order = forgotten_order s p.forgotten f.distinct_closed f.closed_in_time in
+        let closing = closes_behind p room remembers s f.distinct f.in_time in
+        let closed_order = closes_order s le closing awake_order.0 awake_order.1 in
         let first = awake_own b k (time_of a) (at e p.awake.live)
         (views b e outs ++ views b e (ended_in p.idle.ended))
         (λ c found idle. none_is_idle p s f.distinct f.in_time e c found idle)
@@ -248,11 +280,20 @@ module _ {K V A : Type 0} (b : Behavior K V A) where
         record {
           distinct = order.0;
           in_time = order.1;
+          distinct_closed = closed_order.0;
+          closed_in_time = closed_order.1;
           agrees =
               subst (λ x. Agrees b x (time_of a) (at e new.live) (views b e (outs ++ outs_by p)))
               (sym later) (standing live said_out);
           closed =
-              ap (recent (time_of a)) (behaves.closed ∙ by_state (b.closed (b.seen a)) first.0 was)
+              ap (recent (time_of a)) (closes_own closing awake_order.0
+              ∙ sym (b.is_closed_by a (is_some (at e p.awake.live)) (is_some (at e new.live))
+              (at e p.awake.closed))
+              ∙ by_open (b.closed (b.seen a))
+              (is_some_mapped b.view (at e p.awake.live) ∙ ap is_some first.0)
+              (is_some_mapped b.view (at e new.live) ∙ ap is_some live)
+              (still_recent (time_of a) e s p.awake.closed awake_order.1 p.none_to_forget
+              ∙ (forgotten_recent (time_of a) e p.forgotten remembers.few_closed).0 ∙ was))
               ∙ ap (λ x. recent (time_of a) x.closed) (sym later);
         }
 
@@ -267,7 +308,8 @@ module _ {K V A : Type 0} (b : Behavior K V A) where
       (before after : Option (List (Connection (TlsAnalysis K)))) where
     whole_step : (e : FiveTuple) (a : Arrival) (p : Processes M a limit old new before after)
         (said : List A) (s : ℕ) (outs : List (FiveTuple × Connection (TlsAnalysis K)))
-        → HasRoom p → BehavesIn b p → s ≤ time_of a → Follows e said s old outs → (q : Bool)
+        → HasRoom p × RemembersClosed p → BehavesIn b p → s ≤ time_of a
+        → Follows e said s old outs → (q : Bool)
         → is_five_tuple (five_tuple_in a) e ≡ q
         → Follows e (said ++ own b e (b.seen a ∷ [])) (time_of a) new (outs ++ outs_by p)
     whole_step e a p said s outs room behaves le f true is =
@@ -275,11 +317,12 @@ module _ {K V A : Type 0} (b : Behavior K V A) where
         (sym (own_one e a true is))
         (subst (λ g. Follows g said s old outs
         → Follows g (said ++ b.seen a ∷ []) (time_of a) new (outs ++ outs_by p))
-        (the_same (five_tuple_in a) e is) (own_step p room behaves s le said outs) f)
+        (the_same (five_tuple_in a) e is) (own_step p room.0 room.1 behaves s le said outs) f)
     whole_step e a p said s outs room behaves le f false is =
         subst (λ l. Follows e l (time_of a) new (outs ++ outs_by p))
         (sym (ap (λ l. said ++ l) (own_one e a false is) ∙ append-nil said))
-        (other_step p room behaves s le e said outs is (apart_back (five_tuple_in a) e is) f)
+        (other_step p room.0 room.1 behaves s le e said outs is
+        (apart_back (five_tuple_in a) e is) f)
 
     content_step : (e : FiveTuple) (c : Content) (h : HandlesContent M c limit old new before after)
         (said : List A) (s : ℕ) (outs : List (FiveTuple × Connection (TlsAnalysis K)))
@@ -317,6 +360,8 @@ module _ {K V A : Type 0} (b : Behavior K V A) where
     each_follows e none_yet empty order room behaves = record {
       distinct = subst (λ l. Distinct l) (sym empty.0) tt;
       in_time = subst (λ l. InTime 0 l) (sym empty.0) tt;
+      distinct_closed = subst (λ l. Distinct l) (sym empty.1) tt;
+      closed_in_time = subst (λ l. ClosedInTime 0 l) (sym empty.1) tt;
       agrees = standing (ap (λ l. option_map b.view (at e l)) empty.0) refl;
       closed = ap (λ l. recent 0 (at e l)) empty.1;
     }

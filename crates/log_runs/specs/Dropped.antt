@@ -12,8 +12,7 @@ use Rattle.log_connections.specs.declared.exchanges.Delivery.{Delivery}
 use Rattle.log_connections.specs.declared.exchanges.Delivery.TheVariants as delivery
 use Rattle.log_connections.specs.Log.{Takes, verdict_in}
 
--- A segment that the receiver drops, or of which it isn't known yet whether it takes it; or one
--- that belongs to no connection.
+-- A segment that its receiver drops, one that is pending, or one that belongs to no connection.
 abbrev pub is_left_out : Option Verdict → Bool → Bool
 is_left_out None belongs = not belongs
 is_left_out (Some v) belongs =

@@ -100,7 +100,7 @@ module _ {K : Type 0} {M : K → ℕ} where
       → Processes M a limit old new before after → List (FiveTuple × Connection (TlsAnalysis K))
   outs_by p = ended_in p.idle.ended ++ (outs_in p.arrives ++ ended_in p.evicted.ended)
 
--- The same of a packet's content. M is the most memory that a connection's collector takes.
+-- What a packet's content begins and ends. M is the most memory that a collector takes.
 module _ {K : Type 0} (M : K → ℕ) where
   module _ (limit : ℕ) (old new : Table (TlsAnalysis K))
       (before after : Option (List (Connection (TlsAnalysis K)))) where

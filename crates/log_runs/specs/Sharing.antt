@@ -1,11 +1,13 @@
 -- Connections that behave by their own arrivals alone.
-use Rattle.std.specs.Prelude.{◌≡◌, ⊤, ℕ, ◌-◌, ◌≤◌, Bool, false, nat_lt, if◌then◌else◌, Option, Some, None, List, [], ◌∷◌, ◌++◌, filter, length, map}
+use Rattle.std.specs.Prelude.{◌≡◌, ⊤, ℕ, ◌-◌, ◌≤◌, Bool, true, false, ◌&&◌, ◌||◌, not, nat_lt, if◌then◌else◌, is_some, Option, Some, None, List, [], ◌∷◌, ◌++◌, filter, length, map}
 use Rattle.std.specs.Option.{option_map}
 use Rattle.arrivals.specs.Arrival.{five_tuple_in, time_of}
 use Rattle.arrivals.specs.declared.arrival.Arrival.{Arrival}
+use Rattle.arrivals.specs.declared.arrival.Arrival.TheVariants as arrival
 use Rattle.arrivals.specs.declared.reader.ArrivalReader.{ArrivalReader}
 use Rattle.connection_parts.specs.declared.part.Part.{Part}
 use Rattle.connections.specs.FiveTuple.{is_five_tuple}
+use Rattle.connections.specs.Segment.{begins, begins_one}
 use Rattle.connections.specs.Table.{Table, at}
 use Rattle.connections.specs.declared.connection.Connection.{Connection}
 use Rattle.connections.specs.declared.five_tuple.FiveTuple.{FiveTuple}
@@ -30,9 +32,29 @@ abbrev pub InTime : {T : Type 0} → ℕ → List (FiveTuple × Connection T) �
 InTime time [] = ⊤
 InTime time (x ∷ xs) = (x.1.last_time ≤ time) × InTime x.1.last_time xs
 
+-- A segment belongs to an open connection or begins one, which may be closed then. After a closed
+-- connection only a SYN begins one. A datagram closes nothing.
+abbrev pub may_close : Arrival → Bool → Option ℕ → Bool
+may_close (arrival.Segment s) was_open closed =
+    was_open || (begins_one s && (begins s || not (is_some closed)))
+may_close (arrival.Datagram d) was_open closed = false
+
+-- Since when a five-tuple counts as closed after a segment of its connection: since then, if the
+-- connection isn't open any more. One that begins no longer counts as closed.
+abbrev pub closed_since : Bool → Bool → ℕ → Option ℕ → Option ℕ
+closed_since false was_open time closed = Some time
+closed_since true true time closed = closed
+closed_since true false time closed = None
+
+-- Since when the five-tuple of an arrival counts as closed after it, by whether its connection was
+-- open before and is open now, and since when it counted as closed before.
+abbrev pub closed_by : Arrival → Bool → Bool → Option ℕ → Option ℕ
+closed_by a was_open is_open closed =
+    if may_close a was_open closed then closed_since is_open was_open (time_of a) closed else closed
+
 -- How connections behave, each by itself. V is what counts of a connection, and A of an arrival. An
--- arrival changes the connection of its five-tuple, which may be over by it and count as closed
--- since some time, by what these were before.
+-- arrival changes the connection of its five-tuple, which may be over by it, by what it was before
+-- and since when it counted as closed.
 pub record Behavior (K V A : Type 0) : Type 0 where
   pub view : Connection (TlsAnalysis K) → V
   pub last : V → ℕ
@@ -44,7 +66,9 @@ pub record Behavior (K V A : Type 0) : Type 0 where
   pub is_five_tuple_of : (a : Arrival) → five_tuple (seen a) ≡ five_tuple_in a
   pub becomes : A → Option V → Option ℕ → Option V
   pub over : A → Option V → Option ℕ → Option V
-  pub closed : A → Option V → Option ℕ → Option ℕ
+  pub closed : A → Bool → Bool → Option ℕ → Option ℕ
+  pub is_closed_by : (a : Arrival) (was_open is_open : Bool) (o : Option ℕ)
+      → closed (seen a) was_open is_open o ≡ closed_by a was_open is_open o
   pub ended : V → V
 
 -- It was idle for longer than the limit.
@@ -82,10 +106,6 @@ module _ {K V A : Type 0} (b : Behavior K V A) where
       pub becomes :
           option_map b.view (at (five_tuple_in a) p.full.live) ≡ done_by b.becomes p
       pub over : views (five_tuple_in a) (outs_in p.arrives) ≡ as_list (done_by b.over p)
-      pub closed : at (five_tuple_in a) new.closed ≡ done_by b.closed p
-      pub forgotten :
-          (f : FiveTuple) → is_five_tuple (five_tuple_in a) f ≡ false
-          → at f new.closed ≡ recent (time_of a) (at f old.closed)
 
 module _ {K : Type 0} {M : K → ℕ} where
   -- No limit is reached: there aren't too many connections, none ends for memory, and none is
@@ -97,12 +117,20 @@ module _ {K : Type 0} {M : K → ℕ} where
     pub none_refused : refused_in p.arrives ≡ []
     pub none_evicted : ended_in p.evicted.ended ≡ []
 
--- The same of a packet's content, reassembled datagrams aside.
+  -- No limit of the closed connections is reached: there aren't too many, and none is forgotten for
+  -- memory.
+  pub record RemembersClosed {a : Arrival} {limit : ℕ} {old new : Table (TlsAnalysis K)}
+      {before after : Option (List (Connection (TlsAnalysis K)))}
+      (p : Processes M a limit old new before after) : Type 0 where
+    pub few_closed : length old.closed ≤ MAX_CONNECTIONS
+    pub none_dropped : new.closed ≡ p.full.closed
+
+-- A packet's content has room, and its connection behaves so. Reassembled datagrams are left out.
 module _ {K : Type 0} (M : K → ℕ) (limit : ℕ) (old new : Table (TlsAnalysis K))
     (before after : Option (List (Connection (TlsAnalysis K)))) where
   abbrev pub RoomOf : (c : Content) → HandlesContent M c limit old new before after → Type 0
   RoomOf Nothing h = ⊤
-  RoomOf (Whole a) h = HasRoom h
+  RoomOf (Whole a) h = HasRoom h × RemembersClosed h
   RoomOf (InFragments a n) h = ⊥
 
   abbrev pub BehavesOf : {V A : Type 0} → Behavior K V A → (c : Content)

@@ -50,9 +50,9 @@ pub fn the_sink_receives_what_comes_out<K>()
         → Adds before after (values_of (log_of run)) }
 {}
 
-/// An arrival that its receiver drops, or of which it isn't known yet whether its receiver takes
-/// it, ends no connection. It changes no connection's streams and no analysis: only pending
-/// segments, counts of dropped packets and accounted memory.
+/// An arrival that its receiver drops, or that becomes pending, ends no connection. It changes no
+/// connection's streams and no analysis: only pending segments, counts of dropped packets and
+/// accounted memory.
 pub fn dropped_arrivals_change_no_streams<K>()
     ensures { (M : K → ℕ) (a : Arrival) (old new : Table (TlsAnalysis K))
         (over : Option (Connection (TlsAnalysis K))) (accepts : Accepts M a old new over)
@@ -60,7 +60,7 @@ pub fn dropped_arrivals_change_no_streams<K>()
         → (over ≡ None) × ((e : FiveTuple) → ChangesCountsAt (at e old.live) (at e new.live)) }
 {}
 
-/// An arrival changes at most the connection of its own five-tuple. The others and their order are
+/// An arrival changes at most the connection of its five-tuple. The others and their order are
 /// unchanged.
 pub fn arrivals_change_only_their_own_connection<K>()
     ensures { (M : K → ℕ) (a : Arrival) (old new : Table (TlsAnalysis K))
@@ -69,7 +69,7 @@ pub fn arrivals_change_only_their_own_connection<K>()
 {}
 
 /// However the bytes of a sender are cut into segments, and in whichever order those come or are
-/// repeated, its stream has the same bytes in order: the longest front of which each byte came. The
+/// repeated, its stream has the same bytes in order: up to the first byte that didn't come. The
 /// next bytes are those of them that weren't read, unless an urgent byte comes before.
 pub fn segments_cut_otherwise_give_the_same_bytes()
     ensures same { (bytes : Bytes) (limit first : ℕ) (t u v : Stream)

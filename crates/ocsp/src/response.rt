@@ -17,7 +17,7 @@ impl OcspResponseStatus {
     pub const SUCCESSFUL: OcspResponseStatus = OcspResponseStatus(0);
     /// It couldn't parse the request.
     pub const MALFORMED_REQUEST: OcspResponseStatus = OcspResponseStatus(1);
-    /// It has an error of its own.
+    /// An internal error of the responder.
     pub const INTERNAL_ERROR: OcspResponseStatus = OcspResponseStatus(2);
     /// It can't answer now.
     pub const TRY_LATER: OcspResponseStatus = OcspResponseStatus(3);

@@ -1,3 +1,4 @@
 pub mod DialogueLemmas
 pub mod PieceLemmas
+pub mod TdsLemmas
 pub mod WalkLemmas

@@ -14,9 +14,8 @@ abbrev pub has_byte : ℕ → List ℕ → Bool
 has_byte e [] = false
 has_byte e (b ∷ body) = b == e || has_byte e body
 
--- The bytes that a phase reads at once, and what counts of them: a line to its last byte, of which
--- the first 64 bytes count, in either case; a packet of a number of bytes; or a client's first byte
--- that isn't text.
+-- The bytes that a phase reads at once, and which of them count: a whole line, whose first 64 bytes
+-- count, in either case; a packet of a number of bytes; or a client's first byte that isn't text.
 pub data IsUnit : Frame → List ℕ → List ℕ → Type 0 where
   line :
       (e : ℕ) (body : List ℕ) → has_byte e body ≡ false
@@ -41,6 +40,6 @@ pub data Keeps : Phase → List ℕ → List ℕ → Phase → Type 0 where
       (p q : Phase) (unit kept c s : List ℕ) → reads p ≡ Some Server
       → IsUnit (frame_of p) unit kept → Keeps (next p kept) c s q → Keeps p c (unit ++ s) q
 
--- A dialogue that ended with this outcome, and the bytes behind it, of which none is read.
+-- A dialogue that ended with this outcome. The bytes behind it are left.
 abbrev pub ended : Outcome → List ℕ → List ℕ → End
 ended o client server = record { place = enter (Over o); client = client; server = server }

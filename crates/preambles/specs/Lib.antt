@@ -5,6 +5,8 @@ pub mod Lines
 pub mod Packets
 pub mod Pieces
 pub mod Rows
+pub mod Tds
+pub mod TdsPayload
 pub mod Tunnels
 pub mod Walk
 pub mod Words

@@ -4,6 +4,7 @@ use Rattle.std.specs.Str.{bytes_eq}
 use Rattle.preambles.specs.Lines.{answer, behind_answer, greeting, greeting_rest, irc_answer, is_starttls}
 use Rattle.preambles.specs.Ldap.{ldap_frame, ldap_next, ldap_reads}
 use Rattle.preambles.specs.Packets.{mysql_frame, mysql_next, mysql_reads, postgres_frame, postgres_next, postgres_reads, rdp_frame, rdp_next, rdp_reads}
+use Rattle.preambles.specs.Tds.{tds_frame, tds_next, tds_reads}
 use Rattle.preambles.specs.Tunnels.{connect_frame, connect_next, connect_reads, login_frame, login_next, login_reads, proxy_frame, proxy_next, socks4_frame, socks4_next, socks4_reads, socks5_frame, socks5_next, socks5_reads}
 use Rattle.preambles.specs.Words.{begins, command_of}
 use Rattle.preambles.specs.Xmpp.{xmpp_next, xmpp_reads}
@@ -16,6 +17,7 @@ use Rattle.preambles.specs.declared.phase.PostgresPhase.TheVariants as postgres
 use Rattle.preambles.specs.declared.phase.ProxyPhase.TheVariants as proxy
 use Rattle.preambles.specs.declared.phase.RdpPhase.TheVariants as rdp
 use Rattle.preambles.specs.declared.phase.Socks4Phase.TheVariants as socks4
+use Rattle.preambles.specs.declared.phase.TdsPhase.TheVariants as tds
 use Rattle.preambles.specs.declared.phase.XmppPhase.TheVariants as xmpp
 use Rattle.preambles.specs.declared.phase.Role.TheVariants as role
 use Rattle.preambles.specs.declared.phase.Frame.{Frame}
@@ -24,7 +26,7 @@ use Rattle.preambles.specs.declared.phase.Outcome.{Outcome}
 use Rattle.preambles.specs.declared.phase.Outcome.TheVariants.{Undecided, Plain, Unknown}
 use Rattle.preambles.specs.declared.phase.Outcome.TheVariants as outcome
 use Rattle.preambles.specs.declared.phase.Phase.{Phase}
-use Rattle.preambles.specs.declared.phase.Phase.TheVariants.{Opening, Greeting, GreetingRest, Command, Value, Reply, Listing, IrcCommand, IrcReply, Connect, Socks4, Socks5, Proxy, Postgres, Mysql, Rdp, Ldap, Xmpp, Over}
+use Rattle.preambles.specs.declared.phase.Phase.TheVariants.{Opening, Greeting, GreetingRest, Command, Value, Reply, Listing, IrcCommand, IrcReply, Connect, Socks4, Socks5, Proxy, Postgres, Mysql, Rdp, Tds, Ldap, Xmpp, Over}
 use Rattle.preambles.specs.declared.phase.Phase.TheVariants as phase
 use Rattle.preambles.specs.declared.phase.Protocol.TheVariants as protocol
 use Rattle.preambles.specs.declared.phase.Side.{Side}
@@ -45,6 +47,7 @@ packet_reads (Socks5 q) = socks5_reads q
 packet_reads (Postgres q) = postgres_reads q
 packet_reads (Mysql q) = mysql_reads q
 packet_reads (Rdp q) = rdp_reads q
+packet_reads (Tds q) = tds_reads q
 packet_reads (Ldap r q) = ldap_reads r
 packet_reads (Xmpp q) = xmpp_reads q
 packet_reads p = Client
@@ -74,6 +77,7 @@ frame_of (Proxy q) = proxy_frame q
 frame_of (Postgres q) = postgres_frame q
 frame_of (Mysql q) = mysql_frame q
 frame_of (Rdp q) = rdp_frame q
+frame_of (Tds q) = tds_frame q
 frame_of (Ldap r q) = ldap_frame q
 frame_of (Xmpp q) = frame.Until 62
 frame_of p = frame.Until 10
@@ -95,8 +99,8 @@ first_line line =
     else Greeting (command_of line)
 
 -- A first byte that isn't text: of a length of 4 bytes (PostgreSQL), of TPKT's version (RDP), of
--- SOCKS's version, of the PROXY protocol's version 2, of a length of 32 (MySQL), of a SEQUENCE
--- (LDAP), of a tag (XMPP).
+-- SOCKS's version, of the PROXY protocol's version 2, of a packet's type (TDS), of a length of 32
+-- (MySQL), of a SEQUENCE (LDAP), of a tag (XMPP).
 unfoldable pub first_byte : ℕ → Phase
 first_byte b =
     if b == 0 then Postgres postgres.Request
@@ -104,6 +108,7 @@ first_byte b =
     else if b == 4 then Socks4 socks4.Request
     else if b == 5 then phase.Login login.Count
     else if b == 13 then Proxy proxy.Header
+    else if b == 18 then Tds tds.Header
     else if b == 32 then Mysql mysql.Request
     else if b == 48 then Ldap role.Request ldap.Length
     else if b == 60 then Xmpp xmpp.First
@@ -130,6 +135,7 @@ packet_next (Proxy q) b = proxy_next q b
 packet_next (Postgres q) b = postgres_next q b
 packet_next (Mysql q) b = mysql_next q b
 packet_next (Rdp q) b = rdp_next q b
+packet_next (Tds q) b = tds_next q b
 packet_next (Ldap r q) b = ldap_next r q b
 packet_next (Xmpp q) b = xmpp_next q b
 packet_next p b = Over Unknown
@@ -153,8 +159,9 @@ unfoldable pub outcome_of : Phase → Outcome
 outcome_of (Over o) = o
 outcome_of p = Undecided
 
--- What was read before these phases shows the protocol: a greeting, or a line that no other protocol
--- begins with. Any number of lines may follow. In front of the others a few packets were read.
+-- In front of these phases the bytes have shown which protocol it is, by the server's greeting or
+-- by a line with which no other protocol begins. Any number of lines may follow. In front of the
+-- other phases there are a few packets at most, which may still turn out to be of no dialogue.
 unfoldable pub recognizes : Phase → Bool
 recognizes (GreetingRest d c) = true
 recognizes (Command d) = true

@@ -105,8 +105,8 @@ unfoldable pub walk_behind : Side → List ℕ → List ℕ → List ℕ → Pla
 walk_behind Client bytes client server p = read (bytes ++ client) server p
 walk_behind Server bytes client server p = read client (bytes ++ server) p
 
--- The side of which a byte is read next, if the client has m more bytes, and the server n; none if
--- the side that is due has none, or no side is due.
+-- The side whose byte is read next, if the client has m more bytes and the server n. None if the
+-- side that is due has none, or no side is due.
 abbrev pub IsNextDue : Option Side → ℕ → ℕ → Place → Type 0
 IsNextDue (Some Client) m n p = (0 < m) × (is_due Client p ≡ true)
 IsNextDue (Some Server) m n p = (0 < n) × (is_due Server p ≡ true)

@@ -1,10 +1,13 @@
-//! Laws about dialogues. Each is the contract of a function with an empty body.
+//! Laws about dialogues and the packets behind one. Each is the contract of a function with an
+//! empty body.
 ghost use Rattle.std.specs.Prelude.{◌≡◌, ◌++◌, List, ℕ};
 ghost use Rattle.preambles.specs.Pieces.{read_on};
 ghost use Rattle.preambles.specs.Dialogues.{Keeps, ended};
+ghost use Rattle.preambles.specs.TdsPayload.{Holds, begun as first_position, taken_behind, taken_from};
 ghost use Rattle.preambles.specs.Walk.{Place, begun, read};
 ghost use Rattle.preambles.specs.declared.phase.Outcome.{Outcome};
 ghost use Rattle.preambles.specs.declared.phase.Phase.TheVariants.{Opening, Over};
+ghost use Rattle.preambles.specs.declared.tds_payload.Position.{Position};
 
 /// However the bytes of both sides are cut, reading comes to the same place: what a first part left
 /// unread is read in front of the rest.
@@ -23,4 +26,19 @@ pub fn tls_begins_behind_the_dialogue()
         → Keeps Opening client server (Over outcome)
         → read (client ++ more_client) (server ++ more_server) begun
         ≡ ended outcome more_client more_server }
+{}
+
+/// However the bytes of a side's TDS packets are cut, the same TLS is taken out of them.
+#[tactic(auto, using(crate::proofs::TdsLemmas::cut))]
+pub fn cuts_of_packets_change_nothing()
+    ensures { (position : Position) (bytes more : List ℕ)
+        → taken_from position (bytes ++ more)
+        ≡ taken_behind (taken_from position bytes) more }
+{}
+
+/// What is taken out of TDS packets, and behind these, is the TLS that was sent in them.
+#[tactic(auto, using(crate::proofs::TdsLemmas::held))]
+pub fn tls_in_packets_is_taken_out()
+    ensures { (bytes tls : List ℕ) → Holds bytes tls
+        → (taken_from first_position bytes).tls ≡ tls }
 {}

@@ -8,9 +8,10 @@
 //! `specs/Rows.antt` is the grammar: which side each phase reads, how far, and what follows. The
 //! first 64 bytes of a line or packet decide what follows; the others are passed over.
 //!
+//! Behind the dialogue of SQL Server, TLS is the payload of packets: a [`TdsReader`] takes it out.
+//!
 //! Not followed:
 //!
-//! - SQL Server: its TLS records are the payload of TDS packets;
 //! - literals of IMAP (RFC 9051, section 4.3): a command that waits for one ends the dialogue, and
 //!   the bytes of one that is sent at once (`{5+}`) are taken for lines;
 //! - mail that is sent before STARTTLS.
@@ -24,9 +25,12 @@ mod packets;
 mod phase;
 mod preamble;
 mod rows;
+mod tds;
+mod tds_payload;
 mod tunnels;
 mod words;
 mod xmpp;
 
 pub use phase::{Outcome, Protocol, Side};
 pub use preamble::Preamble;
+pub use tds_payload::TdsReader;

@@ -42,6 +42,9 @@ pub enum Protocol {
     Mysql,
     /// RDP's negotiation (MS-RDPBCGR, section 2.2.1).
     Rdp,
+    /// SQL Server's PRELOGIN (MS-TDS, section 2.2.6.5). Behind it TLS comes in packets, of which
+    /// [`TdsReader`](crate::TdsReader) takes it out.
+    Tds,
     /// LDAP's StartTLS (RFC 4511, section 4.14).
     Ldap,
     /// XMPP's STARTTLS (RFC 6120, section 5).
@@ -153,6 +156,8 @@ pub(crate) enum Phase {
     Mysql(MysqlPhase),
     /// RDP.
     Rdp(RdpPhase),
+    /// TDS, of SQL Server.
+    Tds(TdsPhase),
     /// LDAP.
     Ldap(Role, LdapPhase),
     /// XMPP.
@@ -275,6 +280,19 @@ pub(crate) enum RdpPhase {
     Answer,
     /// The connection confirm.
     Confirm,
+}
+
+/// TDS, behind the client's first byte.
+#[derive(Clone, Copy)]
+pub(crate) enum TdsPhase {
+    /// The rest of the header of PRELOGIN.
+    Header,
+    /// The client's options.
+    Options(u32),
+    /// The header of the server's answer.
+    AnswerHeader,
+    /// The server's options.
+    Answer(u32),
 }
 
 /// Whose message of LDAP this is.

@@ -112,8 +112,9 @@ impl Preamble {
         side_read(self.phase)
     }
 
-    /// Returns whether the bytes that were read show the protocol, of which any number of lines may
-    /// follow. Until then a dialogue that turns out to be none was a few lines or packets long.
+    /// Returns whether the bytes so far have shown which protocol it is. From then on they needn't
+    /// be kept, however long the dialogue becomes. Before, they are a few lines or packets, which
+    /// may still turn out to be of no dialogue.
     pub fn is_recognized(&self) -> bool
         ensures { result ≡ recognized (view self.now).phase }
     {
@@ -177,8 +178,8 @@ impl Preamble {
         count
     }
 
-    /// Returns the side of which a byte is read next, by how many more bytes each has; `None` if it
-    /// has none.
+    /// Returns the side whose byte is read next, by how many more bytes each has; `None` if that
+    /// side has none.
     fn next_due(&self, client_left: usize, server_left: usize) -> Option<Side>
         ensures { IsNextDue result client_left server_left (view self.now) }
     {

@@ -10,8 +10,9 @@ use crate::packets::{
 };
 use crate::phase::{
     Command, ConnectPhase, Frame, LdapPhase, LoginPhase, MysqlPhase, Outcome, Phase, PostgresPhase,
-    Protocol, ProxyPhase, RdpPhase, Role, Side, Socks4Phase, Word, XmppPhase,
+    Protocol, ProxyPhase, RdpPhase, Role, Side, Socks4Phase, TdsPhase, Word, XmppPhase,
 };
+use crate::tds::{tds_frame, tds_next, tds_reads};
 use crate::tunnels::{
     connect_frame, connect_next, connect_reads, login_frame, login_next, login_reads, proxy_frame,
     proxy_next, socks4_frame, socks4_next, socks4_reads, socks5_frame, socks5_next, socks5_reads,
@@ -62,6 +63,7 @@ fn packet_reads(phase: Phase) -> Side
         Phase::Postgres(part) => postgres_reads(part),
         Phase::Mysql(part) => mysql_reads(part),
         Phase::Rdp(part) => rdp_reads(part),
+        Phase::Tds(part) => tds_reads(part),
         Phase::Ldap(role, _) => ldap_reads(role),
         Phase::Xmpp(part) => xmpp_reads(part),
         _ => Side::Client,
@@ -83,6 +85,7 @@ pub(crate) fn frame_of(phase: Phase) -> Frame
         Phase::Postgres(part) => postgres_frame(part),
         Phase::Mysql(part) => mysql_frame(part),
         Phase::Rdp(part) => rdp_frame(part),
+        Phase::Tds(part) => tds_frame(part),
         Phase::Ldap(_, part) => ldap_frame(part),
         Phase::Xmpp(_) => Frame::Until(b'>'),
         _ => Frame::Until(b'\n'),
@@ -130,6 +133,7 @@ fn first_byte(byte: u8) -> Phase
         4 => Phase::Socks4(Socks4Phase::Request),
         5 => Phase::Login(LoginPhase::Count),
         b'\r' => Phase::Proxy(ProxyPhase::Header),
+        18 => Phase::Tds(TdsPhase::Header),
         b' ' => Phase::Mysql(MysqlPhase::Request),
         b'0' => Phase::Ldap(Role::Request, LdapPhase::Length),
         b'<' => Phase::Xmpp(XmppPhase::First),
@@ -191,6 +195,7 @@ fn packet_next(phase: Phase, front: &[u8]) -> Phase
         Phase::Postgres(part) => postgres_next(part, front),
         Phase::Mysql(part) => mysql_next(part, front),
         Phase::Rdp(part) => rdp_next(part, front),
+        Phase::Tds(part) => tds_next(part, front),
         Phase::Ldap(role, part) => ldap_next(role, part, front),
         Phase::Xmpp(part) => xmpp_next(part, front),
         _ => Phase::Over(Outcome::Unknown),
@@ -230,7 +235,8 @@ pub(crate) fn outcome_of(phase: Phase) -> Outcome
     }
 }
 
-/// Whether what was read before a phase shows the protocol, of which any number of lines may follow.
+/// Whether the bytes in front of a phase have shown which protocol it is. Any number of lines may
+/// follow.
 #[tactic(auto, unfolding(crate::specs::Rows::recognizes))]
 pub(crate) fn recognizes(phase: Phase) -> bool
     ensures { result ≡ recognized phase }

@@ -34,8 +34,8 @@ abbrev pub is_in_row : Known → List Doubtful → Doubtful → Bool
 is_in_row known ks k =
     is_number (side_in known k.sender).next k.first || has_any (is_before k) ks
 
--- Which one goes out of a full room: that of the greatest number, by claims, by its place, by its
--- reasons, of which there are fewer than 8; and of several the newest.
+-- The one with the greatest number goes out of a full room, the newest of several. The number is
+-- made of claims, of its place, and of the count of its reasons (fewer than 8).
 abbrev pub expendability : Known → List Doubtful → Doubtful → ℕ
 expendability known ks k =
     (if is_claimed known.claims.now k then 0 else 16)

@@ -9,9 +9,9 @@ use Rattle.tcp_acceptance.specs.declared.known.Heard.{Heard}
 use Rattle.tcp_acceptance.specs.declared.segment.Reasons.{Reasons}
 use Rattle.tcp_acceptance.specs.declared.segment.Side.{Side}
 
--- Of several that were taken that of the least number is first, and of those with the same the one
--- that came first: those whose reasons lost packets explain, then those whose end a claim hits, then
--- those with fewer reasons, of which there are fewer than 8.
+-- Taken segments are handed on by this number, the least first, equal ones in order of arrival:
+-- first those whose reasons lost packets explain, then those whose end a claim hits, then those
+-- with fewer reasons (of at most 7).
 abbrev pub rank : Known → Doubtful → ℕ
 rank known k =
     (if is_explained known k then 0 else 16)
@@ -47,7 +47,8 @@ has_missing ack known k =
 
 abbrev pub is_acknowledged : Side → ℕ → Known → Doubtful → Bool
 is_acknowledged sender ack known k =
-    is_side k.sender sender && (is_over (side_in known sender).reached ack && has_missing ack known k)
+    is_side k.sender sender
+    && (is_over (side_in known sender).reached ack && has_missing ack known k)
 
 abbrev pub place_acknowledged : Side → ℕ → Known → List Doubtful → Option ℕ
 place_acknowledged sender ack known ks = place_first (is_acknowledged sender ack known) known ks

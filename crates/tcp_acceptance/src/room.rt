@@ -352,8 +352,8 @@ impl WaitingRoom {
         Ok(true)
     }
 
-    /// Drops those of which a byte differs from certain bytes of their sender, and those of which
-    /// nothing is missing any more. The others wait on.
+    /// Drops each segment whose bytes differ from certain bytes of its sender, or are all known by
+    /// now. The others wait on.
     pub fn contradicted_by(&mut self, certain: &Certain<'_>, dropped: &mut Tally)
         ensures left { self.new ≡ without (is_contradicted certain.now) self.old }
         ensures counted { dropped.new

@@ -9,7 +9,8 @@ use std::alloc::{AllocError, Global};
 
 /// Returns a record with its line break.
 fn row(alloc: Global, fields: &[&[u8]]) -> Result<Vec<u8>, Error>
-    ensures { IfOk result (λ row. row.items ≡ row_text default_writer (map (λ f. f.now) fields.now)) }
+    ensures { IfOk result (λ row.
+        row.items ≡ row_text default_writer (map (λ f. f.now) fields.now)) }
 {
     let mut writer = WriterBuilder::new().from_writer(Vec::new(alloc));
     writer.write_fields(fields)?;

@@ -48,6 +48,8 @@ use Rattle.tls_analyzer.specs.Analyzers.{
   side_state,
   is_over,
   over_by,
+  is_unknown,
+  is_unknown_by,
   known_as_tls,
   waiting,
   with_side_state,
@@ -161,6 +163,26 @@ other_at_once t n s b x none enough is other next =
       subst (λ y. IsNext t s y n) is next,
       refl,
     )
+
+-- A side that is known as TLS is read like one whose first bytes are looked at.
+unknown_state : (h : SideState) → is_unknown_by h ≡ true → h ≡ Unknown
+unknown_state Unknown e = refl
+unknown_state Clear e = cc
+unknown_state Encrypted e = cc
+unknown_state Other e = cc
+
+pub found_alike : (t u : Analyzer) (s : Side) (b : Bytes) → is_unknown t s ≡ true
+    → (waiting t s).items ≡ [] → 5 ≤ length b → begins_tls (take 5 b) ≡ true
+    → IsReadOn (known_as_tls t s) s b u → IsReadOn t s b u
+found_alike t u s b unknown none enough tls received =
+    let known : IsKnown (side_state (known_as_tls t s) s) =
+    subst IsKnown (sym (side_state_with (record t { is_tls = true }) s Clear)) (λ e. absurd cc) in
+    subst (λ h. IsReadBy h t s b u) (sym (unknown_state (side_state t s) unknown))
+    (at_once true t u s b (take 5 b) (ap length none) enough refl tls (
+      t,
+      waits_for_none t s none,
+      received_next (known_as_tls t s) u s b (side_state (known_as_tls t s) s) known received,
+    ))
 
 -- If a piece is too short, the first bytes are the same whether they are stored or new.
 front_moves : (w p q : Bytes) → length p < 5 - length w → front (w ++ p) q ≡ front w (p ++ q)

@@ -179,8 +179,7 @@ IsReadOn t s b u = IsReadBy (side_state t s) t s b u
 -- The side begins with a ClientHello of SSL 2.0's form. What follows it is TLS.
 abbrev pub IsReadInSsl2 : Analyzer → Side → ssl2.ClientHello → Analyzer → Type 0
 IsReadInSsl2 t s x u = IsHelloNoted t.conversation_state s x u.conversation_state
-    × (u ≡ with_side_state (record t { conversation_state = u.conversation_state; is_tls = true }) s
-    Clear)
+    × (u ≡ known_as_tls (record t { conversation_state = u.conversation_state }) s)
 
 -- The analyzer after a fault of the side, unless the side was over.
 abbrev pub with_fault_unless : Bool → Analyzer → Side → Analyzer

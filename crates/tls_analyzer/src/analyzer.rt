@@ -9,7 +9,7 @@ ghost use Rattle.tls_flow.specs.Table.{outcome_at};
 ghost use Rattle.tls_observer.specs.Ends.{is_established as established_by, is_resumed as resumed_by};
 ghost use Rattle.tls_analyzer.specs.Capacity.{capacity_of};
 ghost use Rattle.tls_analyzer.specs.Following.{known_of};
-ghost use Rattle.tls_analyzer.specs.Analyzers.{IsFirstRead, has_finished_by as finished_by, IsReadAsNone, IsReadInSsl2, IsReadOn, IsNew, IsNext, IsTaken, IsAnalyzerOf, Waits, side_state as side_state_of, is_over as is_over_in, is_tls_on as is_tls_on_side, is_unknown as is_unknown_in, waiting as waiting_of, with_side_state};
+ghost use Rattle.tls_analyzer.specs.Analyzers.{IsFirstRead, has_finished_by as finished_by, IsReadAsNone, IsReadInSsl2, IsReadOn, IsNew, IsNext, IsTaken, IsAnalyzerOf, Waits, side_state as side_state_of, is_over as is_over_in, is_tls_on as is_tls_on_side, is_unknown as is_unknown_in, known_as_tls, waiting as waiting_of, with_side_state};
 
 use crate::conversation_state::ConversationState;
 use ssl2_hello::Ssl2ClientHello;
@@ -272,8 +272,7 @@ impl Analyzer {
     {
         let (front, _) = bytes.split_at(HEADER_LEN);
         if begins_tls(front) {
-            self.is_tls = true;
-            self.set_side_state(side, SideState::Clear);
+            self.begin_tls(side);
             return self.follow(alloc, side, bytes, observer);
         }
         self.follow(alloc, side, front, observer)?;
@@ -303,14 +302,22 @@ impl Analyzer {
         let mut first = self.take_waiting(alloc, side);
         first.extend_from_slice(front)?;
         if begins_tls(first.as_slice()) {
-            self.is_tls = true;
-            self.set_side_state(side, SideState::Clear);
+            self.begin_tls(side);
             self.follow(alloc, side, first.as_slice(), observer)?;
             return self.follow(alloc, side, rest, observer);
         }
         self.follow(alloc, side, first.as_slice(), observer)?;
         self.set_side_state(side, SideState::Other);
         Ok(())
+    }
+
+    /// Sets a side to TLS, of which nothing was read. Its next bytes are read as records, without a
+    /// look at how they begin. For a caller that found where its TLS begins.
+    pub fn begin_tls(&mut self, side: Direction)
+        ensures { self.new ≡ known_as_tls self.old side }
+    {
+        self.is_tls = true;
+        self.set_side_state(side, SideState::Clear);
     }
 
     /// Reads a ClientHello of SSL 2.0's form (RFC 5246, appendix E.2) with which a side begins.
@@ -326,8 +333,7 @@ impl Analyzer {
         ensures { OnOk result (IsReadInSsl2 self.old side (view_ssl2_hello hello.now) self.new) }
     {
         self.conversation_state.analyze_ssl2(alloc, side, hello)?;
-        self.is_tls = true;
-        self.set_side_state(side, SideState::Clear);
+        self.begin_tls(side);
         Ok(())
     }
 

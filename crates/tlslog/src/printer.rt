@@ -65,8 +65,8 @@ fn print_messages<W: Write>(
     Ok(())
 }
 
-/// Prints and forgets the certificates of a connection that arrived at this time, up to the limit of
-/// its lines.
+/// Prints and forgets the certificates of a connection that arrived at this time, up to the limit
+/// of its lines.
 fn print_certificates<W: Write>(
     alloc: Global,
     printer: &StylePrinter,

@@ -110,6 +110,12 @@ def repeated_record(datagram: bytes, record: Record, message: Message) -> list[b
     return [datagram, record.of(other(message)).bytes()]
 
 
+def earlier_number(datagram: bytes, record: Record, message: Message) -> list[bytes]:
+    """Adds a hello with other bytes before it, in a record with the number of its sender's first one
+    (4.1.2.6)."""
+    return [replace(record, number=0).of(other(message)).bytes(), datagram]
+
+
 def repeated_message(datagram: bytes, record: Record, message: Message) -> list[bytes]:
     """Repeats the message after it in a new record, with its message_seq and other bytes
     (4.2.2)."""
@@ -255,6 +261,7 @@ ALL = {
         future_message,
         future_hello,
         repeated_record,
+        earlier_number,
         repeated_message,
         next_message,
         unbegun_epoch,

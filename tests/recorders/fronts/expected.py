@@ -54,8 +54,9 @@ def of_front(file: Path, port: int, seen: Line, found_by: str) -> list[Line]:
         "orig_preamble_bytes": seen["orig_front"],
         "resp_preamble_bytes": seen["resp_front"],
     }
-    # A side without a preamble lacks the field.
-    none = [field for field in ("orig_preamble_bytes", "resp_preamble_bytes") if not by_peer[field]]
+    # A side without a preamble lacks the field, and so does a client that names no server.
+    may_lack = ("server_name", "orig_preamble_bytes", "resp_preamble_bytes")
+    none = [field for field in may_lack if not by_peer[field]]
     by_peer = {field: value for field, value in by_peer.items() if field not in none}
     if not found:
         fields = {

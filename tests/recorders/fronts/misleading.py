@@ -54,6 +54,25 @@ BIND = message(1, element(0x60, b"\x02\x01\x03\x04\x00" + element(0x80, FAKE)))
 BOUND = message(1, element(0x61, b"\x0a\x01\x00\x04\x00\x04\x00"))
 START_TLS = message(2, element(0x77, element(0x80, b"1.3.6.1.4.1.1466.20037")))
 STARTED = message(2, element(0x78, b"\x0a\x01\x00\x04\x00\x04\x00"))
+# Options of PRELOGIN ([MS-TDS], section 2.2.6.5): VERSION, ENCRYPTION, INSTOPT (an instance's name).
+VERSION, ENCRYPTION, INSTANCE = 0, 1, 2
+# Values of ENCRYPTION: on, and not supported.
+ON, NOT_SUPPORTED = b"\1", b"\2"
+PRELOGIN, ANSWER, LOGIN = 18, 4, 16
+
+
+def options(*known: tuple[int, bytes]) -> bytes:
+    """Returns options of PRELOGIN: the number, the place and the length of each, and their values."""
+    place, heads = 5 * len(known) + 1, b""
+    for number, value in known:
+        heads += bytes([number]) + place.to_bytes(2, "big") + len(value).to_bytes(2, "big")
+        place += len(value)
+    return heads + b"\xff" + b"".join(value for _, value in known)
+
+
+def packet(kind: int, content: bytes, status: int = 1) -> bytes:
+    """Returns a packet of TDS ([MS-TDS], section 2.2.3.1). The status 1 is that of a message's last."""
+    return bytes([kind, status]) + (len(content) + 8).to_bytes(2, "big") + b"\0\0\1\0" + content
 
 
 @dataclass(frozen=True)
@@ -89,6 +108,15 @@ def hello_in_small_records() -> list[tuple[str, bytes]]:
     return [("c", records + behind), *others]
 
 
+def tls_in_packets() -> list[tuple[str, bytes]]:
+    """Returns the stored handshake in packets of TDS, and what follows it without: the ClientHello in
+    two packets, of which the first has 20 bytes."""
+    (_, first), *others = stored_talk()
+    hello = packet(PRELOGIN, first[:20], 0) + packet(PRELOGIN, first[20:])
+    handshake = [(side, packet(PRELOGIN, part)) for side, part in others[:3]]
+    return [("c", hello), *handshake, *others[3:]]
+
+
 def client_hello() -> bytes:
     return stored_talk()[0][1]
 
@@ -111,6 +139,8 @@ def talks() -> dict[str, Talk]:
     ).encode() + b"\r\n\r\n"
     tls = stored_talk()
     answer = b"".join(part for side, part in tls if side == "s")
+    version = (VERSION, b"\x10\0\4\x20\0\0")
+    prelogin = packet(PRELOGIN, options(version, (ENCRYPTION, ON), (INSTANCE, FAKE + b"\0")))
     return {
         "misleading_smtp_noop": Talk(
             25, [greeting, *hello, ("c", b"NOOP " + FAKE + b"\r\n"), ("s", b"250 OK\r\n"), *starttls],
@@ -138,6 +168,26 @@ def talks() -> dict[str, Talk]:
             [connect[0], ("s", challenge + FAKE), ("c", connect[0][1][:-2]
               + b"Proxy-Authorization: Basic bWU6aXQ=\r\n\r\n"), connect[1]],
             "http_connect",
+        ),
+        "misleading_tds_instance": Talk(
+            1433,
+            [
+                ("c", prelogin),
+                ("s", packet(ANSWER, options(version, (ENCRYPTION, ON), (INSTANCE, b"\0")))),
+            ],
+            "tds",
+            tls_in_packets(),
+        ),
+        "tds_without_tls": Talk(
+            1433,
+            [
+                ("c", prelogin),
+                ("s", packet(ANSWER, options(version, (ENCRYPTION, NOT_SUPPORTED)))),
+                ("c", packet(LOGIN, client_hello())),
+                ("s", packet(ANSWER, answer)),
+            ],
+            None,
+            [],
         ),
         "proxy_in_front_of_smtp": Talk(
             25, [("c", b"PROXY TCP4 192.0.2.10 192.0.2.20 40000 25\r\n"), *smtp], "smtp"

@@ -86,3 +86,46 @@ class Server(threading.Thread):
             request = talk.recv(4096)
             if request.startswith(b"GET "):
                 talk.sendall(b"HTTP/1.0 200 OK\r\nContent-Length: 3\r\n\r\nok\n")
+
+
+class PacketServer(Server):
+    """Speaks TLS in packets of TDS until the handshake is over, and then without ([MS-TDS], section
+    2.2.6.5). It reads one message of the client, and closes."""
+
+    HEADER, PRELOGIN, LAST = 8, 18, 1
+
+    def speak_tls(self, connection: socket.socket) -> None:
+        received, sent = ssl.MemoryBIO(), ssl.MemoryBIO()
+        talk = self.context.wrap_bio(received, sent, server_side=True)
+        while True:
+            try:
+                talk.do_handshake()
+                break
+            except ssl.SSLWantReadError:
+                self.say(connection, sent.read())
+                received.write(self.payload(connection))
+        self.say(connection, sent.read())
+        self.seen |= {"version": talk.version(), "cipher": talk.cipher()[0]}
+        connection.settimeout(2)
+        received.write(connection.recv(4096))
+        self.seen["login"] = len(talk.read(4096))
+
+    def payload(self, connection: socket.socket) -> bytes:
+        header = self.exactly(connection, self.HEADER)
+        if header[0] != self.PRELOGIN:
+            raise OSError(f"a packet of type {header[0]}")
+        return self.exactly(connection, int.from_bytes(header[2:4], "big") - self.HEADER)
+
+    def exactly(self, connection: socket.socket, count: int) -> bytes:
+        found = b""
+        while len(found) < count:
+            part = connection.recv(count - len(found))
+            if not part:
+                raise EOFError
+            found += part
+        return found
+
+    def say(self, connection: socket.socket, tls: bytes) -> None:
+        if tls:
+            length = (len(tls) + self.HEADER).to_bytes(2, "big")
+            connection.sendall(bytes([self.PRELOGIN, self.LAST]) + length + bytes(4) + tls)

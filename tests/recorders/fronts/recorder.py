@@ -1,7 +1,7 @@
 """Captures of TLS after other bytes, from live peers, with their expected lines in wanted.json.
 
-It needs `openssl`, `gnutls-cli`, `gnutls-serv`, `curl`, `psql`, `chromium`, `tcpdump`, `tshark`,
-`unshare`, `stdbuf` and `ip`.
+It needs `openssl`, `gnutls-cli`, `gnutls-serv`, `curl`, `psql`, `tsql`, `chromium`, `tcpdump`,
+`tshark`, `unshare`, `stdbuf` and `ip`.
 """
 
 from __future__ import annotations
@@ -33,6 +33,7 @@ NAME = "example.test"
 # `found_by`, by a part of the capture's name.
 DIALOGUES = {
     "smtp": "smtp",
+    "lmtp": "lmtp",
     "imap": "imap",
     "pop3": "pop3",
     "ftp": "ftp",
@@ -47,7 +48,15 @@ DIALOGUES = {
     "socks5": "socks5",
     "socks4": "socks4",
     "rdp": "rdp",
+    "tds": "tds",
 }
+# FreeTDS's client, which asks for TLS of all that follows.
+FREETDS = f"""[it]
+host = {peers.HOST}
+port = 1433
+tds version = 7.4
+encryption = require
+"""
 # Version 2: a signature, version and command, TCP over IPv4, 12 bytes: addresses and ports (the
 # PROXY protocol, section 2.2).
 PROXY_2 = bytes.fromhex(
@@ -102,6 +111,7 @@ def captures() -> (
         "starttls_smtp": (25, talks.smtp, V13, starttls("smtp", 25)),
         "starttls_smtp_tls12": (25, talks.smtp, V12, starttls("smtp", 25, "-tls1_2")),
         "starttls_smtp_gnutls": (25, talks.smtp, V13, gnutls),
+        "starttls_lmtp": (24, talks.lmtp, V13, starttls("lmtp", 24)),
         "starttls_imap": (143, talks.imap, V12, starttls("imap", 143, "-tls1_2")),
         "starttls_pop3": (110, talks.pop3, V13, starttls("pop3", 110)),
         "starttls_ftp": (21, talks.ftp, V12, starttls("ftp", 21, "-tls1_2")),
@@ -134,6 +144,7 @@ def captures() -> (
         "socks5": (1080, talks.socks5, V13, curl(8443, "--socks5-hostname 127.0.0.1:1080")),
         "socks4a": (1080, talks.socks4a, V12, curl(8443, "--socks4a 127.0.0.1:1080")),
         "rdp": (3389, talks.rdp, V12, ByHand(3389, RDP, 19)),
+        "tds": (1433, talks.tds, V12, "env FREETDSCONF=freetds.conf tsql -S it -U me -P it"),
         "hello_in_a_body": (
             80,
             talks.upload,
@@ -168,7 +179,8 @@ def record_behind(
     client: str | ByHand,
 ) -> list[Line]:
     file = folder / f"{name}.pcap"
-    server = plain.Server(port, talk, work, highest)
+    kind = plain.PacketServer if talk is talks.tds else plain.Server
+    server = kind(port, talk, work, highest)
     with peers.Dump(file, f"tcp port {port}"):
         server.start()
         run_client(work, client)
@@ -199,6 +211,7 @@ def record(folder: Path, chosen: list[str]) -> bool:
         work = Path(room)
         peers.make_keys(work)
         (work / "hello.record").write_bytes(shifted.stored_hello())
+        (work / "freetds.conf").write_text(FREETDS)
         for name in chosen or names():
             if name in known:
                 lines = record_behind(work, folder, name, *known[name])

@@ -40,6 +40,16 @@ def smtp(plain: Plain) -> None:
     )
 
 
+def lmtp(plain: Plain) -> None:
+    """RFC 3207, over RFC 2033."""
+    plain.say(b"220 mail.example.test LMTP\r\n")
+    lines(
+        plain,
+        b"250-mail.example.test\r\n250 STARTTLS\r\n",
+        b"220 2.0.0 Ready to start TLS\r\n",
+    )
+
+
 def imap(plain: Plain) -> None:
     """RFC 9051, section 6.2.1."""
     plain.say(b"* OK IMAP4rev1 Service Ready\r\n")
@@ -117,6 +127,13 @@ def rdp(plain: Plain) -> None:
     [MS-RDPBCGR], section 2.2.1.2: PROTOCOL_SSL."""
     plain.take(int.from_bytes(plain.take(4)[2:], "big") - 4)
     plain.say(bytes.fromhex("03 00 00 13 0e d0 00 00 12 34 00 02 00 08 00 01 00 00 00"))
+
+
+def tds(plain: Plain) -> None:
+    """PRELOGIN of SQL Server's TDS ([MS-TDS], section 2.2.6.5): a packet, whose length is in the third
+    and fourth byte. The answer's options are VERSION, and ENCRYPTION: on."""
+    plain.take(int.from_bytes(plain.take(8)[2:4], "big") - 8)
+    plain.say(bytes.fromhex("04 01 001a 0000 01 00 00 000b 0006 01 0011 0001 ff 1000 0420 0000 01"))
 
 
 def proxy_header(plain: Plain) -> None:

@@ -1,6 +1,7 @@
 use Rattle.std.proofs.Common.{inl, refl, ap, ◌∙◌}
 use Rattle.std.specs.Map.{set_value}
-use Rattle.lru.specs.LruCache.{lru_cache, promoted}
+use Rattle.lru.specs.LruCache.{promoted}
+use Rattle.connections.specs.ByFiveTuple.{keyed_table}
 use Rattle.connections.specs.FiveTuple.{is_five_tuple}
 use Rattle.connections.proofs.HashLemmas.{lookup-unhashed, promoted-unhashed, set_value-unhashed, test, AreHashed-promoted, AreHashed-set_value}
 use Rattle.connections.proofs.by_five_tuple.ByFiveTuple.get_mut.Goals as goal
@@ -38,7 +39,7 @@ returns g c =
     ∙ ap (λ l. set_value (is_five_tuple e) l w)
     (promoted-unhashed keys e ends is xs c.self.invariant.0) in
     rw (← c.self.view_is) (
-      (λ i. inl (c.in_ok-value.value.ghost_name, λ w. ap (λ es. lru_cache es cap) (written w) i)),
+      (λ i. inl (c.in_ok-value.value.ghost_name, λ w. ap (λ es. keyed_table keys es cap) (written w) i)),
       record {
         writes_back = tt;
         value =

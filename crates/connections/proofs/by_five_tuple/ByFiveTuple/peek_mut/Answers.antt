@@ -1,5 +1,5 @@
 use Rattle.std.proofs.Common.{inl, refl, ap, ◌∙◌}
-use Rattle.lru.specs.LruCache.{lru_cache}
+use Rattle.connections.specs.ByFiveTuple.{keyed_table}
 use Rattle.connections.proofs.HashLemmas.{lookup-unhashed, set_value-unhashed, AreHashed-set_value}
 use Rattle.connections.proofs.by_five_tuple.ByFiveTuple.peek_mut.Goals as goal
 
@@ -31,7 +31,7 @@ returns g c =
     rw (← c.self.view_is) (
       (λ i. inl (
         c.in_ok-value.value.ghost_name,
-        λ w. ap (λ es. lru_cache es cap)
+        λ w. ap (λ es. keyed_table keys es cap)
             (set_value-unhashed keys e ends is xs w c.self.invariant.0) i,
       )),
       record {

@@ -1,5 +1,5 @@
 use Rattle.std.proofs.Common.{ap, refl, ◌∙◌}
-use Rattle.lru.specs.LruCache.{lru_cache}
+use Rattle.connections.specs.ByFiveTuple.{keyed_table}
 use Rattle.connections.proofs.HashLemmas.{lookup-unhashed, remove_entry-unhashed, AreHashed-remove_entry}
 use Rattle.connections.proofs.by_five_tuple.ByFiveTuple.pop.Goals as goal
 
@@ -20,6 +20,6 @@ returns-clause-value g c =
 pub returns-clause-entries : goal.returns-clause-entries
 returns-clause-entries g c =
     rw (c.pop.ensures.entries, ← c.self.view_is)
-    (ap (λ es. lru_cache es c.self.inside.table.cap)
+    (ap (λ es. keyed_table c.self.inside.keys es c.self.inside.table.cap)
     (remove_entry-unhashed c.self.inside.keys c.args.five_tuple.now c.change_to.new.self
     c.change_to.ensures c.self.inside.table.entries c.self.invariant.0))

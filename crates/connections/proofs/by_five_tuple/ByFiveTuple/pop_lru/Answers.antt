@@ -1,6 +1,5 @@
 use Rattle.std.proofs.Common.{ap, option_map, ◌∙◌}
-use Rattle.lru.specs.LruCache.{lru_cache}
-use Rattle.connections.specs.ByFiveTuple.{unhashed_entry}
+use Rattle.connections.specs.ByFiveTuple.{keyed_table, unhashed_entry}
 use Rattle.connections.proofs.HashLemmas.{front-unhashed, last_entry-unhashed}
 use Rattle.connections.proofs.by_five_tuple.ByFiveTuple.pop_lru.Goals as goal
 
@@ -12,4 +11,4 @@ returns-clause-value g c =
 pub returns-clause-entries : goal.returns-clause-entries
 returns-clause-entries g c =
     rw (c.pop_lru.ensures.entries, ← c.self.view_is)
-    (ap (λ es. lru_cache es c.self.inside.table.cap) (front-unhashed c.self.inside.table.entries))
+    (ap (λ es. keyed_table c.self.inside.keys es c.self.inside.table.cap) (front-unhashed c.self.inside.table.entries))

@@ -1,5 +1,5 @@
 use Rattle.std.proofs.Common.{ap, refl}
-use Rattle.lru.specs.LruCache.{lru_cache}
+use Rattle.connections.specs.ByFiveTuple.{keyed_table}
 use Rattle.connections.proofs.HashLemmas.{put_entries-unhashed, AreHashed-put_entries}
 use Rattle.connections.proofs.by_five_tuple.ByFiveTuple.put.Goals as goal
 
@@ -14,6 +14,6 @@ invariant_of-self-2 g c =
 pub returns-clause-entries : goal.returns-clause-entries
 returns-clause-entries g c =
     rw (c.in_ok-put.ensures.entries, ← c.self.view_is)
-    (ap (λ es. lru_cache es c.self.inside.table.cap)
+    (ap (λ es. keyed_table c.self.inside.keys es c.self.inside.table.cap)
     (put_entries-unhashed c.self.inside.keys c.args.five_tuple c.change_to.new.self
     c.change_to.ensures c.self.inside.table c.args.value c.self.invariant.0))

@@ -30,8 +30,8 @@ returns-then-begins_tls g c =
     (subst (λ x. begins_tls x ≡ true) header (search rules))
     c.take_waiting-first.ensures.taken
     (subst (λ t. IsNext t c.args.side (front w c.args.bytes.now) c.follow.new.self)
-    c.set_side_state.ensures
-    (subst (λ x. IsNext c.set_side_state.new.self c.args.side x c.follow.new.self) again
+    c.begin_tls.ensures
+    (subst (λ x. IsNext c.begin_tls.new.self c.args.side x c.follow.new.self) again
     c.in_ok-follow.ensures))
     (subst (λ x. OnOk c.follow-then-begins_tls.result (IsNext c.follow.new.self c.args.side x
     c.follow-then-begins_tls.new.self)) back
@@ -54,7 +54,7 @@ returns g c =
     (search rules) (search
     rules) count in
     subst (λ u. IsFirstRead c.args.self.now c.args.side w c.args.bytes.now u)
-    (sym c.set_side_state-2.ensures)
+    (sym c.set_side_state.ensures)
     (first_other c.args.self.now c.take_waiting-first.new.self c.follow-2.new.self c.args.side
     c.args.bytes.now (search
     rules)

@@ -1,0 +1,99 @@
+-- What a segment does to its connection's analysis.
+use Rattle.std.specs.Prelude.{◌≡◌, Bool, true, false, ◌&&◌}
+use Rattle.connections.specs.Connection.{AcceptsKept, has_opening, side_of}
+use Rattle.connections.specs.Segment.{has_data, header_of}
+use Rattle.connections.specs.Stream.{is_cut_short}
+use Rattle.connections.specs.Waiting.{Kept}
+use Rattle.connections.specs.declared.connection.Connection.{Connection}
+use Rattle.connections.specs.declared.connection.Side.{Side}
+use Rattle.connections.specs.declared.connection.Side.TheVariants.{Originator, Responder}
+use Rattle.connections.specs.declared.segment.Segment.{Segment}
+use Rattle.log_connections.specs.Analysis.{AnalyzesOn, AnalyzesStream, FollowsOnce, is_followed_in, undialogued}
+use Rattle.log_connections.specs.declared.analysis.TlsAnalysis.{TlsAnalysis}
+
+module _ {K : Type 0} where
+  -- Nothing changes but a connection's streams and its analysis.
+  abbrev pub ChangesAnalysis : Connection (TlsAnalysis K) → Connection (TlsAnalysis K) → Type 0
+  ChangesAnalysis c d = d ≡ record c {
+    from_originator = d.from_originator;
+    from_responder = d.from_responder;
+    attachment = d.attachment;
+  }
+
+  -- A packet's tunnels are noted, and its pieces kept. Nothing else in the analysis changes.
+  abbrev pub IsReady : TlsAnalysis K → TlsAnalysis K → Type 0
+  IsReady a b = b ≡ record a { tunnels = b.tunnels; collector = b.collector }
+
+  -- The next bytes of a side's stream are analyzed. Everything else in the connection stays, the
+  -- other side's stream included.
+  abbrev pub AnalyzesSender : Segment → Side → Connection (TlsAnalysis K)
+      → Connection (TlsAnalysis K) → Type 0
+  AnalyzesSender s Originator c c' =
+      (a : TlsAnalysis K) × IsReady c.attachment a
+      × AnalyzesOn Originator (has_opening c) s c.from_originator c'.from_originator a c'.attachment
+      × (c' ≡ record c { from_originator = c'.from_originator; attachment = c'.attachment })
+  AnalyzesSender s Responder c c' =
+      (a : TlsAnalysis K) × IsReady c.attachment a
+      × AnalyzesOn Responder (has_opening c) s c.from_responder c'.from_responder a c'.attachment
+      × (c' ≡ record c { from_responder = c'.from_responder; attachment = c'.attachment })
+
+  -- The bytes of the other side that waited are analyzed. Everything else stays.
+  abbrev pub AnalyzesWaiting : Side → Connection (TlsAnalysis K) → Connection (TlsAnalysis K)
+      → Type 0
+  AnalyzesWaiting Originator c d =
+      AnalyzesStream Responder (has_opening c)
+      (is_cut_short c.from_responder c.from_responder.reading) c.from_responder d.from_responder
+      c.attachment d.attachment
+      × (d ≡ record c { from_responder = d.from_responder; attachment = d.attachment })
+  AnalyzesWaiting Responder c d =
+      AnalyzesStream Originator (has_opening c)
+      (is_cut_short c.from_originator c.from_originator.reading) c.from_originator d.from_originator
+      c.attachment d.attachment
+      × (d ≡ record c { from_originator = d.from_originator; attachment = d.attachment })
+
+  -- The dialogue in front of TLS is followed, and the next one behind a tunnel. Then the bytes of
+  -- the other side that waited for the sender's are analyzed.
+  pub record FollowsDialogue (side : Side) (c d : Connection (TlsAnalysis K)) : Type 0 where
+    pub first : Connection (TlsAnalysis K)
+    pub second : Connection (TlsAnalysis K)
+    pub follows :
+        FollowsOnce c.from_originator first.from_originator c.from_responder first.from_responder
+        c.attachment first.attachment
+    pub follows_next :
+        FollowsOnce first.from_originator second.from_originator first.from_responder
+        second.from_responder first.attachment second.attachment
+    pub same :
+        second ≡ record c {
+          from_originator = second.from_originator;
+          from_responder = second.from_responder;
+          attachment = second.attachment;
+        }
+    pub waiting : AnalyzesWaiting side second d
+
+  -- A dialogue is followed from the connection's opening on, if that was captured.
+  abbrev pub FollowsOpened : Bool → Side → Connection (TlsAnalysis K) → Connection (TlsAnalysis K)
+      → Type 0
+  FollowsOpened true side c d = FollowsDialogue side c d
+  FollowsOpened false side c d = d ≡ record c { attachment = undialogued c.attachment }
+
+  abbrev pub FollowsIf : Bool → Side → Connection (TlsAnalysis K) → Connection (TlsAnalysis K)
+      → Type 0
+  FollowsIf true side c d = FollowsOpened (has_opening c) side c d
+  FollowsIf false side c d = d ≡ c
+
+  -- A segment's data leads the dialogue in front of TLS on, if one is followed. Then the next bytes
+  -- of its sender are analyzed.
+  abbrev pub AnalyzesSide : Segment → Side → Connection (TlsAnalysis K) → Connection (TlsAnalysis K)
+      → Type 0
+  AnalyzesSide s side c c' = (d : Connection (TlsAnalysis K))
+      × FollowsIf (has_data s && is_followed_in c.attachment.transport) side c d
+      × AnalyzesSender s side d c'
+
+  -- A pending segment is added to its sender's stream, whose next bytes are analyzed.
+  pub record AnalyzesKept (k : Kept) (c c' : Connection (TlsAnalysis K)) : Type 0 where
+    pub put : Connection (TlsAnalysis K)
+    pub segment : Segment
+    pub header : header_of segment ≡ k.header
+    pub payload : segment.payload.now ≡ k.bytes
+    pub accepts : AcceptsKept k c put
+    pub receives : AnalyzesSide segment (side_of put segment.source) put c'
