@@ -107,7 +107,7 @@ pub record Held : Type 0 where
 abbrev pub byte : Held → ℕ → Option ℕ
 byte h i = cell h.cells i
 
--- A fragment has the same fields of its message.
+-- All fragments of a message have the same type and length.
 pub record IsOfSame (h : Held) (f : Fragment) : Type 0 where
   pub msg_type : h.msg_type ≡ f.msg_type
   pub size : h.size ≡ f.length

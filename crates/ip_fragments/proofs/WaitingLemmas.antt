@@ -30,7 +30,7 @@ whole_is f v g b n reach ended p is bytes count far ends protocol =
     ∙ ap (λ m. ended && ((n == m) && is_some (first_protocol v.protocol f))) up
     ∙ ap (λ q. ended && ((n == reach) && is_some q)) (sym protocol)
 
--- The same of a datagram that is equal to what its fields represent.
+-- The lemma above for a datagram that is equal to what its fields represent.
 pub whole_view : (f : IpFragment) (u v : Waiting) → u ≡ v → (g : Gap) (b : Bytes) (n reach : ℕ)
     (ended : Bool) (p : Option ℕ) → IsGap g v.runs → b ≡ bytes_of f → n ≡ filled u.runs + length b
     → reach ≡ max u.reach (f.offset + length b) → ended ≡ (u.is_ended || not f.has_more)

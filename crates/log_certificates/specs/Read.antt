@@ -121,7 +121,7 @@ abbrev pub time_in : Option Bytes → Option ℤ
 time_in None = None
 time_in (Some element) = readable_in time element
 
--- A certificate of which each field is read by itself.
+-- A certificate whose fields are read one by one: a broken one doesn't hide the others.
 abbrev pub fields_of : Outline → ReadFields
 fields_of o = record {
   version = readable (version_of o.version);

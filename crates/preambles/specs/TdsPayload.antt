@@ -10,8 +10,8 @@ use Rattle.preambles.specs.declared.tds_payload.Position.TheVariants.{Header, Pa
 use Rattle.preambles.specs.declared.tds_payload.TdsReader.{TdsReader}
 
 -- The position of the next byte: in a header, behind this many bytes of it, with the two bytes of
--- the length as far as they came; in a payload, of which this many bytes are left; or in TLS that
--- isn't in packets.
+-- the length as far as they came; in a payload, with this many bytes left; or in TLS that isn't in
+-- packets.
 abbrev pub begun : Position
 begun = Header 0 0 0
 

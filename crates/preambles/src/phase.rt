@@ -42,8 +42,8 @@ pub enum Protocol {
     Mysql,
     /// RDP's negotiation (MS-RDPBCGR, section 2.2.1).
     Rdp,
-    /// SQL Server's PRELOGIN (MS-TDS, section 2.2.6.5). Behind it TLS comes in packets, of which
-    /// [`TdsReader`](crate::TdsReader) takes it out.
+    /// SQL Server's PRELOGIN (MS-TDS, section 2.2.6.5). TLS comes in the packets behind it, and
+    /// [`TdsReader`](crate::TdsReader) takes it out of them.
     Tds,
     /// LDAP's StartTLS (RFC 4511, section 4.14).
     Ldap,

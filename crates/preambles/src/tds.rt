@@ -48,7 +48,7 @@ fn prelogin_header(front: &[u8]) -> Phase
     }
 }
 
-/// The phase behind the client's options, of which VERSION is the first.
+/// The phase behind the client's options. The first of them is VERSION.
 #[tactic(auto, unfolding(crate::specs::Tds::options))]
 fn options(front: &[u8]) -> Phase
     ensures { result ≡ behind_options front.now }

@@ -13,7 +13,7 @@ pub(crate) enum Position {
     /// In a packet's header, behind this many bytes of it. The other numbers are the two bytes of
     /// the length, as far as they came.
     Header(u8, u8, u8),
-    /// In a packet's payload, of which this many bytes are left.
+    /// In a packet's payload, with this many bytes left.
     Payload(u32),
     /// In TLS behind all packets.
     Bare,

@@ -1,4 +1,5 @@
--- What is read of a connection, and of which side (RFC 8446, section 5.1).
+-- The state that a connection is analyzed with: both sides' readers, and what was found in their
+-- TLS records (RFC 8446, section 5.1).
 use Rattle.std.specs.Prelude.{◌≡◌, ◌^◌, ◌-◌, ◌⊎◌, ◌≤◌, ⊤, ℕ, Bool, true, false, not, nat_lt, Option, Some, None, List, [], ◌∷◌, ◌++◌, length, take}
 use Rattle.std.specs.Global.{Vec}
 use Rattle.layouts.specs.Bytes.{Bytes}

@@ -311,8 +311,8 @@ impl Analyzer {
         Ok(())
     }
 
-    /// Sets a side to TLS, of which nothing was read. Its next bytes are read as records, without a
-    /// look at how they begin. For a caller that found where its TLS begins.
+    /// Starts a side's TLS at its next byte. That is read as a record's first, whatever it is. For
+    /// callers that know where TLS begins.
     pub fn begin_tls(&mut self, side: Direction)
         ensures { self.new ≡ known_as_tls self.old side }
     {

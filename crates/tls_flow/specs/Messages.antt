@@ -44,8 +44,8 @@ is_earlier major minor = (major == 3 && nat_lt minor 4)
 -- The version that the server picks (RFC 8446, 4.2.1), in two bytes. A server that negotiates an
 -- earlier one doesn't send it. So it is TLS 1.3 (0x0304), DTLS 1.3 (0xfefc; RFC 9147, 5.3), or a
 -- draft of these, whose numbers aren't registered: 0x7f and the draft's number (RFC 8446's drafts,
--- 4.2.1.1), or one of an implementation, such as 0xfb17. A client that finds an earlier version here
--- aborts the handshake, which counts as one of that version.
+-- 4.2.1.1), or one of an implementation, such as 0xfb17. A client that finds an earlier version
+-- here aborts the handshake, which counts as one of that version.
 abbrev pub is_tls13_version : Bytes → Bool
 is_tls13_version (major ∷ minor ∷ []) = not (is_earlier major minor)
 is_tls13_version _ = false

@@ -36,7 +36,8 @@ abbrev pub data_length : Bytes → ℕ
 data_length [] = 0
 data_length (n ∷ b) = if n == 23 then length b - 4 else 0
 
--- The same of an event. Before the ServerHello it isn't known whether such a record is encrypted.
+-- The bytes of an event's encrypted content. A record of type application_data in front of the
+-- ServerHello counts too, since it isn't known there whether it is encrypted.
 abbrev pub sealed_length : StreamEvent → ℕ
 sealed_length (Encrypted r) = data_length r
 sealed_length (ApplicationData b) = length b

@@ -14,7 +14,7 @@ use Rattle.x509.specs.declared.outline.TbsElements.{TbsElements as LentElements}
 use Rattle.x509.specs.declared.outline.Outline.{Outline as LentOutline}
 use Rattle.x509.specs.declared.outline.ValidityElements.{ValidityElements as LentValidity}
 
--- [0] EXPLICIT version OPTIONAL, of which the content is kept; serialNumber; signature; issuer.
+-- [0] EXPLICIT version OPTIONAL, whose content is kept; serialNumber; signature; issuer.
 pub record FirstElements : Type 0 where
   pub version : Option Bytes
   pub serial_number : Bytes
