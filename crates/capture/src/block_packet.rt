@@ -7,8 +7,7 @@ ghost use Rattle.capture.specs.Pcapng.{packet_of as packet_of_layout, enhanced_p
 ghost use Rattle.capture.specs.Pcapng.{simple_packet, view_packet, captured_of};
 
 use crate::order::{Order, number2_by, number4_by};
-use crate::parsed::parsed;
-use layouts::{IResult, block};
+use layouts::{IResult, block, parsed};
 
 /// A packet read from a block.
 #[derive(Clone, Copy, Debug, PartialEq)]

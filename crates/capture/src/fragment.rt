@@ -14,9 +14,8 @@ use crate::ip::{
     AUTHENTICATION, Address, IpDatagram, address_v6, fields_v4, front_v6, is_extension, lengths_v4,
     skipped, whole_protected, whole_v6,
 };
-use crate::parsed::parsed;
 use crate::transport::Content;
-use layouts::{Err, ErrorKind, IResult, block, number1, number2, number4, refused, rest};
+use layouts::{Err, ErrorKind, IResult, block, number1, number2, number4, parsed, refused, rest};
 
 /// The protocol number of IPv6's Fragment header.
 const FRAGMENT: u8 = 44;

@@ -11,8 +11,7 @@ ghost use Rattle.capture.specs.Pcapng.{resolution_option as resolution_option_la
 ghost use Rattle.capture.specs.Pcapng.{units_of, interface, view_interface, moved_by as moved_by_seconds, nanoseconds_of};
 
 use crate::order::{Order, number2_by, number4_by, number8_by};
-use crate::parsed::parsed;
-use layouts::{ErrorKind, IResult, InPlace, Items, block, number1, refused};
+use layouts::{ErrorKind, IResult, InPlace, Items, block, number1, parsed, refused};
 
 /// An interface of a pcapng section.
 #[derive(Clone, Copy, Debug, PartialEq, Eq)]

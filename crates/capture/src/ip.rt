@@ -13,9 +13,10 @@ ghost use Rattle.capture.specs.Ip.{fragment_header as fragment_header_layout, is
 
 use crate::checksum::{is_right, sum_of, words4};
 use crate::jumbo::payload_length;
-use crate::parsed::parsed;
 use crate::transport::{Content, TCP, transport};
-use layouts::{Err, ErrorKind, IResult, block, number1, number2, number4, number8, refused};
+use layouts::{
+    Err, ErrorKind, IResult, block, number1, number2, number4, number8, parsed, refused,
+};
 
 /// An IP address as big-endian numbers.
 #[derive(Clone, Copy, Debug, PartialEq, Eq)]

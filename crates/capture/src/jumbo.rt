@@ -6,8 +6,7 @@ ghost use Rattle.layouts.specs.Answers.{Gives};
 ghost use Rattle.capture.specs.Jumbo.{other_option, jumbo_option as jumbo_option_layout};
 ghost use Rattle.capture.specs.Jumbo.{jumbo_length as jumbo_length_layout, payload_length as payload_length_layout};
 
-use crate::parsed::parsed;
-use layouts::{Err, ErrorKind, IResult, InPlace, Items, block, number1, number4, refused};
+use layouts::{Err, ErrorKind, IResult, InPlace, Items, block, number1, number4, parsed, refused};
 
 /// The type of the jumbo payload option.
 const JUMBO_PAYLOAD: u8 = 0xc2;

@@ -17,7 +17,6 @@ mod link;
 mod links;
 mod options;
 mod order;
-mod parsed;
 mod pcap;
 mod pcapng;
 mod transport;

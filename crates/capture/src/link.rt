@@ -15,8 +15,9 @@ ghost use Rattle.std.specs.Prelude.{◌≡◌};
 
 use crate::ip::{IpDatagram, parse_ipv4, parse_ipv6};
 use crate::links::links;
-use crate::parsed::parsed;
-use layouts::{ErrorKind, IResult, InPlace, Items, block, number1, number2, number4, refused};
+use layouts::{
+    ErrorKind, IResult, InPlace, Items, block, number1, number2, number4, parsed, refused,
+};
 
 /// The EtherType of IPv4.
 const IPV4: u16 = 0x0800;

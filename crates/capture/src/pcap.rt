@@ -5,8 +5,7 @@ ghost use Rattle.layouts.specs.Answers.{Gives};
 ghost use Rattle.capture.specs.Pcap.{format_of, view_format, header, view_header, packet, view_packet, nanoseconds};
 
 use crate::order::{Order, number2_by, number4_by};
-use crate::parsed::parsed;
-use layouts::{ErrorKind, IResult, block, number4, refused};
+use layouts::{ErrorKind, IResult, block, number4, parsed, refused};
 
 /// The longest packet in a file, in bytes (`MAXIMUM_SNAPLEN` of libpcap).
 pub const MAX_PACKET_LEN: u32 = 262_144;

@@ -8,8 +8,7 @@ ghost use Rattle.capture.specs.Pcapng.{order_next as order_next_layout};
 ghost use Rattle.capture.specs.Pcapng.{block_by as block_by_layout, next_block, view_block};
 
 use crate::order::{Order, number4_by};
-use crate::parsed::parsed;
-use layouts::{ErrorKind, IResult, block, number4, refused};
+use layouts::{ErrorKind, IResult, block, number4, parsed, refused};
 
 /// The longest block, in bytes.
 pub const MAX_BLOCK_LEN: u32 = 16_777_216;

@@ -5,8 +5,7 @@ ghost use Rattle.capture.specs.Transport.{tcp as tcp_layout, view_segment, udp a
 ghost use Rattle.capture.specs.Transport.{numbers as numbers_layout, view_numbers, control_fields as control_fields_layout, view_control};
 ghost use Rattle.capture.specs.Transport.{transport as transport_layout, view_content};
 
-use crate::parsed::parsed;
-use layouts::{ErrorKind, IResult, block, number1, number2, number4, refused, rest};
+use layouts::{ErrorKind, IResult, block, number1, number2, number4, parsed, refused, rest};
 
 /// The protocol number of TCP.
 pub(crate) const TCP: u8 = 6;

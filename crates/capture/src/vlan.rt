@@ -8,8 +8,7 @@ ghost use Rattle.capture.specs.Vlan.{found_in, hdlc_front as hdlc_front_layout, 
 
 use crate::link::is_vlan;
 use crate::links::links;
-use crate::parsed::parsed;
-use layouts::{ErrorKind, IResult, block, number2, refused};
+use layouts::{ErrorKind, IResult, block, number2, parsed, refused};
 
 /// The most VLAN tags that are returned for a packet.
 pub const MAX_VLAN_TAGS: usize = 16;

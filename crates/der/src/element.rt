@@ -11,7 +11,7 @@ ghost use Rattle.der.specs.Element.{whole as whole_layout, tagged as tagged_layo
 ghost use Rattle.der.specs.Element.{Element as PlainElement, view_element, element, element_bytes as element_bytes_layout, items_of};
 
 use crate::length::der_length;
-use layouts::{Err, ErrorKind, IResult, InPlace, Items, block, number1, refused, rest};
+use layouts::{Err, ErrorKind, IResult, InPlace, Items, block, number1, parsed, refused, rest};
 use std::marker::PhantomData;
 
 /// Parses `T`, which must consume all bytes.
@@ -19,7 +19,7 @@ use std::marker::PhantomData;
 fn whole<'a, T: InPlace<'a>>(i: &'a [u8]) -> IResult<&'a [u8], T::Read>
     ensures { Gives T.view (whole_layout T.layout) i.now result }
 {
-    let (i, x) = T::read(i)?;
+    let (i, x) = parsed!(T::read(i));
     if !i.is_empty() {
         return refused(i, ErrorKind::LengthValue);
     }
@@ -47,13 +47,13 @@ fn whole_content<'a, T: InPlace<'a>>(i: &'a [u8]) -> IResult<&'a [u8], T::Read>
 pub fn tagged<'a, T: InPlace<'a>>(i: &'a [u8], tag: u8) -> IResult<&'a [u8], T::Read>
     ensures { Gives T.view (tagged_layout tag T.layout) i.now result }
 {
-    let (i, t) = number1(i)?;
+    let (i, t) = parsed!(number1(i));
     if t != tag {
         return refused(i, ErrorKind::Tag);
     }
-    let (i, n) = der_length(i)?;
-    let (i, content) = block(i, n)?;
-    let (_, x) = whole_content::<T>(content)?;
+    let (i, n) = parsed!(der_length(i));
+    let (i, content) = parsed!(block(i, n));
+    let (_, x) = parsed!(whole_content::<T>(content));
     Ok((i, x))
 }
 
@@ -66,9 +66,9 @@ pub fn optional<'a, T: InPlace<'a>>(i: &'a [u8], tag: u8) -> IResult<&'a [u8], O
     if i.is_empty() {
         return Ok((i, None));
     }
-    let (_, t) = number1(i)?;
+    let (_, t) = parsed!(number1(i));
     if t == tag {
-        let (i, x) = tagged::<T>(i, tag)?;
+        let (i, x) = parsed!(tagged::<T>(i, tag));
         return Ok((i, Some(x)));
     }
     Ok((i, None))
@@ -100,12 +100,12 @@ impl<'a> InPlace<'a> for Element<'a> {
 
     #[tactic(auto, using(layouts::proofs::OneAnswerLemmas::read_allowed), unfolding(crate::specs::Element::element))]
     fn read(i: &'a [u8]) -> IResult<&'a [u8], Self> {
-        let (i, tag) = number1(i)?;
+        let (i, tag) = parsed!(number1(i));
         if tag % 32 == 31 {
             return refused(i, ErrorKind::Switch);
         }
-        let (i, n) = der_length(i)?;
-        let (i, content) = block(i, n)?;
+        let (i, n) = parsed!(der_length(i));
+        let (i, content) = parsed!(block(i, n));
         Ok((i, Element { tag, content }))
     }
 }
@@ -120,7 +120,7 @@ pub fn optional_element(i: &[u8]) -> IResult<&[u8], Option<Element>>
     if i.is_empty() {
         return Ok((i, None));
     }
-    let (i, x) = Element::read(i)?;
+    let (i, x) = parsed!(Element::read(i));
     Ok((i, Some(x)))
 }
 
@@ -131,7 +131,7 @@ pub fn optional_element(i: &[u8]) -> IResult<&[u8], Option<Element>>
 pub fn element_bytes(i: &[u8]) -> IResult<&[u8], &[u8]>
     ensures { Gives (λ v. v.now) element_bytes_layout i.now result }
 {
-    let (behind, _) = Element::read(i)?;
+    let (behind, _) = parsed!(Element::read(i));
     block(i, i.len().saturating_sub(behind.len()))
 }
 
@@ -170,7 +170,7 @@ impl<'a, T: InPlace<'a>> InPlace<'a> for ItemsOf<'a, T> {
     #[tactic(auto, using(layouts::proofs::OneAnswerLemmas::read_allowed), unfolding(crate::specs::Element::items_of))]
     fn read(i: &'a [u8]) -> IResult<&'a [u8], Items<'a, T>> {
         let items = Items::new(i);
-        let (i, _) = rest(i)?;
+        let (i, _) = parsed!(rest(i));
         Ok((i, items))
     }
 }

@@ -9,7 +9,7 @@ ghost use Rattle.der.specs.ObjectIdentifier.{base128_from, in_range, first_arc a
 
 use crate::element::tagged;
 use crate::tag;
-use layouts::{ErrorKind, IResult, InPlace, Items, block, number1, refused, rest};
+use layouts::{ErrorKind, IResult, InPlace, Items, block, number1, parsed, refused, rest};
 
 /// A byte of a subidentifier that another byte follows.
 struct LeadingByte;
@@ -25,7 +25,7 @@ impl<'a> InPlace<'a> for LeadingByte {
 
     #[tactic(auto, using(layouts::proofs::OneAnswerLemmas::read_allowed), unfolding(crate::specs::ObjectIdentifier::leading_byte))]
     fn read(i: &'a [u8]) -> IResult<&'a [u8], u8> {
-        let (i, n) = number1(i)?;
+        let (i, n) = parsed!(number1(i));
         if n < 128 {
             return refused(i, ErrorKind::Verify);
         }
@@ -47,12 +47,12 @@ impl<'a> InPlace<'a> for Subidentifier {
 
     #[tactic(auto, using(layouts::proofs::OneAnswerLemmas::read_allowed, crate::proofs::LeadingLemmas::with_last), unfolding(crate::specs::ObjectIdentifier::subidentifier))]
     fn read(i: &'a [u8]) -> IResult<&'a [u8], &'a [u8]> {
-        let (_, first) = number1(i)?;
+        let (_, first) = parsed!(number1(i));
         if first == 0x80 {
             return refused(i, ErrorKind::Verify);
         }
         let last = Items::<LeadingByte>::new(i).rest();
-        let (behind, _) = number1(last)?;
+        let (behind, _) = parsed!(number1(last));
         block(i, i.len().saturating_sub(behind.len()))
     }
 }
@@ -85,7 +85,7 @@ impl<'a> InPlace<'a> for ObjectIdentifier<'a> {
         if !Items::<Subidentifier>::new(i).rest().is_empty() {
             return refused(i, ErrorKind::Verify);
         }
-        let (i, content) = rest(i)?;
+        let (i, content) = parsed!(rest(i));
         Ok((i, ObjectIdentifier { content }))
     }
 }

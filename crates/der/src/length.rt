@@ -4,7 +4,7 @@
 ghost use Rattle.layouts.specs.Answers.{Gives};
 ghost use Rattle.der.specs.Element.{long_length, length_by as length_by_layout, der_length as der_length_layout};
 
-use layouts::{ErrorKind, IResult, number1, number2, number3, refused};
+use layouts::{ErrorKind, IResult, number1, number2, number3, parsed, refused};
 
 /// Parses the rest of a length after its first byte.
 #[tactic(auto, using(layouts::proofs::OneAnswerLemmas::read_allowed), unfolding(crate::specs::Element::long_length, crate::specs::Element::length_by))]
@@ -14,21 +14,21 @@ fn length_by(i: &[u8], first: u8) -> IResult<&[u8], usize>
     match first {
         0x80 => refused(i, ErrorKind::Switch),
         0x81 => {
-            let (i, n) = number1(i)?;
+            let (i, n) = parsed!(number1(i));
             if n < 0x80 {
                 return refused(i, ErrorKind::Verify);
             }
             Ok((i, n as usize))
         }
         0x82 => {
-            let (i, n) = number2(i)?;
+            let (i, n) = parsed!(number2(i));
             if n < 0x100 {
                 return refused(i, ErrorKind::Verify);
             }
             Ok((i, n as usize))
         }
         0x83 => {
-            let (i, n) = number3(i)?;
+            let (i, n) = parsed!(number3(i));
             if n < 0x1_0000 {
                 return refused(i, ErrorKind::Verify);
             }
@@ -54,6 +54,6 @@ fn length_by(i: &[u8], first: u8) -> IResult<&[u8], usize>
 pub fn der_length(i: &[u8]) -> IResult<&[u8], usize>
     ensures { Gives (λ v. v) der_length_layout i.now result }
 {
-    let (i, first) = number1(i)?;
+    let (i, first) = parsed!(number1(i));
     length_by(i, first)
 }

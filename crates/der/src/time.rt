@@ -9,7 +9,7 @@ ghost use Rattle.der.specs.Time.{digit as digit_layout, two_digits as two_digits
 ghost use Rattle.der.specs.Time.{is_day as is_day_of, is_clock as is_clock_of, day_of as day_layout, clock as clock_layout, behind_year as behind_year_layout, utc_time, generalized_time};
 
 use jiff_core::civil::{Date, days_in_month};
-use layouts::{ErrorKind, IResult, InPlace, number1, refused};
+use layouts::{ErrorKind, IResult, InPlace, number1, parsed, refused};
 
 /// Parses an ASCII digit.
 #[tactic(auto, using(layouts::proofs::OneAnswerLemmas::read_allowed), unfolding(crate::specs::Time::digit))]
@@ -17,7 +17,7 @@ fn digit(i: &[u8]) -> IResult<&[u8], u8>
     ensures gives { Gives (λ v. v) digit_layout i.now result }
     ensures fits { IfOk result (λ x. x.1 ≤ 9) }
 {
-    let (i, c) = number1(i)?;
+    let (i, c) = parsed!(number1(i));
     if c < 0x30 || c > 0x39 {
         return refused(i, ErrorKind::Verify);
     }
@@ -30,8 +30,8 @@ fn two_digits(i: &[u8]) -> IResult<&[u8], u8>
     ensures gives { Gives (λ v. v) two_digits_layout i.now result }
     ensures fits { IfOk result (λ x. x.1 ≤ 99) }
 {
-    let (i, tens) = digit(i)?;
-    let (i, ones) = digit(i)?;
+    let (i, tens) = parsed!(digit(i));
+    let (i, ones) = parsed!(digit(i));
     Ok((i, tens * 10 + ones))
 }
 
@@ -41,7 +41,7 @@ fn short_year(i: &[u8]) -> IResult<&[u8], u16>
     ensures gives { Gives (λ v. v) short_year_layout i.now result }
     ensures fits { IfOk result (λ x. x.1 ≤ 9999) }
 {
-    let (i, n) = two_digits(i)?;
+    let (i, n) = parsed!(two_digits(i));
     if n < 50 {
         return Ok((i, 2000 + n as u16));
     }
@@ -54,8 +54,8 @@ fn full_year(i: &[u8]) -> IResult<&[u8], u16>
     ensures gives { Gives (λ v. v) full_year_layout i.now result }
     ensures fits { IfOk result (λ x. x.1 ≤ 9999) }
 {
-    let (i, hundreds) = two_digits(i)?;
-    let (i, years) = two_digits(i)?;
+    let (i, hundreds) = parsed!(two_digits(i));
+    let (i, years) = parsed!(two_digits(i));
     Ok((i, hundreds as u16 * 100 + years as u16))
 }
 
@@ -87,8 +87,8 @@ fn day_of(i: &[u8], year: u16) -> IResult<&[u8], i32>
     ensures gives { Gives (λ v. v) (day_layout year) i.now result }
     ensures bound { IfOk result (λ x. IsEpochDay x.1) }
 {
-    let (i, month) = two_digits(i)?;
-    let (i, day) = two_digits(i)?;
+    let (i, month) = parsed!(two_digits(i));
+    let (i, day) = parsed!(two_digits(i));
     if !is_day(year, month, day) {
         return refused(i, ErrorKind::Verify);
     }
@@ -108,9 +108,9 @@ fn clock(i: &[u8]) -> IResult<&[u8], u32>
     ensures gives { Gives (λ v. v) clock_layout i.now result }
     ensures fits { IfOk result (λ x. x.1 < 86400) }
 {
-    let (i, hour) = two_digits(i)?;
-    let (i, minute) = two_digits(i)?;
-    let (i, second) = two_digits(i)?;
+    let (i, hour) = parsed!(two_digits(i));
+    let (i, minute) = parsed!(two_digits(i));
+    let (i, second) = parsed!(two_digits(i));
     if !is_clock(hour, minute, second) {
         return refused(i, ErrorKind::Verify);
     }
@@ -132,9 +132,9 @@ fn behind_year(i: &[u8], year: u16) -> IResult<&[u8], i64>
     requires { year ≤ 9999 }
     ensures { Gives (λ v. v) (behind_year_layout year) i.now result }
 {
-    let (i, day) = day_of(i, year)?;
-    let (i, seconds) = clock(i)?;
-    let (i, zone) = number1(i)?;
+    let (i, day) = parsed!(day_of(i, year));
+    let (i, seconds) = parsed!(clock(i));
+    let (i, zone) = parsed!(number1(i));
     if zone != 0x5a {
         return refused(i, ErrorKind::Verify);
     }
@@ -160,7 +160,7 @@ impl<'a> InPlace<'a> for UtcTime {
 
     #[tactic(auto, using(layouts::proofs::OneAnswerLemmas::read_allowed), unfolding(crate::specs::Time::utc_time))]
     fn read(i: &'a [u8]) -> IResult<&'a [u8], i64> {
-        let (i, year) = short_year(i)?;
+        let (i, year) = parsed!(short_year(i));
         behind_year(i, year)
     }
 }
@@ -182,7 +182,7 @@ impl<'a> InPlace<'a> for GeneralizedTime {
 
     #[tactic(auto, using(layouts::proofs::OneAnswerLemmas::read_allowed), unfolding(crate::specs::Time::generalized_time))]
     fn read(i: &'a [u8]) -> IResult<&'a [u8], i64> {
-        let (i, year) = full_year(i)?;
+        let (i, year) = parsed!(full_year(i));
         behind_year(i, year)
     }
 }

@@ -8,7 +8,7 @@ ghost use Rattle.der.specs.Values.{ber_boolean, boolean, default_false as defaul
 
 use crate::element::optional;
 use crate::tag;
-use layouts::{ErrorKind, IResult, InPlace, number1, refused, rest};
+use layouts::{ErrorKind, IResult, InPlace, number1, parsed, refused, rest};
 
 /// The content of a BOOLEAN (X.690, sections 8.2 and 11.1).
 ///
@@ -27,7 +27,7 @@ impl<'a> InPlace<'a> for Boolean {
 
     #[tactic(auto, using(layouts::proofs::OneAnswerLemmas::read_allowed), unfolding(crate::specs::Values::boolean))]
     fn read(i: &'a [u8]) -> IResult<&'a [u8], bool> {
-        let (i, n) = number1(i)?;
+        let (i, n) = parsed!(number1(i));
         if n != 0 && n != 255 {
             return refused(i, ErrorKind::Verify);
         }
@@ -51,7 +51,7 @@ impl<'a> InPlace<'a> for BerBoolean {
 
     #[tactic(auto, using(layouts::proofs::OneAnswerLemmas::read_allowed), unfolding(crate::specs::Values::ber_boolean))]
     fn read(i: &'a [u8]) -> IResult<&'a [u8], bool> {
-        let (i, n) = number1(i)?;
+        let (i, n) = parsed!(number1(i));
         Ok((i, n != 0))
     }
 }
@@ -65,7 +65,7 @@ impl<'a> InPlace<'a> for BerBoolean {
 pub fn default_false(i: &[u8]) -> IResult<&[u8], bool>
     ensures { Gives (λ v. v) default_false_layout i.now result }
 {
-    let (i, value) = optional::<BerBoolean>(i, tag::BOOLEAN)?;
+    let (i, value) = parsed!(optional::<BerBoolean>(i, tag::BOOLEAN));
     match value {
         Some(value) => Ok((i, value)),
         None => Ok((i, false)),
@@ -103,7 +103,7 @@ impl<'a> InPlace<'a> for Integer {
         if i.is_empty() {
             return refused(i, ErrorKind::LengthValue);
         }
-        let (i, bytes) = rest(i)?;
+        let (i, bytes) = parsed!(rest(i));
         if !is_shortest(bytes) {
             return refused(i, ErrorKind::Verify);
         }
@@ -185,11 +185,11 @@ impl<'a> InPlace<'a> for BitString<'a> {
 
     #[tactic(auto, using(layouts::proofs::OneAnswerLemmas::read_allowed), unfolding(crate::specs::Values::bit_string))]
     fn read(i: &'a [u8]) -> IResult<&'a [u8], Self> {
-        let (i, unused) = number1(i)?;
+        let (i, unused) = parsed!(number1(i));
         if unused > 7 {
             return refused(i, ErrorKind::Verify);
         }
-        let (i, bytes) = rest(i)?;
+        let (i, bytes) = parsed!(rest(i));
         if !is_padding(unused, bytes) {
             return refused(i, ErrorKind::Verify);
         }

@@ -6,7 +6,7 @@ ghost use Rattle.dtls_records.specs.DtlsHandshake.{view_handshake, handshake as 
 
 use crate::handshake_view::DTLSRawHandshake;
 use crate::hello::{DTLSClientHello, DTLSHelloVerifyRequest, client_hello, hello_verify_request};
-use layouts::{ErrorKind, IResult, InPlace, block, refused, rest};
+use layouts::{ErrorKind, IResult, InPlace, block, parsed, refused, rest};
 use std::alloc::Global;
 use tls_base::TlsHandshakeType;
 use tls_hs::parts::{certificate, server_hello_any};
@@ -89,19 +89,19 @@ pub(crate) fn listless_body(
 {
     match msg_type {
         TlsHandshakeType::ServerHello => {
-            let (i, hello) = server_hello_any(i)?;
+            let (i, hello) = parsed!(server_hello_any(i));
             Ok((i, DTLSMessageHandshakeBody::ServerHello(hello)))
         }
         TlsHandshakeType::HelloVerifyRequest => {
-            let (i, request) = hello_verify_request(i)?;
+            let (i, request) = parsed!(hello_verify_request(i));
             Ok((i, DTLSMessageHandshakeBody::HelloVerifyRequest(request)))
         }
         TlsHandshakeType::ServerDone => {
-            let (i, bytes) = block(i, length)?;
+            let (i, bytes) = parsed!(block(i, length));
             Ok((i, DTLSMessageHandshakeBody::ServerDone(bytes)))
         }
         TlsHandshakeType::ClientKeyExchange => {
-            let (i, bytes) = block(i, length)?;
+            let (i, bytes) = parsed!(block(i, length));
             let content = TlsClientKeyExchangeContents::Unknown(bytes);
             Ok((i, DTLSMessageHandshakeBody::ClientKeyExchange(content)))
         }
@@ -124,11 +124,11 @@ fn whole_body(
 {
     match msg_type {
         TlsHandshakeType::ClientHello => {
-            let (i, hello) = client_hello(alloc, i)?;
+            let (i, hello) = parsed!(client_hello(alloc, i));
             Ok((i, DTLSMessageHandshakeBody::ClientHello(hello)))
         }
         TlsHandshakeType::Certificate => {
-            let (i, certificate) = certificate(alloc, i)?;
+            let (i, certificate) = parsed!(certificate(alloc, i));
             Ok((i, DTLSMessageHandshakeBody::Certificate(certificate)))
         }
         _ => listless_body(i, msg_type, length),
@@ -149,7 +149,7 @@ fn body(
     ensures { GivesOrMemory view_body (body_layout msg_type.0 length is_fragment) i.now result }
 {
     if is_fragment {
-        let (i, bytes) = rest(i)?;
+        let (i, bytes) = parsed!(rest(i));
         return Ok((i, DTLSMessageHandshakeBody::Fragment(bytes)));
     }
     whole_body(alloc, i, msg_type, length)
@@ -160,9 +160,9 @@ fn body(
 pub(crate) fn handshake(alloc: Global, i: &[u8]) -> IResult<&[u8], DTLSMessageHandshake>
     ensures { GivesOrMemory view_handshake handshake_layout i.now result }
 {
-    let (i, raw) = DTLSRawHandshake::read(i)?;
+    let (i, raw) = parsed!(DTLSRawHandshake::read(i));
     let length = raw.length as usize;
-    let (_, body) = body(alloc, raw.body, raw.msg_type, length, raw.is_fragment())?;
+    let (_, body) = parsed!(body(alloc, raw.body, raw.msg_type, length, raw.is_fragment()));
     let message = DTLSMessageHandshake {
         msg_type: raw.msg_type,
         length: raw.length,

@@ -8,7 +8,7 @@ ghost use Rattle.dtls_records.specs.DtlsInPlace.{RawHandshake, is_part, raw_hand
 
 use crate::handshake::{DTLSMessageHandshakeBody, listless_body};
 use crate::hello_view::DTLSClientHelloView;
-use layouts::{IResult, InPlace, Items, block, number2, number3, rest};
+use layouts::{IResult, InPlace, Items, block, number2, number3, parsed, rest};
 use tls_base::TlsHandshakeType;
 use tls_hs::{RawCertificate, certificates};
 
@@ -54,12 +54,12 @@ impl<'a> InPlace<'a> for DTLSRawHandshake<'a> {
     #[tactic(auto, using(layouts::proofs::OneAnswerLemmas::read_allowed), unfolding(crate::specs::DtlsInPlace::raw_handshake))]
     #[inline(always)]
     fn read(i: &'a [u8]) -> IResult<&'a [u8], Self> {
-        let (i, msg_type) = TlsHandshakeType::parse(i)?;
-        let (i, length) = number3(i)?;
-        let (i, message_seq) = number2(i)?;
-        let (i, fragment_offset) = number3(i)?;
-        let (i, fragment_length) = number3(i)?;
-        let (i, body) = block(i, fragment_length as usize)?;
+        let (i, msg_type) = parsed!(TlsHandshakeType::parse(i));
+        let (i, length) = parsed!(number3(i));
+        let (i, message_seq) = parsed!(number2(i));
+        let (i, fragment_offset) = parsed!(number3(i));
+        let (i, fragment_length) = parsed!(number3(i));
+        let (i, body) = parsed!(block(i, fragment_length as usize));
         let message = DTLSRawHandshake {
             msg_type,
             length,
@@ -81,15 +81,15 @@ fn whole_body(i: &[u8], msg_type: TlsHandshakeType, length: usize) -> IResult<&[
 {
     match msg_type {
         TlsHandshakeType::ClientHello => {
-            let (i, hello) = DTLSClientHelloView::parse(i)?;
+            let (i, hello) = parsed!(DTLSClientHelloView::parse(i));
             Ok((i, DTLSBodyView::ClientHello(hello)))
         }
         TlsHandshakeType::Certificate => {
-            let (i, chain) = certificates(i)?;
+            let (i, chain) = parsed!(certificates(i));
             Ok((i, DTLSBodyView::Certificate(chain)))
         }
         _ => {
-            let (i, body) = listless_body(i, msg_type, length)?;
+            let (i, body) = parsed!(listless_body(i, msg_type, length));
             Ok((i, DTLSBodyView::Other(body)))
         }
     }
@@ -108,7 +108,7 @@ fn body(
     ensures { Gives view_body_in_place (body_layout msg_type.0 length is_fragment) i.now result }
 {
     if is_fragment {
-        let (i, bytes) = rest(i)?;
+        let (i, bytes) = parsed!(rest(i));
         let part = DTLSMessageHandshakeBody::Fragment(bytes);
         return Ok((i, DTLSBodyView::Other(part)));
     }
@@ -168,8 +168,8 @@ impl<'a> InPlace<'a> for DTLSHandshakeView<'a> {
     #[tactic(auto, using(layouts::proofs::OneAnswerLemmas::read_allowed, crate::proofs::DtlsInPlaceLemmas::handshake_decodes))]
     #[inline(always)]
     fn read(i: &'a [u8]) -> IResult<&'a [u8], Self> {
-        let (i, raw) = DTLSRawHandshake::read(i)?;
-        let (_, body) = raw.parse_body()?;
+        let (i, raw) = parsed!(DTLSRawHandshake::read(i));
+        let (_, body) = parsed!(raw.parse_body());
         Ok((i, DTLSHandshakeView { raw, body }))
     }
 }

@@ -7,7 +7,7 @@ ghost use Rattle.dtls_records.specs.DtlsHello.{view_hello_verify_request};
 ghost use Rattle.dtls_records.specs.DtlsHello.{hello_verify_request as hello_verify_request_layout};
 
 use crate::hello_view::DTLSClientHelloView;
-use layouts::{IResult, OutOfMemory, counted1};
+use layouts::{IResult, OutOfMemory, counted1, parsed};
 use std::alloc::Global;
 use tls_base::{CipherTable, TlsCipherSuite, TlsCipherSuiteID, TlsCompressionID, TlsVersion};
 use tls_hs::ClientHello;
@@ -98,7 +98,7 @@ pub struct DTLSHelloVerifyRequest<'a> {
 pub(crate) fn client_hello(alloc: Global, i: &[u8]) -> IResult<&[u8], DTLSClientHello>
     ensures { GivesOrMemory view_client_hello client_hello_layout i.now result }
 {
-    let (i, view) = DTLSClientHelloView::parse(i)?;
+    let (i, view) = parsed!(DTLSClientHelloView::parse(i));
     let hello = DTLSClientHello {
         version: view.version,
         random: view.random,
@@ -118,8 +118,8 @@ pub(crate) fn client_hello(alloc: Global, i: &[u8]) -> IResult<&[u8], DTLSClient
 pub(crate) fn hello_verify_request(i: &[u8]) -> IResult<&[u8], DTLSHelloVerifyRequest>
     ensures { Gives view_hello_verify_request hello_verify_request_layout i.now result }
 {
-    let (i, server_version) = TlsVersion::parse(i)?;
-    let (i, cookie) = counted1(i)?;
+    let (i, server_version) = parsed!(TlsVersion::parse(i));
+    let (i, cookie) = parsed!(counted1(i));
     let request = DTLSHelloVerifyRequest {
         server_version,
         cookie,

@@ -6,7 +6,7 @@ ghost use Rattle.layouts.specs.Text.{held};
 ghost use Rattle.dtls_records.specs.DtlsHello.{client_hello};
 ghost use Rattle.dtls_records.specs.DtlsInPlace.{view_client_hello_in_place};
 
-use layouts::{IResult, Items};
+use layouts::{IResult, Items, parsed};
 use tls_base::{TlsCipherSuiteID, TlsCompressionID, TlsVersion};
 use tls_hs::ClientHelloView;
 use tls_hs::parts::{client_hello_fields, held_bytes};
@@ -65,7 +65,7 @@ impl<'a> DTLSClientHelloView<'a> {
     pub fn parse(i: &'a [u8]) -> IResult<&'a [u8], Self>
         ensures { Gives view_client_hello_in_place client_hello i.now result }
     {
-        let (i, (hello, cookie)) = client_hello_fields(i, true)?;
+        let (i, (hello, cookie)) = parsed!(client_hello_fields(i, true));
         Ok((i, DTLSClientHelloView::with_cookie(hello, cookie)))
     }
 }

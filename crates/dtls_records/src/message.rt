@@ -7,7 +7,7 @@ ghost use Rattle.dtls_records.specs.DtlsRecord.{Message, view_message, change_ci
 ghost use Rattle.dtls_records.specs.DtlsRecord.{handshake as handshake_layout, IsFragment};
 
 use crate::handshake::{DTLSMessageHandshake, DTLSMessageHandshakeBody, handshake};
-use layouts::IResult;
+use layouts::{IResult, parsed};
 use std::alloc::Global;
 use tls_base::TlsMessageAlert;
 use tls_hs::{TlsMessageApplicationData, TlsMessageHeartbeat, parse_tls_message_changecipherspec};
@@ -59,7 +59,7 @@ impl<'a> DTLSMessage<'a> {
 pub fn parse_dtls_message_handshake(alloc: Global, i: &[u8]) -> IResult<&[u8], DTLSMessage>
     ensures { GivesOrMemory view_message handshake_layout i.now result }
 {
-    let (i, message) = handshake(alloc, i)?;
+    let (i, message) = parsed!(handshake(alloc, i));
     Ok((i, DTLSMessage::Handshake(message)))
 }
 
@@ -69,7 +69,7 @@ pub fn parse_dtls_message_handshake(alloc: Global, i: &[u8]) -> IResult<&[u8], D
 pub fn parse_dtls_message_changecipherspec(i: &[u8]) -> IResult<&[u8], DTLSMessage>
     ensures { Gives view_message change_cipher_spec i.now result }
 {
-    let (i, _) = parse_tls_message_changecipherspec(i)?;
+    let (i, _) = parsed!(parse_tls_message_changecipherspec(i));
     Ok((i, DTLSMessage::ChangeCipherSpec))
 }
 
@@ -79,6 +79,6 @@ pub fn parse_dtls_message_changecipherspec(i: &[u8]) -> IResult<&[u8], DTLSMessa
 pub fn parse_dtls_message_alert(i: &[u8]) -> IResult<&[u8], DTLSMessage>
     ensures { Gives view_message alert_layout i.now result }
 {
-    let (i, alert) = TlsMessageAlert::parse(i)?;
+    let (i, alert) = parsed!(TlsMessageAlert::parse(i));
     Ok((i, DTLSMessage::Alert(alert)))
 }

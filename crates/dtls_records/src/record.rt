@@ -14,7 +14,7 @@ use crate::message::{
     DTLSMessage, parse_dtls_message_alert, parse_dtls_message_changecipherspec,
     parse_dtls_message_handshake,
 };
-use layouts::{ErrorKind, IResult, Item, Room, hops2, items1, refused};
+use layouts::{ErrorKind, IResult, Item, Room, hops2, items1, parsed, refused};
 use raw_records::content::{Alert, ChangeCipherSpec, Handshake, Protocol};
 use raw_records::{DTLSRawRecord, DTLSRecordHeader, parse_dtls_raw_record};
 use std::alloc::Global;
@@ -99,8 +99,8 @@ fn record_with_messages(alloc: Global, i: &[u8]) -> IResult<&[u8], DTLSPlaintext
     ensures never_out_of_memory_without_raw_record { IsErr (reading raw_record i.now)
         → MemorySufficed result }
 {
-    let (i, DTLSRawRecord { header, fragment }) = parse_dtls_raw_record(i)?;
-    let (_, messages) = parse_dtls_record_with_header(alloc, fragment, &header)?;
+    let (i, DTLSRawRecord { header, fragment }) = parsed!(parse_dtls_raw_record(i));
+    let (_, messages) = parsed!(parse_dtls_record_with_header(alloc, fragment, &header));
     Ok((i, DTLSPlaintext { header, messages }))
 }
 

@@ -12,7 +12,7 @@ ghost use Rattle.raw_records.specs.RawDtlsRecord.{view_header};
 ghost use Rattle.dtls_records.specs.DtlsRecord.{Message, plaintext, record_content};
 
 use crate::handshake_view::{DTLSHandshakeView, DTLSRawHandshake};
-use layouts::{Err, Error, ErrorKind, IResult, InPlace, Items};
+use layouts::{Err, Error, ErrorKind, IResult, InPlace, Items, parsed};
 use raw_records::{DTLSRawRecord, DTLSRecordHeader, first_judged, parse_dtls_raw_record};
 use tls_base::{TlsMessageAlert, TlsRecordType};
 
@@ -31,7 +31,7 @@ impl<'a> InPlace<'a> for ChangeCipherSpec {
     #[tactic(auto, using(layouts::proofs::OneAnswerLemmas::read_allowed), unfolding(crate::specs::DtlsRecord::change_cipher_spec))]
     #[inline(always)]
     fn read(i: &'a [u8]) -> IResult<&'a [u8], tls_hs::ChangeCipherSpec> {
-        let (i, message) = tls_hs::ChangeCipherSpec::read(i)?;
+        let (i, message) = parsed!(tls_hs::ChangeCipherSpec::read(i));
         Ok((i, message))
     }
 }
@@ -51,7 +51,7 @@ impl<'a> InPlace<'a> for Alert {
     #[tactic(auto, using(layouts::proofs::OneAnswerLemmas::read_allowed), unfolding(crate::specs::DtlsRecord::alert))]
     #[inline(always)]
     fn read(i: &'a [u8]) -> IResult<&'a [u8], TlsMessageAlert> {
-        let (i, alert) = TlsMessageAlert::parse(i)?;
+        let (i, alert) = parsed!(TlsMessageAlert::parse(i));
         Ok((i, alert))
     }
 }
@@ -189,7 +189,7 @@ pub fn parse_dtls_record_with_header_in_place<'a>(
 pub fn parse_dtls_plaintext_record_in_place(i: &[u8]) -> IResult<&[u8], DTLSPlaintextView>
     ensures { Gives view_plaintext_in_place plaintext i.now result }
 {
-    let (i, DTLSRawRecord { header, fragment }) = parse_dtls_raw_record(i)?;
+    let (i, DTLSRawRecord { header, fragment }) = parsed!(parse_dtls_raw_record(i));
     let messages = parse_dtls_record_with_header_in_place(fragment, &header)?;
     Ok((i, DTLSPlaintextView { header, messages }))
 }

@@ -5,6 +5,7 @@ ghost use Rattle.layouts.specs.Layout.{block as block_of, counted, maybe, rest a
 ghost use Rattle.layouts.specs.Answers.{Gives};
 
 use crate::number::{number1, number2, number3};
+use crate::parsed;
 use crate::result::{Err, ErrorKind, IResult, Needed, refused};
 
 /// Reads the first `n` bytes (`opaque[n]`; RFC 8446, section 3.4).
@@ -37,7 +38,7 @@ pub fn rest(i: &[u8]) -> IResult<&[u8], &[u8]>
 pub fn counted1(i: &[u8]) -> IResult<&[u8], &[u8]>
     ensures { Gives (λ v. v.now) (counted 1) i.now result }
 {
-    let (i, n) = number1(i)?;
+    let (i, n) = parsed!(number1(i));
     block(i, n as usize)
 }
 
@@ -48,7 +49,7 @@ pub fn counted1(i: &[u8]) -> IResult<&[u8], &[u8]>
 pub fn counted2(i: &[u8]) -> IResult<&[u8], &[u8]>
     ensures { Gives (λ v. v.now) (counted 2) i.now result }
 {
-    let (i, n) = number2(i)?;
+    let (i, n) = parsed!(number2(i));
     block(i, n as usize)
 }
 
@@ -59,7 +60,7 @@ pub fn counted2(i: &[u8]) -> IResult<&[u8], &[u8]>
 pub fn counted3(i: &[u8]) -> IResult<&[u8], &[u8]>
     ensures { Gives (λ v. v.now) (counted 3) i.now result }
 {
-    let (i, n) = number3(i)?;
+    let (i, n) = parsed!(number3(i));
     block(i, n as usize)
 }
 

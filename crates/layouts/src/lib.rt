@@ -22,6 +22,7 @@ mod item;
 pub mod laws;
 mod list;
 mod number;
+mod parsed;
 mod places;
 mod result;
 mod room;

@@ -11,7 +11,7 @@ ghost use Rattle.ocsp.specs.Response.{BasicOcspResponse as PlainBasic, ResponseD
 
 use crate::single::{ExtensionList, SingleResponses, Time};
 use der::{AllBytes, BitString, Integer, ItemsOf, optional, tag, tagged};
-use layouts::{ErrorKind, IResult, InPlace, Items, number1, refused};
+use layouts::{ErrorKind, IResult, InPlace, Items, number1, parsed, refused};
 use x509::{
     AlgorithmIdentifier, Certificate, Extensions, Name, parse_algorithm_identifier,
     parse_certificate, parse_name,
@@ -70,14 +70,14 @@ impl<'a> InPlace<'a> for KeyHash {
 fn parse_responder_id(i: &[u8]) -> IResult<&[u8], ResponderId>
     ensures { Gives view_responder responder_id_layout i.now result }
 {
-    let (_, t) = number1(i)?;
+    let (_, t) = parsed!(number1(i));
     match t {
         BY_NAME => {
-            let (i, name) = tagged::<ResponderName>(i, BY_NAME)?;
+            let (i, name) = parsed!(tagged::<ResponderName>(i, BY_NAME));
             Ok((i, ResponderId::ByName(name)))
         }
         BY_KEY => {
-            let (i, hash) = tagged::<KeyHash>(i, BY_KEY)?;
+            let (i, hash) = parsed!(tagged::<KeyHash>(i, BY_KEY));
             Ok((i, ResponderId::ByKey(hash)))
         }
         _ => refused(i, ErrorKind::Tag),
@@ -128,11 +128,11 @@ impl<'a> InPlace<'a> for ResponseData<'a> {
 
     #[tactic(auto, using(layouts::proofs::OneAnswerLemmas::read_allowed, layouts::proofs::ItemsLemmas::none_in), unfolding(crate::specs::Response::data_content))]
     fn read(i: &'a [u8]) -> IResult<&'a [u8], Self> {
-        let (i, version) = optional::<Version>(i, 0xa0)?;
-        let (i, responder_id) = parse_responder_id(i)?;
-        let (i, produced_at) = Time::read(i)?;
-        let (i, responses) = tagged::<ItemsOf<SingleResponses>>(i, tag::SEQUENCE)?;
-        let (i, list) = optional::<ExtensionList>(i, 0xa1)?;
+        let (i, version) = parsed!(optional::<Version>(i, 0xa0));
+        let (i, responder_id) = parsed!(parse_responder_id(i));
+        let (i, produced_at) = parsed!(Time::read(i));
+        let (i, responses) = parsed!(tagged::<ItemsOf<SingleResponses>>(i, tag::SEQUENCE));
+        let (i, list) = parsed!(optional::<ExtensionList>(i, 0xa1));
         let extensions = match list {
             Some(extensions) => extensions,
             None => Items::new(&[]),
@@ -210,10 +210,10 @@ impl<'a> InPlace<'a> for BasicContent {
 
     #[tactic(auto, using(layouts::proofs::OneAnswerLemmas::read_allowed, layouts::proofs::ItemsLemmas::none_in), unfolding(crate::specs::Response::basic_content))]
     fn read(i: &'a [u8]) -> IResult<&'a [u8], BasicOcspResponse<'a>> {
-        let (i, tbs_response_data) = tagged::<ResponseData>(i, tag::SEQUENCE)?;
-        let (i, signature_algorithm) = parse_algorithm_identifier(i)?;
-        let (i, signature) = tagged::<BitString>(i, tag::BIT_STRING)?;
-        let (i, list) = optional::<CertificateList>(i, 0xa0)?;
+        let (i, tbs_response_data) = parsed!(tagged::<ResponseData>(i, tag::SEQUENCE));
+        let (i, signature_algorithm) = parsed!(parse_algorithm_identifier(i));
+        let (i, signature) = parsed!(tagged::<BitString>(i, tag::BIT_STRING));
+        let (i, list) = parsed!(optional::<CertificateList>(i, 0xa0));
         let certs = match list {
             Some(certs) => certs,
             None => Items::new(&[]),

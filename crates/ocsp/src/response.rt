@@ -6,7 +6,7 @@ ghost use Rattle.ocsp.specs.Response.{OcspResponse as PlainResponse, ResponseByt
 
 use crate::single::{ENUMERATED, Enumerated};
 use der::{AllBytes, ObjectIdentifier, object_identifier, optional, tag, tagged};
-use layouts::{IResult, InPlace};
+use layouts::{IResult, InPlace, parsed};
 
 /// Whether the responder answered, by its number.
 #[derive(Clone, Copy, Debug, PartialEq, Eq)]
@@ -50,8 +50,8 @@ impl<'a> InPlace<'a> for ResponseBytesContent {
 
     #[tactic(auto, using(layouts::proofs::OneAnswerLemmas::read_allowed), unfolding(crate::specs::Response::response_bytes_content))]
     fn read(i: &'a [u8]) -> IResult<&'a [u8], ResponseBytes<'a>> {
-        let (i, response_type) = object_identifier(i)?;
-        let (i, response) = tagged::<AllBytes>(i, tag::OCTET_STRING)?;
+        let (i, response_type) = parsed!(object_identifier(i));
+        let (i, response) = parsed!(tagged::<AllBytes>(i, tag::OCTET_STRING));
         let bytes = ResponseBytes {
             response_type,
             response,
@@ -101,8 +101,8 @@ impl<'a> InPlace<'a> for OcspResponseContent {
 
     #[tactic(auto, using(layouts::proofs::OneAnswerLemmas::read_allowed), unfolding(crate::specs::Response::ocsp_response_content))]
     fn read(i: &'a [u8]) -> IResult<&'a [u8], OcspResponse<'a>> {
-        let (i, status) = tagged::<Enumerated>(i, ENUMERATED)?;
-        let (i, response_bytes) = optional::<Explicit>(i, 0xa0)?;
+        let (i, status) = parsed!(tagged::<Enumerated>(i, ENUMERATED));
+        let (i, response_bytes) = parsed!(optional::<Explicit>(i, 0xa0));
         let response = OcspResponse {
             response_status: OcspResponseStatus(status),
             response_bytes,

@@ -10,7 +10,7 @@ ghost use Rattle.ocsp.specs.Single.{CertId as PlainCertId, SingleResponse as Pla
 ghost use Rattle.ocsp.specs.declared.single.CertStatus.TheVariants as status;
 
 use der::{AllBytes, GeneralizedTime, Integer, ItemsOf, optional, tag, tagged};
-use layouts::{ErrorKind, IResult, InPlace, Items, number1, refused};
+use layouts::{ErrorKind, IResult, InPlace, Items, number1, parsed, refused};
 use x509::{AlgorithmIdentifier, Extensions, parse_algorithm_identifier};
 
 /// The tag of ENUMERATED.
@@ -39,7 +39,7 @@ impl<'a> InPlace<'a> for Enumerated {
 
     #[tactic(auto, using(layouts::proofs::OneAnswerLemmas::read_allowed), unfolding(crate::specs::Single::enumerated))]
     fn read(i: &'a [u8]) -> IResult<&'a [u8], u8> {
-        let (i, n) = number1(i)?;
+        let (i, n) = parsed!(number1(i));
         if n >= 128 {
             return refused(i, ErrorKind::Verify);
         }
@@ -74,10 +74,10 @@ impl<'a> InPlace<'a> for CertIdContent {
 
     #[tactic(auto, using(layouts::proofs::OneAnswerLemmas::read_allowed), unfolding(crate::specs::Single::cert_id_content))]
     fn read(i: &'a [u8]) -> IResult<&'a [u8], CertId<'a>> {
-        let (i, hash_algorithm) = parse_algorithm_identifier(i)?;
-        let (i, issuer_name_hash) = tagged::<AllBytes>(i, tag::OCTET_STRING)?;
-        let (i, issuer_key_hash) = tagged::<AllBytes>(i, tag::OCTET_STRING)?;
-        let (i, serial_number) = tagged::<Integer>(i, tag::INTEGER)?;
+        let (i, hash_algorithm) = parsed!(parse_algorithm_identifier(i));
+        let (i, issuer_name_hash) = parsed!(tagged::<AllBytes>(i, tag::OCTET_STRING));
+        let (i, issuer_key_hash) = parsed!(tagged::<AllBytes>(i, tag::OCTET_STRING));
+        let (i, serial_number) = parsed!(tagged::<Integer>(i, tag::INTEGER));
         let id = CertId {
             hash_algorithm,
             issuer_name_hash,
@@ -157,8 +157,8 @@ impl<'a> InPlace<'a> for RevokedContent {
 
     #[tactic(auto, using(layouts::proofs::OneAnswerLemmas::read_allowed), unfolding(crate::specs::Single::revoked_content))]
     fn read(i: &'a [u8]) -> IResult<&'a [u8], RevokedInfo> {
-        let (i, revocation_time) = Time::read(i)?;
-        let (i, revocation_reason) = optional::<Reason>(i, 0xa0)?;
+        let (i, revocation_time) = parsed!(Time::read(i));
+        let (i, revocation_reason) = parsed!(optional::<Reason>(i, 0xa0));
         let revoked = RevokedInfo {
             revocation_time,
             revocation_reason,
@@ -223,11 +223,11 @@ impl<'a> InPlace<'a> for UnknownContent {
 fn parse_cert_status(i: &[u8]) -> IResult<&[u8], CertStatus>
     ensures { Gives (λ v. v) cert_status_layout i.now result }
 {
-    let (_, t) = number1(i)?;
+    let (_, t) = parsed!(number1(i));
     match t {
         GOOD => tagged::<GoodContent>(i, GOOD),
         REVOKED => {
-            let (i, revoked) = tagged::<RevokedContent>(i, REVOKED)?;
+            let (i, revoked) = parsed!(tagged::<RevokedContent>(i, REVOKED));
             Ok((i, CertStatus::Revoked(revoked)))
         }
         UNKNOWN => tagged::<UnknownContent>(i, UNKNOWN),
@@ -282,11 +282,11 @@ impl<'a> InPlace<'a> for SingleContent {
 
     #[tactic(auto, using(layouts::proofs::OneAnswerLemmas::read_allowed, layouts::proofs::ItemsLemmas::none_in), unfolding(crate::specs::Single::single_content))]
     fn read(i: &'a [u8]) -> IResult<&'a [u8], SingleResponse<'a>> {
-        let (i, cert_id) = parse_cert_id(i)?;
-        let (i, cert_status) = parse_cert_status(i)?;
-        let (i, this_update) = Time::read(i)?;
-        let (i, next_update) = optional::<Time>(i, 0xa0)?;
-        let (i, list) = optional::<ExtensionList>(i, 0xa1)?;
+        let (i, cert_id) = parsed!(parse_cert_id(i));
+        let (i, cert_status) = parsed!(parse_cert_status(i));
+        let (i, this_update) = parsed!(Time::read(i));
+        let (i, next_update) = parsed!(optional::<Time>(i, 0xa0));
+        let (i, list) = parsed!(optional::<ExtensionList>(i, 0xa1));
         let extensions = match list {
             Some(extensions) => extensions,
             None => Items::new(&[]),

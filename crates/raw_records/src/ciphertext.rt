@@ -7,7 +7,7 @@ ghost use Rattle.raw_records.specs.Ciphertext.{length_field as length_field_layo
 ghost use Rattle.raw_records.specs.Ciphertext.{encrypted_record_of as encrypted_record_of_layout, encrypted_record as encrypted_record_layout, ciphertext, view_ciphertext};
 
 use crate::record::MAX_RECORD_LEN;
-use layouts::{ErrorKind, IResult, block, number1, number2, refused};
+use layouts::{ErrorKind, IResult, block, number1, number2, parsed, refused};
 
 /// Bit C of the first byte: a connection ID is present.
 const C_BIT: u8 = 0x10;
@@ -69,7 +69,7 @@ fn connection_id(i: &[u8], is_present: bool, len: usize) -> IResult<&[u8], Optio
     if len == 0 {
         return refused(i, ErrorKind::Verify);
     }
-    let (i, id) = block(i, len)?;
+    let (i, id) = parsed!(block(i, len));
     Ok((i, Some(id)))
 }
 
@@ -79,10 +79,10 @@ fn sequence_number(i: &[u8], is_long: bool) -> IResult<&[u8], SequenceNumber>
     ensures { Gives view_sequence_number (sequence_number_layout is_long) i.now result }
 {
     if is_long {
-        let (i, n) = number2(i)?;
+        let (i, n) = parsed!(number2(i));
         return Ok((i, SequenceNumber::Bits16(n)));
     }
-    let (i, n) = number1(i)?;
+    let (i, n) = parsed!(number1(i));
     Ok((i, SequenceNumber::Bits8(n)))
 }
 
@@ -94,7 +94,7 @@ fn length_field(i: &[u8], is_present: bool) -> IResult<&[u8], Option<u16>>
     if !is_present {
         return Ok((i, None));
     }
-    let (i, n) = number2(i)?;
+    let (i, n) = parsed!(number2(i));
     Ok((i, Some(n)))
 }
 
@@ -103,13 +103,13 @@ fn length_field(i: &[u8], is_present: bool) -> IResult<&[u8], Option<u16>>
 fn unified_header(i: &[u8], connection_id_len: usize) -> IResult<&[u8], UnifiedHeader>
     ensures { Gives view_unified_header (unified_hdr connection_id_len) i.now result }
 {
-    let (i, first) = number1(i)?;
+    let (i, first) = parsed!(number1(i));
     if first / 32 != 1 {
         return refused(i, ErrorKind::Tag);
     }
-    let (i, connection_id) = connection_id(i, first / C_BIT % 2 == 1, connection_id_len)?;
-    let (i, sequence_number) = sequence_number(i, first / S_BIT % 2 == 1)?;
-    let (i, length) = length_field(i, first / L_BIT % 2 == 1)?;
+    let (i, connection_id) = parsed!(connection_id(i, first / C_BIT % 2 == 1, connection_id_len));
+    let (i, sequence_number) = parsed!(sequence_number(i, first / S_BIT % 2 == 1));
+    let (i, length) = parsed!(length_field(i, first / L_BIT % 2 == 1));
     let header = UnifiedHeader {
         connection_id,
         sequence_number,
@@ -168,8 +168,8 @@ fn encrypted_record(i: &[u8], length: Option<u16>) -> IResult<&[u8], &[u8]>
 pub fn parse_dtls13_ciphertext(i: &[u8], connection_id_len: usize) -> IResult<&[u8], DTLSCiphertext>
     ensures { Gives view_ciphertext (ciphertext connection_id_len) i.now result }
 {
-    let (i, header) = unified_header(i, connection_id_len)?;
-    let (i, encrypted_record) = encrypted_record(i, header.length)?;
+    let (i, header) = parsed!(unified_header(i, connection_id_len));
+    let (i, encrypted_record) = parsed!(encrypted_record(i, header.length));
     let record = DTLSCiphertext {
         header,
         encrypted_record,

@@ -9,7 +9,7 @@ ghost use Rattle.raw_records.specs.RawDtlsRecord.{view_header, view_raw_record};
 use crate::ciphertext::{DTLSCiphertext, parse_dtls13_ciphertext};
 use crate::dtls_record::{DTLSRawRecord, DTLSRecordHeader, parse_dtls_record_header};
 use crate::record::{MAX_ENCRYPTED_LEN, MAX_RECORD_LEN};
-use layouts::{ErrorKind, IResult, block, number1, number2, number8, refused};
+use layouts::{ErrorKind, IResult, block, number1, number2, number8, parsed, refused};
 use tls_base::{TlsRecordType, TlsVersion};
 
 /// The header of a DTLS 1.2 record with a connection ID (RFC 9146, section 4).
@@ -71,8 +71,8 @@ fn content<'a>(i: &'a [u8], header: &DTLSRecordHeader) -> IResult<&'a [u8], &'a 
 pub fn read_record(i: &[u8]) -> IResult<&[u8], DTLSRawRecord>
     ensures { Gives view_raw_record datagram_record i.now result }
 {
-    let (i, header) = parse_dtls_record_header(i)?;
-    let (i, fragment) = content(i, &header)?;
+    let (i, header) = parsed!(parse_dtls_record_header(i));
+    let (i, fragment) = parsed!(content(i, &header));
     Ok((i, DTLSRawRecord { header, fragment }))
 }
 
@@ -85,11 +85,11 @@ fn connection_id_header(i: &[u8], connection_id_len: usize) -> IResult<&[u8], Co
     if connection_id_len == 0 {
         return refused(i, ErrorKind::Verify);
     }
-    let (i, content_type) = TlsRecordType::parse(i)?;
-    let (i, version) = TlsVersion::parse(i)?;
-    let (i, counter) = number8(i)?;
-    let (i, connection_id) = block(i, connection_id_len)?;
-    let (i, length) = number2(i)?;
+    let (i, content_type) = parsed!(TlsRecordType::parse(i));
+    let (i, version) = parsed!(TlsVersion::parse(i));
+    let (i, counter) = parsed!(number8(i));
+    let (i, connection_id) = parsed!(block(i, connection_id_len));
+    let (i, length) = parsed!(number2(i));
     let fields = DTLSRecordHeader {
         content_type,
         version,
@@ -110,11 +110,11 @@ fn connection_id_record(i: &[u8], connection_id_len: usize) -> IResult<&[u8], Co
     ensures { Gives view_connection_id_record (connection_id_record_layout connection_id_len)
         i.now result }
 {
-    let (i, header) = connection_id_header(i, connection_id_len)?;
+    let (i, header) = parsed!(connection_id_header(i, connection_id_len));
     if header.fields.length > MAX_ENCRYPTED_LEN {
         return refused(i, ErrorKind::TooLarge);
     }
-    let (i, fragment) = block(i, header.fields.length as usize)?;
+    let (i, fragment) = parsed!(block(i, header.fields.length as usize));
     Ok((i, ConnectionIdRecord { header, fragment }))
 }
 
@@ -142,18 +142,18 @@ fn connection_id_record(i: &[u8], connection_id_len: usize) -> IResult<&[u8], Co
 pub fn read_datagram_record(i: &[u8], connection_id_len: usize) -> IResult<&[u8], DatagramRecord>
     ensures { Gives view_datagram_record (datagram_record13 connection_id_len) i.now result }
 {
-    let (_, first) = number1(i)?;
+    let (_, first) = parsed!(number1(i));
     match first {
         20..=24 | 26 => {
-            let (i, record) = read_record(i)?;
+            let (i, record) = parsed!(read_record(i));
             Ok((i, DatagramRecord::Plaintext(record)))
         }
         25 => {
-            let (i, record) = connection_id_record(i, connection_id_len)?;
+            let (i, record) = parsed!(connection_id_record(i, connection_id_len));
             Ok((i, DatagramRecord::ConnectionId(record)))
         }
         _ if first / 32 == 1 => {
-            let (i, record) = parse_dtls13_ciphertext(i, connection_id_len)?;
+            let (i, record) = parsed!(parse_dtls13_ciphertext(i, connection_id_len));
             Ok((i, DatagramRecord::Ciphertext(record)))
         }
         _ => refused(i, ErrorKind::Switch),

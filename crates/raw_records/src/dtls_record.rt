@@ -4,7 +4,7 @@ ghost use Rattle.layouts.specs.Answers.{Gives};
 ghost use Rattle.raw_records.specs.RawDtlsRecord.{view_header, record_header, view_raw_record, raw_record};
 
 use crate::record::MAX_RECORD_LEN;
-use layouts::{ErrorKind, IResult, block, number2, number8, refused};
+use layouts::{ErrorKind, IResult, block, number2, number8, parsed, refused};
 use tls_base::{TlsRecordType, TlsVersion};
 
 /// The header of a DTLS record (RFC 6347, section 4.1), 13 bytes.
@@ -41,10 +41,10 @@ pub fn parse_dtls_record_header(i: &[u8]) -> IResult<&[u8], DTLSRecordHeader>
     ensures gives { Gives view_header record_header i.now result }
     ensures only_one { AllowsOne record_header i.now }
 {
-    let (i, content_type) = TlsRecordType::parse(i)?;
-    let (i, version) = TlsVersion::parse(i)?;
-    let (i, counter) = number8(i)?;
-    let (i, length) = number2(i)?;
+    let (i, content_type) = parsed!(TlsRecordType::parse(i));
+    let (i, version) = parsed!(TlsVersion::parse(i));
+    let (i, counter) = parsed!(number8(i));
+    let (i, length) = parsed!(number2(i));
     let header = DTLSRecordHeader {
         content_type,
         version,
@@ -65,10 +65,10 @@ pub fn parse_dtls_record_header(i: &[u8]) -> IResult<&[u8], DTLSRecordHeader>
 pub fn parse_dtls_raw_record(i: &[u8]) -> IResult<&[u8], DTLSRawRecord>
     ensures { Gives view_raw_record raw_record i.now result }
 {
-    let (i, header) = parse_dtls_record_header(i)?;
+    let (i, header) = parsed!(parse_dtls_record_header(i));
     if header.length > MAX_RECORD_LEN {
         return refused(i, ErrorKind::TooLarge);
     }
-    let (i, fragment) = block(i, header.length as usize)?;
+    let (i, fragment) = parsed!(block(i, header.length as usize));
     Ok((i, DTLSRawRecord { header, fragment }))
 }

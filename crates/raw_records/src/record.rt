@@ -5,7 +5,7 @@ ghost use Rattle.layouts.specs.Answers.{Gives};
 ghost use Rattle.raw_records.specs.RawRecord.{view_header, record_header, view_raw_record, view_encrypted, raw_record};
 ghost use Rattle.raw_records.specs.RawRecord.{IsInFront};
 
-use layouts::{ErrorKind, IResult, block, number2, refused};
+use layouts::{ErrorKind, IResult, block, number2, parsed, refused};
 use tls_base::{TlsRecordType, TlsVersion};
 
 /// The maximum length of a record's fragment here, in bytes, for TLS and DTLS, encrypted or not:
@@ -66,9 +66,9 @@ impl TlsRecordHeader {
     pub fn parse(i: &[u8]) -> IResult<&[u8], Self>
         ensures { Gives view_header record_header i.now result }
     {
-        let (i, record_type) = TlsRecordType::parse(i)?;
-        let (i, version) = TlsVersion::parse(i)?;
-        let (i, len) = number2(i)?;
+        let (i, record_type) = parsed!(TlsRecordType::parse(i));
+        let (i, version) = parsed!(TlsVersion::parse(i));
+        let (i, len) = parsed!(number2(i));
         let header = TlsRecordHeader {
             record_type,
             version,
@@ -100,11 +100,11 @@ pub fn parse_tls_raw_record(i: &[u8]) -> IResult<&[u8], TlsRawRecord>
     // The input begins with the record's bytes, and the rest follows them.
     ensures in_front { IfOk result (λ x. IsInFront (view_raw_record x.1) i.now x.0.now) }
 {
-    let (i, hdr) = parse_tls_record_header(i)?;
+    let (i, hdr) = parsed!(parse_tls_record_header(i));
     if hdr.len > MAX_RECORD_LEN {
         return refused(i, ErrorKind::TooLarge);
     }
-    let (i, bytes) = block(i, hdr.len as usize)?;
+    let (i, bytes) = parsed!(block(i, hdr.len as usize));
     Ok((i, TlsRawRecord { hdr, bytes }))
 }
 
@@ -115,7 +115,7 @@ pub fn parse_tls_encrypted(i: &[u8]) -> IResult<&[u8], TlsEncrypted>
     ensures gives { Gives view_encrypted raw_record i.now result }
     ensures only_one { AllowsOne raw_record i.now }
 {
-    let (i, TlsRawRecord { hdr, bytes }) = parse_tls_raw_record(i)?;
+    let (i, TlsRawRecord { hdr, bytes }) = parsed!(parse_tls_raw_record(i));
     let msg = TlsEncryptedContent { blob: bytes };
     Ok((i, TlsEncrypted { hdr, msg }))
 }

@@ -5,7 +5,7 @@ ghost use Rattle.ssl2_hello.specs.ClientHello.{view_client_hello, message as mes
 
 use crate::cipher_spec::CipherSpec;
 use crate::front::{fixed_fields, record_length};
-use layouts::{Err, ErrorKind, IResult, Items, block, refused};
+use layouts::{Err, ErrorKind, IResult, Items, block, parsed, refused};
 use tls_base::TlsVersion;
 
 /// A ClientHello in the form of SSL 2.0: the V2ClientHello of RFC 5246, appendix E.2.
@@ -26,10 +26,10 @@ pub struct Ssl2ClientHello<'a> {
 fn message(i: &[u8], n: u16) -> IResult<&[u8], Ssl2ClientHello>
     ensures { Gives view_client_hello (message_layout n) i.now result }
 {
-    let (i, fields) = fixed_fields(i, n)?;
-    let (i, cipher_specs) = block(i, fields.cipher_spec_length as usize)?;
-    let (i, session_id) = block(i, fields.session_id_length as usize)?;
-    let (i, challenge) = block(i, fields.challenge_length as usize)?;
+    let (i, fields) = parsed!(fixed_fields(i, n));
+    let (i, cipher_specs) = parsed!(block(i, fields.cipher_spec_length as usize));
+    let (i, session_id) = parsed!(block(i, fields.session_id_length as usize));
+    let (i, challenge) = parsed!(block(i, fields.challenge_length as usize));
     let hello = Ssl2ClientHello {
         version: fields.version,
         cipher_specs: Items::new(cipher_specs),
@@ -69,8 +69,8 @@ fn in_record(bytes: &[u8], n: u16) -> IResult<&[u8], Ssl2ClientHello>
 pub fn parse_ssl2_client_hello(i: &[u8]) -> IResult<&[u8], Ssl2ClientHello>
     ensures { Gives view_client_hello client_hello_layout i.now result }
 {
-    let (i, n) = record_length(i)?;
-    let (rest, record) = block(i, n as usize)?;
-    let (_, hello) = in_record(record, n)?;
+    let (i, n) = parsed!(record_length(i));
+    let (rest, record) = parsed!(block(i, n as usize));
+    let (_, hello) = parsed!(in_record(record, n));
     Ok((rest, hello))
 }

@@ -4,7 +4,7 @@ ghost use Rattle.layouts.specs.Answers.{Gives};
 ghost use Rattle.ssl2_hello.specs.Front.{record_length as record_length_layout, fixed_fields as fixed_fields_layout, lengths as lengths_layout, view_fixed_fields};
 ghost use Rattle.ssl2_hello.specs.Front.{beginning as beginning_layout, begins_ssl2_hello_in};
 
-use layouts::{ErrorKind, IResult, number1, number2, refused};
+use layouts::{ErrorKind, IResult, number1, number2, parsed, refused};
 use tls_base::TlsVersion;
 
 /// The message type.
@@ -30,7 +30,7 @@ pub(crate) struct FixedFields {
 pub(crate) fn record_length(i: &[u8]) -> IResult<&[u8], u16>
     ensures { Gives (λ n. n) record_length_layout i.now result }
 {
-    let (i, n) = number2(i)?;
+    let (i, n) = parsed!(number2(i));
     if n < 0x8000 {
         return refused(i, ErrorKind::Tag);
     }
@@ -42,15 +42,15 @@ pub(crate) fn record_length(i: &[u8]) -> IResult<&[u8], u16>
 fn lengths(i: &[u8], version: TlsVersion) -> IResult<&[u8], FixedFields>
     ensures { Gives view_fixed_fields (lengths_layout version.0) i.now result }
 {
-    let (i, cipher_spec_length) = number2(i)?;
+    let (i, cipher_spec_length) = parsed!(number2(i));
     if cipher_spec_length % 3 != 0 || cipher_spec_length == 0 {
         return refused(i, ErrorKind::LengthValue);
     }
-    let (i, session_id_length) = number2(i)?;
+    let (i, session_id_length) = parsed!(number2(i));
     if session_id_length > 32 {
         return refused(i, ErrorKind::Verify);
     }
-    let (i, challenge_length) = number2(i)?;
+    let (i, challenge_length) = parsed!(number2(i));
     if challenge_length < 16 || challenge_length > 32 {
         return refused(i, ErrorKind::Verify);
     }
@@ -68,15 +68,15 @@ fn lengths(i: &[u8], version: TlsVersion) -> IResult<&[u8], FixedFields>
 pub(crate) fn fixed_fields(i: &[u8], n: u16) -> IResult<&[u8], FixedFields>
     ensures { Gives view_fixed_fields (fixed_fields_layout n) i.now result }
 {
-    let (i, msg_type) = number1(i)?;
+    let (i, msg_type) = parsed!(number1(i));
     if msg_type != CLIENT_HELLO {
         return refused(i, ErrorKind::Tag);
     }
-    let (i, version) = TlsVersion::parse(i)?;
+    let (i, version) = parsed!(TlsVersion::parse(i));
     if version.0 != 0x0002 && (version.0 < 0x0300 || version.0 > 0x03ff) {
         return refused(i, ErrorKind::Tag);
     }
-    let (i, fields) = lengths(i, version)?;
+    let (i, fields) = parsed!(lengths(i, version));
     let length = FRONT_LEN
         + u32::from(fields.cipher_spec_length)
         + u32::from(fields.session_id_length)
@@ -92,7 +92,7 @@ pub(crate) fn fixed_fields(i: &[u8], n: u16) -> IResult<&[u8], FixedFields>
 fn beginning(i: &[u8]) -> IResult<&[u8], FixedFields>
     ensures { Gives view_fixed_fields beginning_layout i.now result }
 {
-    let (i, n) = record_length(i)?;
+    let (i, n) = parsed!(record_length(i));
     fixed_fields(i, n)
 }
 

@@ -4,7 +4,7 @@ ghost use Rattle.tls_base.specs.Alert.{view_alert, alert};
 
 use crate::alert_description::TlsAlertDescription;
 use crate::alert_severity::TlsAlertSeverity;
-use layouts::IResult;
+use layouts::{IResult, parsed};
 
 /// An alert (RFC 5246, section 7.2).
 #[derive(Clone, Debug, PartialEq, Drop)]
@@ -23,8 +23,8 @@ impl TlsMessageAlert {
     pub fn parse(i: &[u8]) -> IResult<&[u8], Self>
         ensures { Gives view_alert alert i.now result }
     {
-        let (i, severity) = TlsAlertSeverity::parse(i)?;
-        let (i, code) = TlsAlertDescription::parse(i)?;
+        let (i, severity) = parsed!(TlsAlertSeverity::parse(i));
+        let (i, code) = parsed!(TlsAlertDescription::parse(i));
         Ok((i, TlsMessageAlert { severity, code }))
     }
 }

@@ -8,7 +8,7 @@ ghost use Rattle.tls_base.specs.Registered.{registered_alerts};
 ghost use Rattle.tls_base.specs.Constants.{alert_descriptions};
 
 use crate::name::{find_name, names, registered, write_name};
-use layouts::{IResult, number1};
+use layouts::{IResult, number1, parsed};
 use std::fmt;
 
 /// The description of an alert: the AlertDescription of RFC 8446, section 6, with the alerts of
@@ -133,7 +133,7 @@ impl TlsAlertDescription {
     pub fn parse(i: &[u8]) -> IResult<&[u8], Self>
         ensures { Gives (λ v. v.0) (number 1) i.now result }
     {
-        let (i, n) = number1(i)?;
+        let (i, n) = parsed!(number1(i));
         Ok((i, TlsAlertDescription(n)))
     }
 }

@@ -6,7 +6,7 @@ ghost use Rattle.tls_base.specs.Names.{name};
 ghost use Rattle.tls_base.specs.Constants.{alert_levels};
 
 use crate::name::{names, write_name};
-use layouts::{IResult, number1};
+use layouts::{IResult, number1, parsed};
 use std::fmt;
 
 /// The severity of an alert: the AlertLevel of RFC 5246, section 7.2.
@@ -24,7 +24,7 @@ impl TlsAlertSeverity {
     pub fn parse(i: &[u8]) -> IResult<&[u8], Self>
         ensures { Gives (λ v. v.0) (number 1) i.now result }
     {
-        let (i, n) = number1(i)?;
+        let (i, n) = parsed!(number1(i));
         Ok((i, TlsAlertSeverity(n)))
     }
 }

@@ -5,7 +5,7 @@ ghost use Rattle.layouts.specs.Answers.{Gives};
 ghost use Rattle.tls_base.specs.Names.{hexadecimal};
 ghost use Rattle.std.specs.Fmt.{decimal};
 
-use layouts::{IResult, Number, OutOfMemory, number2};
+use layouts::{IResult, Number, OutOfMemory, number2, parsed};
 use std::alloc::Global;
 use std::fmt;
 use std::ops::Deref;
@@ -36,7 +36,7 @@ impl TlsCipherSuiteID {
     pub fn parse(i: &[u8]) -> IResult<&[u8], Self>
         ensures { Gives (λ v. v.0) (number 2) i.now result }
     {
-        let (i, n) = number2(i)?;
+        let (i, n) = parsed!(number2(i));
         Ok((i, TlsCipherSuiteID(n)))
     }
 }

@@ -6,7 +6,7 @@ ghost use Rattle.tls_base.specs.Names.{name};
 ghost use Rattle.tls_base.specs.Constants.{compression_methods};
 
 use crate::name::{names, write_name};
-use layouts::{IResult, Number, number1};
+use layouts::{IResult, Number, number1, parsed};
 use std::fmt;
 use std::ops::Deref;
 
@@ -32,7 +32,7 @@ impl TlsCompressionID {
     pub fn parse(i: &[u8]) -> IResult<&[u8], Self>
         ensures { Gives (λ v. v.0) (number 1) i.now result }
     {
-        let (i, n) = number1(i)?;
+        let (i, n) = parsed!(number1(i));
         Ok((i, TlsCompressionID(n)))
     }
 }

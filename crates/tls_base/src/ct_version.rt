@@ -6,7 +6,7 @@ ghost use Rattle.tls_base.specs.Names.{name};
 ghost use Rattle.tls_base.specs.Constants.{ct_versions};
 
 use crate::name::{names, write_name};
-use layouts::{IResult, number1};
+use layouts::{IResult, number1, parsed};
 use std::fmt;
 
 /// The version of a signed certificate timestamp: the Version of RFC 6962, section 3.2.
@@ -21,7 +21,7 @@ impl CtVersion {
     pub fn parse(i: &[u8]) -> IResult<&[u8], Self>
         ensures { Gives (λ v. v.0) (number 1) i.now result }
     {
-        let (i, n) = number1(i)?;
+        let (i, n) = parsed!(number1(i));
         Ok((i, CtVersion(n)))
     }
 }

@@ -2,7 +2,7 @@
 ghost use Rattle.layouts.specs.Answers.{Gives};
 ghost use Rattle.tls_base.specs.Point.{view_point, point as point_layout};
 
-use layouts::{IResult, counted1};
+use layouts::{IResult, counted1, parsed};
 
 /// A point of an elliptic curve (RFC 8422, section 5.4).
 #[derive(Clone, Debug, PartialEq, Drop)]
@@ -18,7 +18,7 @@ impl<'a> ECPoint<'a> {
     pub fn parse(i: &'a [u8]) -> IResult<&'a [u8], Self>
         ensures { Gives view_point point_layout i.now result }
     {
-        let (i, point) = counted1(i)?;
+        let (i, point) = parsed!(counted1(i));
         Ok((i, ECPoint { point }))
     }
 }

@@ -8,7 +8,7 @@ ghost use Rattle.tls_base.specs.Registered.{registered_extension_types};
 ghost use Rattle.tls_base.specs.ExtensionNumbers.{extension_types};
 
 use crate::name::{find_name, numbers, registered, texts, write_rising};
-use layouts::{IResult, number2};
+use layouts::{IResult, number2, parsed};
 use std::fmt;
 
 /// The type of an extension: the ExtensionType of RFC 8446, section 4.2, 2 bytes, big-endian. Types
@@ -168,7 +168,7 @@ impl TlsExtensionType {
     pub fn parse(i: &[u8]) -> IResult<&[u8], Self>
         ensures { Gives (λ v. v.0) (number 2) i.now result }
     {
-        let (i, n) = number2(i)?;
+        let (i, n) = parsed!(number2(i));
         Ok((i, TlsExtensionType(n)))
     }
 }

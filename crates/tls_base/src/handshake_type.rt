@@ -8,7 +8,7 @@ ghost use Rattle.tls_base.specs.Registered.{registered_handshake_types};
 ghost use Rattle.tls_base.specs.Constants.{handshake_types};
 
 use crate::name::{find_name, names, registered, write_name};
-use layouts::{IResult, number1};
+use layouts::{IResult, number1, parsed};
 use std::fmt;
 
 /// The type of a handshake message: the HandshakeType of RFC 5246, section 7.4, and RFC 8446,
@@ -86,7 +86,7 @@ impl TlsHandshakeType {
     pub fn parse(i: &[u8]) -> IResult<&[u8], Self>
         ensures { Gives (λ v. v.0) (number 1) i.now result }
     {
-        let (i, n) = number1(i)?;
+        let (i, n) = parsed!(number1(i));
         Ok((i, TlsHandshakeType(n)))
     }
 }

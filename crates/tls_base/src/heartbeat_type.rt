@@ -6,7 +6,7 @@ ghost use Rattle.tls_base.specs.Names.{name};
 ghost use Rattle.tls_base.specs.Constants.{heartbeat_message_types};
 
 use crate::name::{names, write_name};
-use layouts::{IResult, number1};
+use layouts::{IResult, number1, parsed};
 use std::fmt;
 
 /// The type of a heartbeat message, request or response: the HeartbeatMessageType of RFC 6520,
@@ -25,7 +25,7 @@ impl TlsHeartbeatMessageType {
     pub fn parse(i: &[u8]) -> IResult<&[u8], Self>
         ensures { Gives (λ v. v.0) (number 1) i.now result }
     {
-        let (i, n) = number1(i)?;
+        let (i, n) = parsed!(number1(i));
         Ok((i, TlsHeartbeatMessageType(n)))
     }
 }

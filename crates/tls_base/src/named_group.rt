@@ -8,7 +8,7 @@ ghost use Rattle.tls_base.specs.Registered.{registered_groups};
 ghost use Rattle.tls_base.specs.Constants.{key_bits as key_bits_of, named_groups};
 
 use crate::name::{find_name, find_number, names, registered, write_name};
-use layouts::{IResult, Number, number2};
+use layouts::{IResult, Number, number2, parsed};
 use std::fmt;
 
 /// A key exchange group: the NamedGroup of RFC 8446, section 4.2.7, 2 bytes, big-endian.
@@ -164,7 +164,7 @@ impl NamedGroup {
     pub fn parse(i: &[u8]) -> IResult<&[u8], Self>
         ensures { Gives (λ v. v.0) (number 2) i.now result }
     {
-        let (i, n) = number2(i)?;
+        let (i, n) = parsed!(number2(i));
         Ok((i, NamedGroup(n)))
     }
 }

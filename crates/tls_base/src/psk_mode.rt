@@ -2,7 +2,7 @@
 ghost use Rattle.layouts.specs.Layout.{number};
 ghost use Rattle.layouts.specs.Answers.{Gives};
 
-use layouts::{IResult, number1};
+use layouts::{IResult, number1, parsed};
 
 /// The mode in which a pre-shared key may be used: the PskKeyExchangeMode of RFC 8446, section
 /// 4.2.9.
@@ -20,7 +20,7 @@ impl PskKeyExchangeMode {
     pub fn parse(i: &[u8]) -> IResult<&[u8], Self>
         ensures { Gives (λ v. v.0) (number 1) i.now result }
     {
-        let (i, n) = number1(i)?;
+        let (i, n) = parsed!(number1(i));
         Ok((i, PskKeyExchangeMode(n)))
     }
 }

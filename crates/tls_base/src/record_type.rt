@@ -8,7 +8,7 @@ ghost use Rattle.tls_base.specs.Registered.{registered_content_types};
 ghost use Rattle.tls_base.specs.Constants.{content_types};
 
 use crate::name::{find_name, names, registered, write_name};
-use layouts::{IResult, number1};
+use layouts::{IResult, number1, parsed};
 use std::fmt;
 
 /// The type of a record: the ContentType of RFC 5246, section 6.2.1, and heartbeat (RFC 6520,
@@ -43,7 +43,7 @@ impl TlsRecordType {
     pub fn parse(i: &[u8]) -> IResult<&[u8], Self>
         ensures { Gives (λ v. v.0) (number 1) i.now result }
     {
-        let (i, n) = number1(i)?;
+        let (i, n) = parsed!(number1(i));
         Ok((i, TlsRecordType(n)))
     }
 }

@@ -6,7 +6,7 @@ ghost use Rattle.tls_base.specs.Names.{name};
 ghost use Rattle.tls_base.specs.Constants.{signature_algorithms};
 
 use crate::name::{names, write_name};
-use layouts::{IResult, number1};
+use layouts::{IResult, number1, parsed};
 use std::fmt;
 
 /// A signature algorithm: the SignatureAlgorithm of RFC 5246, section 7.4.1.4.1, with those of RFC
@@ -37,7 +37,7 @@ impl SignAlgorithm {
     pub fn parse(i: &[u8]) -> IResult<&[u8], Self>
         ensures { Gives (λ v. v.0) (number 1) i.now result }
     {
-        let (i, n) = number1(i)?;
+        let (i, n) = parsed!(number1(i));
         Ok((i, SignAlgorithm(n)))
     }
 }

@@ -8,7 +8,7 @@ ghost use Rattle.tls_base.specs.Constants.{signature_schemes};
 ghost use Rattle.tls_base.specs.Registered.{registered_signature_schemes};
 
 use crate::name::{find_name, names, registered, write_name};
-use layouts::{IResult, number2};
+use layouts::{IResult, number2, parsed};
 use std::fmt;
 
 /// A signature scheme: the SignatureScheme of RFC 8446, section 4.2.3, 2 bytes, big-endian, with
@@ -111,7 +111,7 @@ impl SignatureScheme {
     pub fn parse(i: &[u8]) -> IResult<&[u8], Self>
         ensures { Gives (λ v. v.0) (number 2) i.now result }
     {
-        let (i, n) = number2(i)?;
+        let (i, n) = parsed!(number2(i));
         Ok((i, SignatureScheme(n)))
     }
 }

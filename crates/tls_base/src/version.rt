@@ -7,7 +7,7 @@ ghost use Rattle.tls_base.specs.Constants.{protocol_versions};
 ghost use Rattle.layouts.specs.Bytes.{bytes_of};
 
 use crate::name::{names, write_name};
-use layouts::{IResult, Number, OutOfMemory, number2};
+use layouts::{IResult, Number, OutOfMemory, number2, parsed};
 use std::alloc::Global;
 use std::fmt;
 
@@ -83,7 +83,7 @@ impl TlsVersion {
     pub fn parse(i: &[u8]) -> IResult<&[u8], Self>
         ensures { Gives (λ v. v.0) (number 2) i.now result }
     {
-        let (i, n) = number2(i)?;
+        let (i, n) = parsed!(number2(i));
         Ok((i, TlsVersion(n)))
     }
 }

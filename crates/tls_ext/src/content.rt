@@ -16,7 +16,7 @@ ghost use Rattle.tls_ext.specs.Content.{server_name, oid_filter};
 use crate::extension::{OidFilter, TlsExtension};
 use layouts::{
     Counted1, ErrorKind, IResult, InPlace, Number2, Room, block, counted1, counted2, hops2, items,
-    maybe2, number1, number2, number4, pairs, refused,
+    maybe2, number1, number2, number4, pairs, parsed, refused,
 };
 use std::alloc::Global;
 use tls_base::{CertificateStatusType, NamedGroup, SNIType, TlsCipherSuiteID, TlsVersion};
@@ -141,8 +141,8 @@ pub(crate) fn next_protocol_negotiation_content(i: &[u8]) -> IResult<&[u8], TlsE
 pub fn parse_tls_extension_sni_hostname(i: &[u8]) -> IResult<&[u8], (SNIType, &[u8])>
     ensures { Gives view_server_name server_name i.now result }
 {
-    let (i, name_type) = SNIType::parse(i)?;
-    let (i, name) = counted2(i)?;
+    let (i, name_type) = parsed!(SNIType::parse(i));
+    let (i, name) = parsed!(counted2(i));
     Ok((i, (name_type, name)))
 }
 
@@ -186,8 +186,8 @@ pub fn parse_tls_extension_sni_content(alloc: Global, i: &[u8]) -> IResult<&[u8]
     if i.is_empty() {
         return Ok((i, TlsExtension::SNI(Vec::new(alloc))));
     }
-    let (i, window) = counted2(i)?;
-    let (_, names) = items::<ServerName>(alloc, window)?;
+    let (i, window) = parsed!(counted2(i));
+    let (_, names) = parsed!(items::<ServerName>(alloc, window));
     Ok((i, TlsExtension::SNI(names)))
 }
 
@@ -198,7 +198,7 @@ pub fn parse_tls_extension_sni_content(alloc: Global, i: &[u8]) -> IResult<&[u8]
 pub fn parse_tls_extension_max_fragment_length_content(i: &[u8]) -> IResult<&[u8], TlsExtension>
     ensures { Gives view content.max_fragment_length i.now result }
 {
-    let (i, code) = number1(i)?;
+    let (i, code) = parsed!(number1(i));
     Ok((i, TlsExtension::MaxFragmentLength(code)))
 }
 
@@ -213,7 +213,7 @@ pub(crate) fn status_request_content(i: &[u8]) -> IResult<&[u8], TlsExtension>
     if i.is_empty() {
         return Ok((i, TlsExtension::StatusRequest(None)));
     }
-    let (i, status_type) = CertificateStatusType::parse(i)?;
+    let (i, status_type) = parsed!(CertificateStatusType::parse(i));
     let (i, request) = whole(i);
     Ok((i, TlsExtension::StatusRequest(Some((status_type, request)))))
 }
@@ -231,8 +231,8 @@ pub fn parse_tls_extension_elliptic_curves_content(
 ) -> IResult<&[u8], TlsExtension>
     ensures { GivesOrMemory view content.supported_groups i.now result }
 {
-    let (i, window) = counted2(i)?;
-    let (_, groups) = pairs::<NamedGroup>(alloc, window)?;
+    let (i, window) = parsed!(counted2(i));
+    let (_, groups) = parsed!(pairs::<NamedGroup>(alloc, window));
     Ok((i, TlsExtension::EllipticCurves(groups)))
 }
 
@@ -244,7 +244,7 @@ pub fn parse_tls_extension_elliptic_curves_content(
 pub fn parse_tls_extension_ec_point_formats_content(i: &[u8]) -> IResult<&[u8], TlsExtension>
     ensures { Gives view content.ec_point_formats i.now result }
 {
-    let (i, formats) = counted1(i)?;
+    let (i, formats) = parsed!(counted1(i));
     Ok((i, TlsExtension::EcPointFormats(formats)))
 }
 
@@ -260,8 +260,8 @@ pub fn parse_tls_extension_signature_algorithms_content(
 ) -> IResult<&[u8], TlsExtension>
     ensures { GivesOrMemory view content.signature_algorithms i.now result }
 {
-    let (i, window) = counted2(i)?;
-    let (_, algorithms) = items::<Number2>(alloc, window)?;
+    let (i, window) = parsed!(counted2(i));
+    let (_, algorithms) = parsed!(items::<Number2>(alloc, window));
     Ok((i, TlsExtension::SignatureAlgorithms(algorithms)))
 }
 
@@ -272,7 +272,7 @@ pub fn parse_tls_extension_signature_algorithms_content(
 pub fn parse_tls_extension_heartbeat_content(i: &[u8]) -> IResult<&[u8], TlsExtension>
     ensures { Gives view content.heartbeat i.now result }
 {
-    let (i, mode) = number1(i)?;
+    let (i, mode) = parsed!(number1(i));
     Ok((i, TlsExtension::Heartbeat(mode)))
 }
 
@@ -286,8 +286,8 @@ pub fn parse_tls_extension_heartbeat_content(i: &[u8]) -> IResult<&[u8], TlsExte
 pub fn parse_tls_extension_alpn_content(alloc: Global, i: &[u8]) -> IResult<&[u8], TlsExtension>
     ensures { GivesOrMemory view content.application_layer_protocol_negotiation i.now result }
 {
-    let (i, window) = counted2(i)?;
-    let (_, names) = items::<Counted1>(alloc, window)?;
+    let (i, window) = parsed!(counted2(i));
+    let (_, names) = parsed!(items::<Counted1>(alloc, window));
     Ok((i, TlsExtension::ALPN(names)))
 }
 
@@ -301,7 +301,7 @@ pub fn parse_tls_extension_signed_certificate_timestamp_content(
 ) -> IResult<&[u8], TlsExtension>
     ensures { Gives view content.signed_certificate_timestamp i.now result }
 {
-    let (i, timestamps) = maybe2(i)?;
+    let (i, timestamps) = parsed!(maybe2(i));
     Ok((i, TlsExtension::SignedCertificateTimestamp(timestamps)))
 }
 
@@ -313,7 +313,7 @@ pub fn parse_tls_extension_signed_certificate_timestamp_content(
 pub(crate) fn record_size_limit_content(i: &[u8]) -> IResult<&[u8], TlsExtension>
     ensures { Gives view content.record_size_limit i.now result }
 {
-    let (i, limit) = number2(i)?;
+    let (i, limit) = parsed!(number2(i));
     Ok((i, TlsExtension::RecordSizeLimit(limit)))
 }
 
@@ -328,7 +328,7 @@ pub(crate) fn early_data_content(i: &[u8]) -> IResult<&[u8], TlsExtension>
     if i.is_empty() {
         return Ok((i, TlsExtension::EarlyData(None)));
     }
-    let (i, size) = number4(i)?;
+    let (i, size) = parsed!(number4(i));
     Ok((i, TlsExtension::EarlyData(Some(size))))
 }
 
@@ -344,13 +344,13 @@ pub(crate) fn supported_versions_content(alloc: Global, i: &[u8]) -> IResult<&[u
     ensures { GivesOrMemory view content.supported_versions i.now result }
 {
     if i.len() == 2 {
-        let (i, version) = TlsVersion::parse(i)?;
+        let (i, version) = parsed!(TlsVersion::parse(i));
         let mut versions = Vec::with_capacity(alloc, 1)?;
         versions.push_reserved(version);
         return Ok((i, TlsExtension::SupportedVersions(versions)));
     }
-    let (i, _) = block(i, 1)?;
-    let (i, versions) = pairs::<TlsVersion>(alloc, i)?;
+    let (i, _) = parsed!(block(i, 1));
+    let (i, versions) = parsed!(pairs::<TlsVersion>(alloc, i));
     Ok((i, TlsExtension::SupportedVersions(versions)))
 }
 
@@ -366,7 +366,7 @@ pub fn parse_tls_extension_psk_key_exchange_modes_content(
 ) -> IResult<&[u8], TlsExtension>
     ensures { GivesOrMemory view content.psk_key_exchange_modes i.now result }
 {
-    let (i, modes) = counted1(i)?;
+    let (i, modes) = parsed!(counted1(i));
     let modes = Vec::from_slice(alloc, modes)?;
     Ok((i, TlsExtension::PskExchangeModes(modes)))
 }
@@ -383,8 +383,8 @@ impl<'a> InPlace<'a> for OidFilter<'a> {
     #[tactic(auto, using(layouts::proofs::OneAnswerLemmas::read_allowed), unfolding(crate::specs::Content::oid_filter))]
     #[inline(always)]
     fn read(i: &'a [u8]) -> IResult<&'a [u8], Self> {
-        let (i, cert_ext_oid) = counted1(i)?;
-        let (i, cert_ext_val) = counted2(i)?;
+        let (i, cert_ext_oid) = parsed!(counted1(i));
+        let (i, cert_ext_val) = parsed!(counted2(i));
         let filter = OidFilter {
             cert_ext_oid,
             cert_ext_val,
@@ -411,8 +411,8 @@ impl Room for OidFilter<'_> {
 pub(crate) fn oid_filters_content(alloc: Global, i: &[u8]) -> IResult<&[u8], TlsExtension>
     ensures { GivesOrMemory view content.oid_filters i.now result }
 {
-    let (i, window) = counted2(i)?;
-    let (_, filters) = items::<OidFilter>(alloc, window)?;
+    let (i, window) = parsed!(counted2(i));
+    let (_, filters) = parsed!(items::<OidFilter>(alloc, window));
     Ok((i, TlsExtension::OidFilters(filters)))
 }
 
@@ -424,7 +424,7 @@ pub(crate) fn oid_filters_content(alloc: Global, i: &[u8]) -> IResult<&[u8], Tls
 pub fn parse_tls_extension_renegotiation_info_content(i: &[u8]) -> IResult<&[u8], TlsExtension>
     ensures { Gives view content.renegotiation_info i.now result }
 {
-    let (i, bytes) = counted1(i)?;
+    let (i, bytes) = parsed!(counted1(i));
     Ok((i, TlsExtension::RenegotiationInfo(bytes)))
 }
 
@@ -439,11 +439,11 @@ pub fn parse_tls_extension_renegotiation_info_content(i: &[u8]) -> IResult<&[u8]
 pub fn parse_tls_extension_encrypted_server_name(i: &[u8]) -> IResult<&[u8], TlsExtension>
     ensures { Gives view content.encrypted_server_name i.now result }
 {
-    let (i, ciphersuite) = TlsCipherSuiteID::parse(i)?;
-    let (i, group) = NamedGroup::parse(i)?;
-    let (i, key_share) = counted2(i)?;
-    let (i, record_digest) = counted2(i)?;
-    let (i, encrypted_sni) = counted2(i)?;
+    let (i, ciphersuite) = parsed!(TlsCipherSuiteID::parse(i));
+    let (i, group) = parsed!(NamedGroup::parse(i));
+    let (i, key_share) = parsed!(counted2(i));
+    let (i, record_digest) = parsed!(counted2(i));
+    let (i, encrypted_sni) = parsed!(counted2(i));
     let extension = TlsExtension::EncryptedServerName {
         ciphersuite,
         group,

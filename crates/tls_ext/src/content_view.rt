@@ -17,7 +17,7 @@ ghost use Rattle.tls_ext.specs.InPlace.{client_shares, key_share_entry, view_key
 use crate::content::ServerName;
 use crate::extension::{KeyShareEntry, OidFilter};
 use layouts::{
-    Counted1, IResult, InPlace, Items, block, counted1, counted2, number2, pairs_in_place,
+    Counted1, IResult, InPlace, Items, block, counted1, counted2, number2, pairs_in_place, parsed,
 };
 use tls_base::{NamedGroup, TlsVersion};
 
@@ -31,7 +31,7 @@ pub fn server_names(i: &[u8]) -> IResult<&[u8], Items<ServerName>>
     if i.is_empty() {
         return Ok((i, Items::new(i)));
     }
-    let (i, window) = counted2(i)?;
+    let (i, window) = parsed!(counted2(i));
     Ok((i, Items::new(window)))
 }
 
@@ -43,7 +43,7 @@ pub fn protocol_names(i: &[u8]) -> IResult<&[u8], Items<Counted1>>
         (λ v. extension.application_layer_protocol_negotiation (items_in (counted 1) v.bytes.now))
         content.application_layer_protocol_negotiation i.now result }
 {
-    let (i, window) = counted2(i)?;
+    let (i, window) = parsed!(counted2(i));
     Ok((i, Items::new(window)))
 }
 
@@ -55,7 +55,7 @@ pub fn signature_algorithms(i: &[u8]) -> IResult<&[u8], Items<u16>>
     ensures { Gives (λ v. extension.signature_algorithms (items_in (number 2) v.bytes.now))
         content.signature_algorithms i.now result }
 {
-    let (i, window) = counted2(i)?;
+    let (i, window) = parsed!(counted2(i));
     Ok((i, Items::new(window)))
 }
 
@@ -66,8 +66,8 @@ pub fn supported_groups(i: &[u8]) -> IResult<&[u8], Items<NamedGroup>>
     ensures { Gives (λ v. extension.supported_groups (items_in (number 2) v.bytes.now))
         content.supported_groups i.now result }
 {
-    let (i, window) = counted2(i)?;
-    let (_, groups) = pairs_in_place::<NamedGroup>(window)?;
+    let (i, window) = parsed!(counted2(i));
+    let (_, groups) = parsed!(pairs_in_place::<NamedGroup>(window));
     Ok((i, groups))
 }
 
@@ -103,7 +103,7 @@ pub fn oid_filters<'a>(i: &'a [u8]) -> IResult<&'a [u8], Items<'a, OidFilter<'a>
     ensures { Gives (λ v. extension.oid_filters (items_in content.oid_filter v.bytes.now))
         content.oid_filters i.now result }
 {
-    let (i, window) = counted2(i)?;
+    let (i, window) = parsed!(counted2(i));
     Ok((i, Items::new(window)))
 }
 
@@ -120,10 +120,10 @@ pub fn supported_versions(i: &[u8]) -> IResult<&[u8], Items<TlsVersion>>
         content.supported_versions i.now result }
 {
     if i.len() == 2 {
-        let (rest, _) = TlsVersion::parse(i)?;
+        let (rest, _) = parsed!(TlsVersion::parse(i));
         return Ok((rest, Items::new(i)));
     }
-    let (i, _) = block(i, 1)?;
+    let (i, _) = parsed!(block(i, 1));
     pairs_in_place::<TlsVersion>(i)
 }
 
@@ -139,8 +139,8 @@ impl<'a> InPlace<'a> for KeyShareEntry<'a> {
     #[tactic(auto, using(layouts::proofs::OneAnswerLemmas::read_allowed), unfolding(layouts::specs::Framed::framed))]
     #[inline(always)]
     fn read(i: &'a [u8]) -> IResult<&'a [u8], Self> {
-        let (i, n) = number2(i)?;
-        let (i, kx) = counted2(i)?;
+        let (i, n) = parsed!(number2(i));
+        let (i, kx) = parsed!(counted2(i));
         let group = NamedGroup(n);
         Ok((i, KeyShareEntry { group, kx }))
     }
@@ -155,6 +155,6 @@ impl<'a> InPlace<'a> for KeyShareEntry<'a> {
 pub fn key_shares<'a>(i: &'a [u8]) -> IResult<&'a [u8], Items<'a, KeyShareEntry<'a>>>
     ensures { Gives (λ v. items_in key_share_entry v.bytes.now) client_shares i.now result }
 {
-    let (i, window) = counted2(i)?;
+    let (i, window) = parsed!(counted2(i));
     Ok((i, Items::new(window)))
 }

@@ -11,7 +11,7 @@ ghost use Rattle.tls_ext.specs.declared.kind.Side.TheVariants.{General as genera
 use crate::content;
 use crate::extension::TlsExtension;
 use crate::kind::{Side, list_rows, other_rows, row_type, rows};
-use layouts::{IResult, Item, Room, counted2, hops2, items};
+use layouts::{IResult, Item, Room, counted2, hops2, items, parsed};
 use std::alloc::Global;
 use std::marker::PhantomData;
 use tls_base::TlsExtensionType;
@@ -98,9 +98,9 @@ fn extension_content(
 fn extension(alloc: Global, i: &[u8], side: Side) -> IResult<&[u8], TlsExtension>
     ensures { GivesOrMemory view (extension_layout side) i.now result }
 {
-    let (i, kind) = TlsExtensionType::parse(i)?;
-    let (i, window) = counted2(i)?;
-    let (_, extension) = extension_content(alloc, window, kind, side)?;
+    let (i, kind) = parsed!(TlsExtensionType::parse(i));
+    let (i, window) = parsed!(counted2(i));
+    let (_, extension) = parsed!(extension_content(alloc, window, kind, side));
     Ok((i, extension))
 }
 

@@ -11,7 +11,7 @@ ghost use Rattle.layouts.specs.Framed.{Framed};
 ghost use Rattle.layouts.specs.Text.{held};
 ghost use Rattle.tls_ext.specs.InPlace.{content_of, extension_type, raw_extension, view_raw_extension};
 
-use layouts::{Err, Error, IResult, InPlace, Items, counted2};
+use layouts::{Err, Error, IResult, InPlace, Items, counted2, parsed};
 use tls_base::TlsExtensionType;
 
 /// An extension whose content isn't parsed.
@@ -35,8 +35,8 @@ impl<'a> InPlace<'a> for RawExtension<'a> {
     #[tactic(auto, using(layouts::proofs::OneAnswerLemmas::read_allowed), unfolding(layouts::specs::Framed::framed))]
     #[inline(always)]
     fn read(i: &'a [u8]) -> IResult<&'a [u8], Self> {
-        let (i, extension_type) = TlsExtensionType::parse(i)?;
-        let (i, content) = counted2(i)?;
+        let (i, extension_type) = parsed!(TlsExtensionType::parse(i));
+        let (i, content) = parsed!(counted2(i));
         let extension = RawExtension {
             extension_type,
             content,
@@ -60,7 +60,7 @@ impl<'a> InPlace<'a> for ExtensionType {
 
     #[inline(always)]
     fn read(i: &'a [u8]) -> IResult<&'a [u8], TlsExtensionType> {
-        let (i, extension) = RawExtension::read(i)?;
+        let (i, extension) = parsed!(RawExtension::read(i));
         Ok((i, extension.extension_type))
     }
 }

@@ -16,7 +16,7 @@ ghost use Rattle.tls_ext.specs.InPlace.{best_version as best_version_in, host_na
 
 use crate::content_view::{protocol_names, server_names, supported_versions};
 use crate::extension_view::{extensions, first_content};
-use layouts::{Counted1, Err, Error, Items};
+use layouts::{Counted1, Err, Error, Items, parsed};
 use tls_base::{TlsExtensionType, TlsVersion};
 
 /// Returns the host name that a client requests (RFC 6066, section 3): the first name in the first
@@ -53,7 +53,7 @@ pub fn application_protocols<'a>(
     let Some(content) = first_content(extensions(ext), kind)? else {
         return Ok(None);
     };
-    let (_, names) = protocol_names(content)?;
+    let (_, names) = parsed!(protocol_names(content));
     Ok(Some(names))
 }
 
@@ -114,6 +114,6 @@ pub fn best_version<'a>(
     let Some(content) = first_content(extensions(ext), kind)? else {
         return Ok(Some(version));
     };
-    let (_, versions) = supported_versions(content)?;
+    let (_, versions) = parsed!(supported_versions(content));
     Ok(latest_version(versions))
 }

@@ -25,7 +25,7 @@ use crate::content::{
     supported_versions_content,
 };
 use crate::extension::TlsExtension;
-use layouts::{Err, Error, ErrorKind, IResult, block, counted2, number2, tag};
+use layouts::{Err, Error, ErrorKind, IResult, block, counted2, number2, parsed, tag};
 use std::alloc::Global;
 use tls_base::TlsExtensionType;
 
@@ -34,7 +34,7 @@ use tls_base::TlsExtensionType;
 fn tagged_bytes(i: &[u8], kind: TlsExtensionType) -> IResult<&[u8], &[u8]>
     ensures { Gives (λ v. v.now) (tagged_bytes_layout kind.0) i.now result }
 {
-    let (i, _) = tag(i, kind.0)?;
+    let (i, _) = parsed!(tag(i, kind.0));
     counted2(i)
 }
 
@@ -52,7 +52,7 @@ fn within<'a, T: Drop>(rest: &'a [u8], read: IResult<&'a [u8], T>) -> IResult<&'
 /// Expands to a reader of an extension of this type, whose content the call `$read` reads.
 macro_rules! tagged {
     ($i:ident, $kind:ident, $read:ident $(, $alloc:ident)?) => {{
-        let (rest, content) = tagged_bytes($i, TlsExtensionType::$kind)?;
+        let (rest, content) = parsed!(tagged_bytes($i, TlsExtensionType::$kind));
         within(rest, $read($($alloc,)? content))
     }};
 }
@@ -263,15 +263,15 @@ pub fn parse_tls_extension_psk_key_exchange_modes(
 pub fn parse_tls_extension_heartbeat(i: &[u8]) -> IResult<&[u8], TlsExtension>
     ensures { Gives view tagged_heartbeat i.now result }
 {
-    let (i, _) = tag(i, TlsExtensionType::Heartbeat.0)?;
-    let (i, n) = number2(i)?;
+    let (i, _) = parsed!(tag(i, TlsExtensionType::Heartbeat.0));
+    let (i, n) = parsed!(number2(i));
     if n != 1 {
         return Err(Err::Error(Error {
             input: i,
             code: ErrorKind::Verify,
         }));
     }
-    let (rest, content) = block(i, 1)?;
+    let (rest, content) = parsed!(block(i, 1));
     within(rest, parse_tls_extension_heartbeat_content(content))
 }
 
@@ -283,7 +283,7 @@ pub fn parse_tls_extension_heartbeat(i: &[u8]) -> IResult<&[u8], TlsExtension>
 pub fn parse_tls_extension_unknown(i: &[u8]) -> IResult<&[u8], TlsExtension>
     ensures { Gives view unknown i.now result }
 {
-    let (i, kind) = TlsExtensionType::parse(i)?;
-    let (i, content) = counted2(i)?;
+    let (i, kind) = parsed!(TlsExtensionType::parse(i));
+    let (i, content) = parsed!(counted2(i));
     Ok((i, TlsExtension::Unknown(kind, content)))
 }

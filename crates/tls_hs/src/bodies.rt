@@ -14,7 +14,7 @@ use crate::handshake::TlsMessageHandshake;
 use crate::server_hello::{
     hello_retry_request, parse_tls_handshake_server_hello, server_hello_draft18,
 };
-use layouts::{ErrorKind, IResult, block, refused};
+use layouts::{ErrorKind, IResult, block, parsed, refused};
 use std::alloc::Global;
 use tls_base::TlsVersion;
 
@@ -36,7 +36,7 @@ pub fn parse_tls_handshake_msg_client_hello(
 ) -> IResult<&[u8], TlsMessageHandshake>
     ensures { GivesOrMemory view_handshake client_hello_body i.now result }
 {
-    let (i, hello) = parse_tls_handshake_client_hello(alloc, i)?;
+    let (i, hello) = parsed!(parse_tls_handshake_client_hello(alloc, i));
     Ok((i, TlsMessageHandshake::ClientHello(hello)))
 }
 
@@ -51,14 +51,14 @@ pub fn parse_tls_handshake_msg_client_hello(
 pub fn parse_tls_handshake_msg_server_hello(i: &[u8]) -> IResult<&[u8], TlsMessageHandshake>
     ensures { Gives view_handshake server_hello_body i.now result }
 {
-    let (_, version) = TlsVersion::parse(i)?;
+    let (_, version) = parsed!(TlsVersion::parse(i));
     match version {
         TlsVersion::Tls13Draft18 => {
-            let (i, hello) = server_hello_draft18(i)?;
+            let (i, hello) = parsed!(server_hello_draft18(i));
             Ok((i, TlsMessageHandshake::ServerHelloV13Draft18(hello)))
         }
         _ => {
-            let (i, hello) = parse_tls_handshake_server_hello(i)?;
+            let (i, hello) = parsed!(parse_tls_handshake_server_hello(i));
             Ok((i, TlsMessageHandshake::ServerHello(hello)))
         }
     }
@@ -76,10 +76,10 @@ pub fn parse_tls_handshake_msg_server_hello_of_draft(
 ) -> IResult<&[u8], TlsMessageHandshake>
     ensures { Gives view_handshake server_hello_of_draft_body i.now result }
 {
-    let (_, version) = TlsVersion::parse(i)?;
+    let (_, version) = parsed!(TlsVersion::parse(i));
     match version.0 {
         0x7f0e..=0x7f15 => {
-            let (i, hello) = server_hello_draft18(i)?;
+            let (i, hello) = parsed!(server_hello_draft18(i));
             Ok((i, TlsMessageHandshake::ServerHelloV13Draft18(hello)))
         }
         _ => refused(i, ErrorKind::Tag),
@@ -104,7 +104,7 @@ pub(crate) fn end_of_early_data(i: &[u8]) -> IResult<&[u8], TlsMessageHandshake>
 pub fn parse_tls_handshake_msg_hello_retry_request(i: &[u8]) -> IResult<&[u8], TlsMessageHandshake>
     ensures { Gives view_handshake hello_retry_request_body i.now result }
 {
-    let (i, request) = hello_retry_request(i)?;
+    let (i, request) = parsed!(hello_retry_request(i));
     Ok((i, TlsMessageHandshake::HelloRetryRequest(request)))
 }
 
@@ -117,7 +117,7 @@ pub fn parse_tls_handshake_msg_certificate(
 ) -> IResult<&[u8], TlsMessageHandshake>
     ensures { GivesOrMemory view_handshake certificate_body i.now result }
 {
-    let (i, certificate) = certificate(alloc, i)?;
+    let (i, certificate) = parsed!(certificate(alloc, i));
     Ok((i, TlsMessageHandshake::Certificate(certificate)))
 }
 
@@ -130,7 +130,7 @@ pub fn parse_tls_handshake_msg_certificaterequest(
 ) -> IResult<&[u8], TlsMessageHandshake>
     ensures { GivesOrMemory view_handshake certificate_request_body i.now result }
 {
-    let (i, request) = parse_tls_handshake_certificaterequest(alloc, i)?;
+    let (i, request) = parsed!(parse_tls_handshake_certificaterequest(alloc, i));
     Ok((i, TlsMessageHandshake::CertificateRequest(request)))
 }
 
@@ -145,7 +145,7 @@ pub fn parse_tls_handshake_msg_serverdone(
 ) -> IResult<&[u8], TlsMessageHandshake>
     ensures { Gives view_handshake (server_done_body len) i.now result }
 {
-    let (i, bytes) = block(i, len)?;
+    let (i, bytes) = parsed!(block(i, len));
     Ok((i, TlsMessageHandshake::ServerDone(bytes)))
 }
 
@@ -159,7 +159,7 @@ pub fn parse_tls_handshake_msg_certificateverify(
 ) -> IResult<&[u8], TlsMessageHandshake>
     ensures { Gives view_handshake (certificate_verify_body len) i.now result }
 {
-    let (i, bytes) = block(i, len)?;
+    let (i, bytes) = parsed!(block(i, len));
     Ok((i, TlsMessageHandshake::CertificateVerify(bytes)))
 }
 
@@ -170,7 +170,7 @@ pub fn parse_tls_handshake_msg_certificateverify(
 pub fn parse_tls_handshake_msg_finished(i: &[u8], len: usize) -> IResult<&[u8], TlsMessageHandshake>
     ensures { Gives view_handshake (finished_body len) i.now result }
 {
-    let (i, bytes) = block(i, len)?;
+    let (i, bytes) = parsed!(block(i, len));
     Ok((i, TlsMessageHandshake::Finished(bytes)))
 }
 
@@ -180,6 +180,6 @@ pub fn parse_tls_handshake_msg_finished(i: &[u8], len: usize) -> IResult<&[u8], 
 pub fn parse_tls_handshake_msg_certificatestatus(i: &[u8]) -> IResult<&[u8], TlsMessageHandshake>
     ensures { Gives view_handshake certificate_status_body i.now result }
 {
-    let (i, status) = parse_tls_handshake_certificatestatus(i)?;
+    let (i, status) = parsed!(parse_tls_handshake_certificatestatus(i));
     Ok((i, TlsMessageHandshake::CertificateStatus(status)))
 }

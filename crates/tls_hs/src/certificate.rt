@@ -4,7 +4,7 @@ ghost use Rattle.layouts.specs.Answers.{Gives, GivesOrMemory};
 ghost use Rattle.tls_hs.specs.Certificate.{view_certificate, certificate as certificate_layout};
 ghost use Rattle.tls_hs.specs.Certificate.{view_certificate_status, certificate_status};
 
-use layouts::{IResult, OutOfMemory, Room, counted3, items, number1};
+use layouts::{IResult, OutOfMemory, Room, counted3, items, number1, parsed};
 use std::alloc::Global;
 
 /// A certificate, without its length (RFC 5246, section 7.4.2).
@@ -47,8 +47,8 @@ impl<'a> TlsCertificateContents<'a> {
 pub fn certificate(alloc: Global, i: &[u8]) -> IResult<&[u8], TlsCertificateContents>
     ensures { GivesOrMemory view_certificate certificate_layout i.now result }
 {
-    let (i, window) = counted3(i)?;
-    let (_, cert_chain) = items::<RawCertificate>(alloc, window)?;
+    let (i, window) = parsed!(counted3(i));
+    let (_, cert_chain) = parsed!(items::<RawCertificate>(alloc, window));
     Ok((i, TlsCertificateContents { cert_chain }))
 }
 
@@ -71,7 +71,7 @@ pub fn parse_tls_handshake_certificatestatus(
 ) -> IResult<&[u8], TlsCertificateStatusContents>
     ensures { Gives view_certificate_status certificate_status i.now result }
 {
-    let (i, status_type) = number1(i)?;
-    let (i, blob) = counted3(i)?;
+    let (i, status_type) = parsed!(number1(i));
+    let (i, blob) = parsed!(counted3(i));
     Ok((i, TlsCertificateStatusContents { status_type, blob }))
 }

@@ -8,7 +8,8 @@ ghost use Rattle.tls_hs.specs.Certificate.{certificate_request_with_algorithms, 
 ghost use Rattle.tls_hs.specs.Certificate.{certificate_request};
 
 use layouts::{
-    Counted2, Err, ErrorKind, IResult, Number2, OutOfMemory, counted1, counted2, items, refused,
+    Counted2, Err, ErrorKind, IResult, Number2, OutOfMemory, counted1, counted2, items, parsed,
+    refused,
 };
 use std::alloc::Global;
 
@@ -48,7 +49,7 @@ impl<'a> TlsCertificateRequestContents<'a> {
 fn certificate_types(alloc: Global, i: &[u8]) -> IResult<&[u8], Vec<u8>>
     ensures { GivesOrMemory (λ v. v.items) certificate_types_layout i.now result }
 {
-    let (i, types) = counted1(i)?;
+    let (i, types) = parsed!(counted1(i));
     Ok((i, Vec::from_slice(alloc, types)?))
 }
 
@@ -57,8 +58,8 @@ fn certificate_types(alloc: Global, i: &[u8]) -> IResult<&[u8], Vec<u8>>
 fn signature_algorithms(alloc: Global, i: &[u8]) -> IResult<&[u8], Vec<u16>>
     ensures { GivesOrMemory (λ v. v.items) signature_algorithms_layout i.now result }
 {
-    let (i, window) = counted2(i)?;
-    let (_, algorithms) = items::<Number2>(alloc, window)?;
+    let (i, window) = parsed!(counted2(i));
+    let (_, algorithms) = parsed!(items::<Number2>(alloc, window));
     Ok((i, algorithms))
 }
 
@@ -69,8 +70,8 @@ fn certificate_authorities(alloc: Global, i: &[u8]) -> IResult<&[u8], Vec<&[u8]>
     ensures { GivesOrMemory (λ v. map (λ x. x.now) v.items) certificate_authorities_layout
         i.now result }
 {
-    let (i, window) = counted2(i)?;
-    let (_, authorities) = items::<Counted2>(alloc, window)?;
+    let (i, window) = parsed!(counted2(i));
+    let (_, authorities) = parsed!(items::<Counted2>(alloc, window));
     Ok((i, authorities))
 }
 
@@ -80,9 +81,9 @@ fn with_algorithms(alloc: Global, i: &[u8]) -> IResult<&[u8], TlsCertificateRequ
     ensures { GivesOrMemory view_certificate_request certificate_request_with_algorithms
         i.now result }
 {
-    let (i, cert_types) = certificate_types(alloc, i)?;
-    let (i, algorithms) = signature_algorithms(alloc, i)?;
-    let (i, unparsed_ca) = certificate_authorities(alloc, i)?;
+    let (i, cert_types) = parsed!(certificate_types(alloc, i));
+    let (i, algorithms) = parsed!(signature_algorithms(alloc, i));
+    let (i, unparsed_ca) = parsed!(certificate_authorities(alloc, i));
     let request = TlsCertificateRequestContents {
         cert_types,
         sig_hash_algs: Some(algorithms),
@@ -97,8 +98,8 @@ fn without_algorithms(alloc: Global, i: &[u8]) -> IResult<&[u8], TlsCertificateR
     ensures { GivesOrMemory view_certificate_request certificate_request_without_algorithms
         i.now result }
 {
-    let (i, cert_types) = certificate_types(alloc, i)?;
-    let (i, unparsed_ca) = certificate_authorities(alloc, i)?;
+    let (i, cert_types) = parsed!(certificate_types(alloc, i));
+    let (i, unparsed_ca) = parsed!(certificate_authorities(alloc, i));
     let request = TlsCertificateRequestContents {
         cert_types,
         sig_hash_algs: None,

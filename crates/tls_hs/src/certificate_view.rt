@@ -8,7 +8,7 @@ ghost use Rattle.tls_hs.specs.InPlace.{view_certificate_request_in_place};
 
 use crate::certificate::RawCertificate;
 use layouts::{
-    Counted2, ErrorKind, IResult, InPlace, Items, counted1, counted2, counted3, refused,
+    Counted2, ErrorKind, IResult, InPlace, Items, counted1, counted2, counted3, parsed, refused,
 };
 
 impl<'a> InPlace<'a> for RawCertificate<'a> {
@@ -22,7 +22,7 @@ impl<'a> InPlace<'a> for RawCertificate<'a> {
 
     #[inline(always)]
     fn read(i: &'a [u8]) -> IResult<&'a [u8], Self> {
-        let (i, bytes) = counted3(i)?;
+        let (i, bytes) = parsed!(counted3(i));
         Ok((i, RawCertificate { bytes }))
     }
 }
@@ -37,7 +37,7 @@ impl<'a> InPlace<'a> for RawCertificate<'a> {
 pub fn certificates(i: &[u8]) -> IResult<&[u8], Items<RawCertificate>>
     ensures { Gives (λ v. items_in (counted 3) v.bytes.now) certificate i.now result }
 {
-    let (i, window) = counted3(i)?;
+    let (i, window) = parsed!(counted3(i));
     Ok((i, Items::new(window)))
 }
 
@@ -61,7 +61,7 @@ fn signature_algorithms(i: &[u8]) -> IResult<&[u8], Items<u16>>
     ensures { Gives (λ v. items_in (number 2) v.bytes.now) signature_algorithms_layout
         i.now result }
 {
-    let (i, window) = counted2(i)?;
+    let (i, window) = parsed!(counted2(i));
     Ok((i, Items::new(window)))
 }
 
@@ -73,7 +73,7 @@ fn certificate_authorities(i: &[u8]) -> IResult<&[u8], Items<Counted2>>
     ensures { Gives (λ v. items_in (counted 2) v.bytes.now) certificate_authorities_layout
         i.now result }
 {
-    let (i, window) = counted2(i)?;
+    let (i, window) = parsed!(counted2(i));
     Ok((i, Items::new(window)))
 }
 
@@ -84,9 +84,9 @@ fn with_algorithms(i: &[u8]) -> IResult<&[u8], CertificateRequestView>
     ensures { Gives view_certificate_request_in_place certificate_request_with_algorithms
         i.now result }
 {
-    let (i, cert_types) = counted1(i)?;
-    let (i, algorithms) = signature_algorithms(i)?;
-    let (i, unparsed_ca) = certificate_authorities(i)?;
+    let (i, cert_types) = parsed!(counted1(i));
+    let (i, algorithms) = parsed!(signature_algorithms(i));
+    let (i, unparsed_ca) = parsed!(certificate_authorities(i));
     let request = CertificateRequestView {
         cert_types,
         sig_hash_algs: Some(algorithms),
@@ -102,8 +102,8 @@ fn without_algorithms(i: &[u8]) -> IResult<&[u8], CertificateRequestView>
     ensures { Gives view_certificate_request_in_place certificate_request_without_algorithms
         i.now result }
 {
-    let (i, cert_types) = counted1(i)?;
-    let (i, unparsed_ca) = certificate_authorities(i)?;
+    let (i, cert_types) = parsed!(counted1(i));
+    let (i, unparsed_ca) = parsed!(certificate_authorities(i));
     let request = CertificateRequestView {
         cert_types,
         sig_hash_algs: None,

@@ -8,7 +8,7 @@ ghost use Rattle.tls_hs.specs.Hello.{view_client_hello, client_hello};
 use crate::client_hello_trait::ClientHello;
 use crate::client_hello_view::ClientHelloView;
 use crate::hello_fields::{listed, random_bytes, random_time, suites};
-use layouts::{IResult, OutOfMemory};
+use layouts::{IResult, OutOfMemory, parsed};
 use std::alloc::Global;
 use tls_base::{CipherTable, TlsCipherSuite, TlsCipherSuiteID, TlsCompressionID, TlsVersion};
 
@@ -167,7 +167,7 @@ pub fn parse_tls_handshake_client_hello(
 ) -> IResult<&[u8], TlsClientHelloContents>
     ensures { GivesOrMemory view_client_hello client_hello i.now result }
 {
-    let (i, view) = ClientHelloView::parse(i)?;
+    let (i, view) = parsed!(ClientHelloView::parse(i));
     let hello = TlsClientHelloContents {
         version: view.version,
         random: view.random,

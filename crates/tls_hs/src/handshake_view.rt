@@ -14,7 +14,7 @@ use crate::certificate_view::{CertificateRequestView, certificates};
 use crate::client_hello_view::ClientHelloView;
 use crate::handshake::TlsMessageHandshake;
 use crate::{bodies, session};
-use layouts::{IResult, InPlace, Items, block, counted3, number3};
+use layouts::{IResult, InPlace, Items, block, counted3, number3, parsed};
 use tls_base::TlsHandshakeType;
 
 /// A handshake message (RFC 5246, section 7.4), as [`crate::TlsMessageHandshake`], with its lists
@@ -52,8 +52,8 @@ impl<'a> InPlace<'a> for RawHandshake<'a> {
     #[tactic(auto, using(layouts::proofs::OneAnswerLemmas::read_allowed), unfolding(layouts::specs::Framed::framed))]
     #[inline(always)]
     fn read(i: &'a [u8]) -> IResult<&'a [u8], Self> {
-        let (i, msg_type) = TlsHandshakeType::parse(i)?;
-        let (i, body) = counted3(i)?;
+        let (i, msg_type) = parsed!(TlsHandshakeType::parse(i));
+        let (i, body) = parsed!(counted3(i));
         Ok((i, RawHandshake { msg_type, body }))
     }
 }
@@ -72,10 +72,10 @@ impl<'a> InPlace<'a> for HandshakeView<'a> {
     #[tactic(auto, using(layouts::proofs::OneAnswerLemmas::read_allowed), unfolding(crate::specs::Message::handshake))]
     #[inline(always)]
     fn read(i: &'a [u8]) -> IResult<&'a [u8], Self> {
-        let (i, msg_type) = TlsHandshakeType::parse(i)?;
-        let (i, n) = number3(i)?;
-        let (i, window) = block(i, n as usize)?;
-        let (_, message) = body_in_place(window, msg_type, n as usize)?;
+        let (i, msg_type) = parsed!(TlsHandshakeType::parse(i));
+        let (i, n) = parsed!(number3(i));
+        let (i, window) = parsed!(block(i, n as usize));
+        let (_, message) = parsed!(body_in_place(window, msg_type, n as usize));
         Ok((i, message))
     }
 }
@@ -125,7 +125,7 @@ macro_rules! in_place {
 macro_rules! one_in_place {
     (lists $name:ident($view:path): $module:ident::$read:ident $arguments:tt, $i:ident $len:ident)
         => {{
-        let (i, lists) = $view($i)?;
+        let (i, lists) = parsed!($view($i));
         Ok((i, HandshakeView::$name(lists)))
     }};
     ($form:ident $name:ident: $module:ident::$read:ident $arguments:tt, $i:ident $len:ident) => {

@@ -12,7 +12,7 @@ ghost use Rattle.tls_hs.specs.Hello.{compression_methods, random_time as time_of
 
 use layouts::{
     ErrorKind, IResult, Items, Number, OutOfMemory, block, counted2, number1, number2, numbers,
-    refused,
+    parsed, refused,
 };
 use std::alloc::{AllocError, Global};
 use tls_base::{CipherTable, TlsCipherSuite, TlsCipherSuiteID, TlsCompressionID};
@@ -26,11 +26,11 @@ use tls_base::{CipherTable, TlsCipherSuite, TlsCipherSuiteID, TlsCompressionID};
 pub fn session_id(i: &[u8]) -> IResult<&[u8], Option<&[u8]>>
     ensures { Gives (λ v. option_map (λ x. x.now) v) session_id_layout i.now result }
 {
-    let (rest, n) = number1(i)?;
+    let (rest, n) = parsed!(number1(i));
     if n > 32 {
         return refused(i, ErrorKind::Verify);
     }
-    let (rest, id) = block(rest, n as usize)?;
+    let (rest, id) = parsed!(block(rest, n as usize));
     if n == 0 {
         Ok((rest, None))
     } else {
@@ -74,7 +74,7 @@ pub fn cipher_suites_in_place(i: &[u8]) -> IResult<&[u8], Items<TlsCipherSuiteID
     ensures gives { Gives (λ v. items_in (number 2) v.bytes.now) cipher_suites_layout i.now result }
     ensures leads { IfOk result (λ x. Leads 2 i.now x.1.bytes.now x.0.now) }
 {
-    let (after, k) = number2(i)?;
+    let (after, k) = parsed!(number2(i));
     let k = k as usize;
     if k % 2 != 0 || k > after.len() {
         return refused(i, ErrorKind::LengthValue);
@@ -91,7 +91,7 @@ pub fn compressions_in_place(i: &[u8]) -> IResult<&[u8], Items<TlsCompressionID>
     ensures gives { Gives (λ v. items_in (number 1) v.bytes.now) compression_methods i.now result }
     ensures leads { IfOk result (λ x. Leads 1 i.now x.1.bytes.now x.0.now) }
 {
-    let (after, k) = number1(i)?;
+    let (after, k) = parsed!(number1(i));
     let k = k as usize;
     if k > after.len() {
         return refused(i, ErrorKind::LengthValue);
@@ -110,7 +110,7 @@ pub fn compressions_in_place(i: &[u8]) -> IResult<&[u8], Items<TlsCompressionID>
 pub fn cipher_suites(alloc: Global, i: &[u8]) -> IResult<&[u8], Vec<TlsCipherSuiteID>>
     ensures { GivesOrMemory (λ v. map (λ x. x.0) v.items) cipher_suites_layout i.now result }
 {
-    let (rest, suites) = cipher_suites_in_place(i)?;
+    let (rest, suites) = parsed!(cipher_suites_in_place(i));
     Ok((rest, listed(alloc, suites)?))
 }
 
@@ -123,7 +123,7 @@ pub fn cipher_suites(alloc: Global, i: &[u8]) -> IResult<&[u8], Vec<TlsCipherSui
 pub fn compressions(alloc: Global, i: &[u8]) -> IResult<&[u8], Vec<TlsCompressionID>>
     ensures { GivesOrMemory (λ v. map (λ x. x.0) v.items) compression_methods i.now result }
 {
-    let (rest, methods) = compressions_in_place(i)?;
+    let (rest, methods) = parsed!(compressions_in_place(i));
     Ok((rest, listed(alloc, methods)?))
 }
 

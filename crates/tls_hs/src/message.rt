@@ -7,7 +7,7 @@ ghost use Rattle.tls_hs.specs.Message.{application_data, heartbeat};
 use crate::body_by_type::handshake_body;
 use crate::handshake::TlsMessageHandshake;
 use crate::message_view::heartbeat as heartbeat_in_place;
-use layouts::{ErrorKind, IResult, OutOfMemory, block, number1, number3, refused, rest};
+use layouts::{ErrorKind, IResult, OutOfMemory, block, number1, number3, parsed, refused, rest};
 use std::alloc::Global;
 use tls_base::{TlsHandshakeType, TlsHeartbeatMessageType, TlsMessageAlert};
 
@@ -74,10 +74,10 @@ impl<'a> TlsMessage<'a> {
 pub fn parse_tls_message_handshake(alloc: Global, i: &[u8]) -> IResult<&[u8], TlsMessage>
     ensures { GivesOrMemory view_message handshake i.now result }
 {
-    let (i, msg_type) = TlsHandshakeType::parse(i)?;
-    let (i, n) = number3(i)?;
-    let (i, window) = block(i, n as usize)?;
-    let (_, message) = handshake_body(alloc, window, msg_type, n as usize)?;
+    let (i, msg_type) = parsed!(TlsHandshakeType::parse(i));
+    let (i, n) = parsed!(number3(i));
+    let (i, window) = parsed!(block(i, n as usize));
+    let (_, message) = parsed!(handshake_body(alloc, window, msg_type, n as usize));
     Ok((i, TlsMessage::Handshake(message)))
 }
 
@@ -88,7 +88,7 @@ pub fn parse_tls_message_handshake(alloc: Global, i: &[u8]) -> IResult<&[u8], Tl
 pub fn parse_tls_message_changecipherspec(i: &[u8]) -> IResult<&[u8], TlsMessage>
     ensures { Gives view_message change_cipher_spec i.now result }
 {
-    let (after, n) = number1(i)?;
+    let (after, n) = parsed!(number1(i));
     if n != 1 {
         return refused(i, ErrorKind::Verify);
     }
@@ -102,7 +102,7 @@ pub fn parse_tls_message_changecipherspec(i: &[u8]) -> IResult<&[u8], TlsMessage
 pub fn parse_tls_message_alert(i: &[u8]) -> IResult<&[u8], TlsMessage>
     ensures { Gives view_message alert_layout i.now result }
 {
-    let (i, alert) = TlsMessageAlert::parse(i)?;
+    let (i, alert) = parsed!(TlsMessageAlert::parse(i));
     Ok((i, TlsMessage::Alert(alert)))
 }
 
@@ -111,7 +111,7 @@ pub fn parse_tls_message_alert(i: &[u8]) -> IResult<&[u8], TlsMessage>
 pub fn parse_tls_message_applicationdata(i: &[u8]) -> IResult<&[u8], TlsMessage>
     ensures { Gives view_message application_data i.now result }
 {
-    let (i, blob) = rest(i)?;
+    let (i, blob) = parsed!(rest(i));
     Ok((
         i,
         TlsMessage::ApplicationData(TlsMessageApplicationData { blob }),
@@ -134,7 +134,7 @@ pub fn parse_tls_message_heartbeat(
     ensures { GivesOrMemory (λ v. map view_message v.items) (heartbeat tls_plaintext_len)
         i.now result }
 {
-    let (i, message) = heartbeat_in_place(i, tls_plaintext_len)?;
+    let (i, message) = parsed!(heartbeat_in_place(i, tls_plaintext_len));
     let mut messages = Vec::new(alloc);
     messages.push(TlsMessage::Heartbeat(message))?;
     Ok((i, messages))

@@ -9,7 +9,7 @@ ghost use Rattle.tls_hs.specs.Messages.{view_raw, raw_messages, messages_of_type
 
 use crate::handshake_view::RawHandshake;
 use crate::message::TlsMessageHeartbeat;
-use layouts::{ErrorKind, IResult, InPlace, Items, block, number1, number2, refused};
+use layouts::{ErrorKind, IResult, InPlace, Items, block, number1, number2, parsed, refused};
 use tls_base::{TlsHeartbeatMessageType, TlsMessageAlert, TlsRecordType};
 
 /// ChangeCipherSpecs as items of a list (RFC 5246, section 7.1).
@@ -28,7 +28,7 @@ impl<'a> InPlace<'a> for ChangeCipherSpec {
     #[tactic(auto, using(layouts::proofs::OneAnswerLemmas::read_allowed), unfolding(crate::specs::Message::change_cipher_spec))]
     #[inline(always)]
     fn read(i: &'a [u8]) -> IResult<&'a [u8], Self> {
-        let (after, n) = number1(i)?;
+        let (after, n) = parsed!(number1(i));
         if n != 1 {
             return refused(i, ErrorKind::Verify);
         }
@@ -52,7 +52,7 @@ impl<'a> InPlace<'a> for Alert {
     #[tactic(auto, using(layouts::proofs::OneAnswerLemmas::read_allowed), unfolding(crate::specs::Message::alert))]
     #[inline(always)]
     fn read(i: &'a [u8]) -> IResult<&'a [u8], TlsMessageAlert> {
-        let (i, alert) = TlsMessageAlert::parse(i)?;
+        let (i, alert) = parsed!(TlsMessageAlert::parse(i));
         Ok((i, alert))
     }
 }
@@ -167,12 +167,12 @@ pub fn heartbeat(i: &[u8], tls_plaintext_len: u16) -> IResult<&[u8], TlsMessageH
     ensures { Gives (λ h. message.Heartbeat (message.view_heartbeat h) ∷ [])
         (message.heartbeat tls_plaintext_len) i.now result }
 {
-    let (i, heartbeat_type) = TlsHeartbeatMessageType::parse(i)?;
-    let (i, payload_len) = number2(i)?;
+    let (i, heartbeat_type) = parsed!(TlsHeartbeatMessageType::parse(i));
+    let (i, payload_len) = parsed!(number2(i));
     if tls_plaintext_len < 3 {
         return refused(i, ErrorKind::Verify);
     }
-    let (i, payload) = block(i, payload_len as usize)?;
+    let (i, payload) = parsed!(block(i, payload_len as usize));
     let message = TlsMessageHeartbeat {
         heartbeat_type,
         payload_len,

@@ -12,7 +12,7 @@ ghost use Rattle.tls_hs.specs.ServerHello.{server_hello_draft18 as server_hello_
 ghost use Rattle.tls_hs.specs.ServerHello.{view_hello_retry_request, hello_retry_request as hello_retry_request_layout};
 
 use crate::hello_fields::{extension_block, session_id};
-use layouts::{ErrorKind, IResult, block, refused};
+use layouts::{ErrorKind, IResult, block, parsed, refused};
 use tls_base::{CipherTable, TlsCipherSuite, TlsCipherSuiteID, TlsCompressionID, TlsVersion};
 
 /// The random of a ServerHello that is a HelloRetryRequest (RFC 8446, section 4.1.3).
@@ -119,11 +119,11 @@ fn server_hello_fields(i: &[u8], extensible: bool) -> IResult<&[u8], TlsServerHe
     ensures { Gives view_server_hello
         (server_hello_with (choose extensible (maybe (counted 2)) (done None))) i.now result }
 {
-    let (i, version) = TlsVersion::parse(i)?;
-    let (i, random) = block(i, 32)?;
-    let (i, session_id) = session_id(i)?;
-    let (i, cipher) = TlsCipherSuiteID::parse(i)?;
-    let (i, compression) = TlsCompressionID::parse(i)?;
+    let (i, version) = parsed!(TlsVersion::parse(i));
+    let (i, random) = parsed!(block(i, 32));
+    let (i, session_id) = parsed!(session_id(i));
+    let (i, cipher) = parsed!(TlsCipherSuiteID::parse(i));
+    let (i, compression) = parsed!(TlsCompressionID::parse(i));
     let (i, ext) = if extensible {
         extension_block(i)
     } else {
@@ -181,7 +181,7 @@ fn server_hello_ssl30(i: &[u8]) -> IResult<&[u8], TlsServerHelloContents>
 pub fn parse_tls_handshake_server_hello(i: &[u8]) -> IResult<&[u8], TlsServerHelloContents>
     ensures { Gives view_server_hello server_hello_layout i.now result }
 {
-    let (_, version) = TlsVersion::parse(i)?;
+    let (_, version) = parsed!(TlsVersion::parse(i));
     match version.0 {
         0x0300 => server_hello_ssl30(i),
         0x0301..=0x0303 => server_hello_any(i),
@@ -198,9 +198,9 @@ pub fn parse_tls_handshake_server_hello(i: &[u8]) -> IResult<&[u8], TlsServerHel
 pub(crate) fn server_hello_draft18(i: &[u8]) -> IResult<&[u8], TlsServerHelloV13Draft18Contents>
     ensures { Gives view_server_hello_draft18 server_hello_draft18_layout i.now result }
 {
-    let (i, version) = TlsVersion::parse(i)?;
-    let (i, random) = block(i, 32)?;
-    let (i, cipher) = TlsCipherSuiteID::parse(i)?;
+    let (i, version) = parsed!(TlsVersion::parse(i));
+    let (i, random) = parsed!(block(i, 32));
+    let (i, cipher) = parsed!(TlsCipherSuiteID::parse(i));
     let (i, ext) = extension_block(i);
     let hello = TlsServerHelloV13Draft18Contents {
         version,
@@ -219,8 +219,8 @@ pub(crate) fn server_hello_draft18(i: &[u8]) -> IResult<&[u8], TlsServerHelloV13
 pub(crate) fn hello_retry_request(i: &[u8]) -> IResult<&[u8], TlsHelloRetryRequestContents>
     ensures { Gives view_hello_retry_request hello_retry_request_layout i.now result }
 {
-    let (i, version) = TlsVersion::parse(i)?;
-    let (i, cipher) = TlsCipherSuiteID::parse(i)?;
+    let (i, version) = parsed!(TlsVersion::parse(i));
+    let (i, cipher) = parsed!(TlsCipherSuiteID::parse(i));
     let (i, ext) = extension_block(i);
     let request = TlsHelloRetryRequestContents {
         version,

@@ -11,7 +11,7 @@ ghost use Rattle.tls_hs.specs.Handshake.{view_handshake, new_session_ticket_body
 ghost use Rattle.tls_hs.specs.Handshake.{key_update_body, next_protocol_body};
 
 use crate::handshake::TlsMessageHandshake;
-use layouts::{ErrorKind, IResult, block, counted1, number1, number4, refused};
+use layouts::{ErrorKind, IResult, block, counted1, number1, number4, parsed, refused};
 use tls_base::ECPoint;
 
 /// The body of a NewSessionTicket up to TLS 1.2 (RFC 5077, section 3.3).
@@ -74,8 +74,8 @@ pub(crate) fn new_session_ticket(i: &[u8], len: usize) -> IResult<&[u8], TlsNewS
     if len < 4 {
         return refused(i, ErrorKind::Verify);
     }
-    let (i, ticket_lifetime_hint) = number4(i)?;
-    let (i, ticket) = block(i, len - 4)?;
+    let (i, ticket_lifetime_hint) = parsed!(number4(i));
+    let (i, ticket) = parsed!(block(i, len - 4));
     let content = TlsNewSessionTicketContent {
         ticket_lifetime_hint,
         ticket,
@@ -90,8 +90,8 @@ pub(crate) fn new_session_ticket(i: &[u8], len: usize) -> IResult<&[u8], TlsNewS
 pub fn parse_tls_handshake_next_protocol(i: &[u8]) -> IResult<&[u8], TlsNextProtocolContent>
     ensures { Gives view_next_protocol next_protocol i.now result }
 {
-    let (i, selected_protocol) = counted1(i)?;
-    let (i, padding) = counted1(i)?;
+    let (i, selected_protocol) = parsed!(counted1(i));
+    let (i, padding) = parsed!(counted1(i));
     let content = TlsNextProtocolContent {
         selected_protocol,
         padding,
@@ -112,7 +112,7 @@ pub fn parse_tls_handshake_msg_newsessionticket(
 ) -> IResult<&[u8], TlsMessageHandshake>
     ensures { Gives view_handshake (new_session_ticket_body len) i.now result }
 {
-    let (i, ticket) = new_session_ticket(i, len)?;
+    let (i, ticket) = parsed!(new_session_ticket(i, len));
     Ok((i, TlsMessageHandshake::NewSessionTicket(ticket)))
 }
 
@@ -126,7 +126,7 @@ pub fn parse_tls_handshake_msg_serverkeyexchange(
 ) -> IResult<&[u8], TlsMessageHandshake>
     ensures { Gives view_handshake (server_key_exchange_body len) i.now result }
 {
-    let (i, parameters) = block(i, len)?;
+    let (i, parameters) = parsed!(block(i, len));
     let content = TlsServerKeyExchangeContents { parameters };
     Ok((i, TlsMessageHandshake::ServerKeyExchange(content)))
 }
@@ -142,7 +142,7 @@ pub fn parse_tls_handshake_msg_clientkeyexchange(
 ) -> IResult<&[u8], TlsMessageHandshake>
     ensures { Gives view_handshake (client_key_exchange_body len) i.now result }
 {
-    let (i, bytes) = block(i, len)?;
+    let (i, bytes) = parsed!(block(i, len));
     let content = TlsClientKeyExchangeContents::Unknown(bytes);
     Ok((i, TlsMessageHandshake::ClientKeyExchange(content)))
 }
@@ -155,7 +155,7 @@ pub fn parse_tls_handshake_msg_clientkeyexchange(
 pub fn parse_tls_handshake_msg_key_update(i: &[u8]) -> IResult<&[u8], TlsMessageHandshake>
     ensures { Gives view_handshake key_update_body i.now result }
 {
-    let (i, update) = number1(i)?;
+    let (i, update) = parsed!(number1(i));
     Ok((i, TlsMessageHandshake::KeyUpdate(update)))
 }
 
@@ -165,6 +165,6 @@ pub fn parse_tls_handshake_msg_key_update(i: &[u8]) -> IResult<&[u8], TlsMessage
 pub fn parse_tls_handshake_msg_next_protocol(i: &[u8]) -> IResult<&[u8], TlsMessageHandshake>
     ensures { Gives view_handshake next_protocol_body i.now result }
 {
-    let (i, protocol) = parse_tls_handshake_next_protocol(i)?;
+    let (i, protocol) = parsed!(parse_tls_handshake_next_protocol(i));
     Ok((i, TlsMessageHandshake::NextProtocol(protocol)))
 }

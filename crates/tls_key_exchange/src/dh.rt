@@ -2,7 +2,7 @@
 ghost use Rattle.layouts.specs.Answers.{Gives};
 ghost use Rattle.tls_key_exchange.specs.KeyExchange.{view_dh_params, dh_params};
 
-use layouts::{IResult, counted2};
+use layouts::{IResult, counted2, parsed};
 
 /// The server's Diffie-Hellman parameters (RFC 5246, section 7.4.3). All numbers are big-endian, of
 /// any length.
@@ -25,9 +25,9 @@ impl<'a> ServerDHParams<'a> {
     pub fn parse(i: &'a [u8]) -> IResult<&'a [u8], Self>
         ensures { Gives view_dh_params dh_params i.now result }
     {
-        let (i, dh_p) = counted2(i)?;
-        let (i, dh_g) = counted2(i)?;
-        let (i, dh_ys) = counted2(i)?;
+        let (i, dh_p) = parsed!(counted2(i));
+        let (i, dh_g) = parsed!(counted2(i));
+        let (i, dh_ys) = parsed!(counted2(i));
         Ok((i, ServerDHParams { dh_p, dh_g, dh_ys }))
     }
 }

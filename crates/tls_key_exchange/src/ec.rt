@@ -6,7 +6,7 @@ ghost use Rattle.layouts.specs.Answers.{Gives, GivesOrMemory};
 ghost use Rattle.layouts.specs.Layout.{pairs as pairs_layout};
 ghost use Rattle.tls_key_exchange.specs.KeyExchange.{view_curve, curve as curve_layout, view_explicit_prime, explicit_prime, view_curve_parameters, curve_parameters, view_ec_parameters, ec_parameters, view_ecdh_params, ecdh_params};
 
-use layouts::{ErrorKind, IResult, counted1, pairs, refused};
+use layouts::{ErrorKind, IResult, counted1, pairs, parsed, refused};
 use std::alloc::Global;
 use std::fmt;
 use tls_base::{ECCurveType, ECPoint, NamedGroup};
@@ -28,8 +28,8 @@ impl<'a> ECCurve<'a> {
     pub fn parse(i: &'a [u8]) -> IResult<&'a [u8], Self>
         ensures { Gives view_curve curve_layout i.now result }
     {
-        let (i, a) = counted1(i)?;
-        let (i, b) = counted1(i)?;
+        let (i, a) = parsed!(counted1(i));
+        let (i, b) = parsed!(counted1(i));
         Ok((i, ECCurve { a, b }))
     }
 }
@@ -58,11 +58,11 @@ impl<'a> ExplicitPrimeContent<'a> {
     pub fn parse(i: &'a [u8]) -> IResult<&'a [u8], Self>
         ensures { Gives view_explicit_prime explicit_prime i.now result }
     {
-        let (i, prime_p) = counted1(i)?;
-        let (i, curve) = ECCurve::parse(i)?;
-        let (i, base) = ECPoint::parse(i)?;
-        let (i, order) = counted1(i)?;
-        let (i, cofactor) = counted1(i)?;
+        let (i, prime_p) = parsed!(counted1(i));
+        let (i, curve) = parsed!(ECCurve::parse(i));
+        let (i, base) = parsed!(ECPoint::parse(i));
+        let (i, order) = parsed!(counted1(i));
+        let (i, cofactor) = parsed!(counted1(i));
         let content = ExplicitPrimeContent {
             prime_p,
             curve,
@@ -93,11 +93,11 @@ impl<'a> ECParametersContent<'a> {
     {
         match curve_type {
             ECCurveType::ExplicitPrime => {
-                let (i, content) = ExplicitPrimeContent::parse(i)?;
+                let (i, content) = parsed!(ExplicitPrimeContent::parse(i));
                 Ok((i, ECParametersContent::ExplicitPrime(content)))
             }
             ECCurveType::NamedGroup => {
-                let (i, group) = NamedGroup::parse(i)?;
+                let (i, group) = parsed!(NamedGroup::parse(i));
                 Ok((i, ECParametersContent::NamedGroup(group)))
             }
             _ => refused(i, ErrorKind::Switch),
@@ -121,8 +121,8 @@ impl<'a> ECParameters<'a> {
     pub fn parse(i: &'a [u8]) -> IResult<&'a [u8], Self>
         ensures { Gives view_ec_parameters ec_parameters i.now result }
     {
-        let (i, curve_type) = ECCurveType::parse(i)?;
-        let (i, params_content) = ECParametersContent::parse(i, curve_type)?;
+        let (i, curve_type) = parsed!(ECCurveType::parse(i));
+        let (i, params_content) = parsed!(ECParametersContent::parse(i, curve_type));
         let parameters = ECParameters {
             curve_type,
             params_content,
@@ -157,8 +157,8 @@ impl<'a> ServerECDHParams<'a> {
     pub fn parse(i: &'a [u8]) -> IResult<&'a [u8], Self>
         ensures { Gives view_ecdh_params ecdh_params i.now result }
     {
-        let (i, curve_params) = ECParameters::parse(i)?;
-        let (i, public) = ECPoint::parse(i)?;
+        let (i, curve_params) = parsed!(ECParameters::parse(i));
+        let (i, public) = parsed!(ECPoint::parse(i));
         let params = ServerECDHParams {
             curve_params,
             public,

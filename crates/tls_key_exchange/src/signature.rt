@@ -5,7 +5,7 @@ ghost use Rattle.std.specs.Prelude.{Some};
 ghost use Rattle.layouts.specs.Answers.{Gives};
 ghost use Rattle.tls_key_exchange.specs.Signature.{view_algorithm, algorithm, algorithm_text, view_signed, digitally_signed, digitally_signed_old, signature, GivesSignature};
 
-use layouts::{IResult, counted2};
+use layouts::{IResult, counted2, parsed};
 use std::fmt;
 use tls_base::{HashAlgorithm, SignAlgorithm};
 
@@ -25,8 +25,8 @@ impl SignatureAndHashAlgorithm {
     pub fn parse(i: &[u8]) -> IResult<&[u8], Self>
         ensures { Gives view_algorithm algorithm i.now result }
     {
-        let (i, hash) = HashAlgorithm::parse(i)?;
-        let (i, sign) = SignAlgorithm::parse(i)?;
+        let (i, hash) = parsed!(HashAlgorithm::parse(i));
+        let (i, sign) = parsed!(SignAlgorithm::parse(i));
         Ok((i, SignatureAndHashAlgorithm { hash, sign }))
     }
 }
@@ -55,7 +55,7 @@ pub struct DigitallySigned<'a> {
 pub fn parse_digitally_signed_old(i: &[u8]) -> IResult<&[u8], DigitallySigned>
     ensures { Gives view_signed digitally_signed_old i.now result }
 {
-    let (i, bytes) = counted2(i)?;
+    let (i, bytes) = parsed!(counted2(i));
     Ok((i, DigitallySigned { alg: None, bytes }))
 }
 
@@ -66,8 +66,8 @@ pub fn parse_digitally_signed_old(i: &[u8]) -> IResult<&[u8], DigitallySigned>
 pub fn parse_digitally_signed(i: &[u8]) -> IResult<&[u8], DigitallySigned>
     ensures { Gives view_signed digitally_signed i.now result }
 {
-    let (i, algorithm) = SignatureAndHashAlgorithm::parse(i)?;
-    let (i, bytes) = counted2(i)?;
+    let (i, algorithm) = parsed!(SignatureAndHashAlgorithm::parse(i));
+    let (i, bytes) = parsed!(counted2(i));
     let signed = DigitallySigned {
         alg: Some(algorithm),
         bytes,
@@ -102,7 +102,7 @@ where
     requires { F.pre fun i }
     ensures { (answer : _) × F.post fun i.entry answer × GivesSignature ext answer result }
 {
-    let (i, content) = fun(i)?;
-    let (i, signature) = either_signature(i, ext)?;
+    let (i, content) = parsed!(fun(i));
+    let (i, signature) = parsed!(either_signature(i, ext));
     Ok((i, (content, signature)))
 }

@@ -4,7 +4,9 @@ ghost use Rattle.layouts.specs.Answers.{Gives, GivesOrMemory};
 ghost use Rattle.tls_key_exchange.specs.Timestamp.{SignedCertificateTimestamp as Timestamp, view_log_id, log_id as log_id_layout, view_timestamp, timestamp as timestamp_layout, serialized_timestamp, timestamp_list};
 
 use crate::signature::{DigitallySigned, parse_digitally_signed};
-use layouts::{Err, IResult, InPlace, Needed, Room, block, counted2, items, number2, number8};
+use layouts::{
+    Err, IResult, InPlace, Needed, Room, block, counted2, items, number2, number8, parsed,
+};
 use std::alloc::Global;
 use tls_base::CtVersion;
 
@@ -50,11 +52,11 @@ fn log_id(i: &[u8]) -> IResult<&[u8], CtLogID>
 fn timestamp(i: &[u8]) -> IResult<&[u8], SignedCertificateTimestamp>
     ensures { Gives view_timestamp timestamp_layout i.now result }
 {
-    let (i, version) = CtVersion::parse(i)?;
-    let (i, id) = log_id(i)?;
-    let (i, timestamp) = number8(i)?;
-    let (i, extensions) = counted2(i)?;
-    let (i, signature) = parse_digitally_signed(i)?;
+    let (i, version) = parsed!(CtVersion::parse(i));
+    let (i, id) = parsed!(log_id(i));
+    let (i, timestamp) = parsed!(number8(i));
+    let (i, extensions) = parsed!(counted2(i));
+    let (i, signature) = parsed!(parse_digitally_signed(i));
     let timestamp = SignedCertificateTimestamp {
         version,
         id,
@@ -77,9 +79,9 @@ fn timestamp(i: &[u8]) -> IResult<&[u8], SignedCertificateTimestamp>
 pub fn parse_ct_signed_certificate_timestamp(i: &[u8]) -> IResult<&[u8], SignedCertificateTimestamp>
     ensures { Gives view_timestamp serialized_timestamp i.now result }
 {
-    let (i, n) = number2(i)?;
-    let (i, window) = block(i, n as usize)?;
-    let (_, timestamp) = timestamp(window)?;
+    let (i, n) = parsed!(number2(i));
+    let (i, window) = parsed!(block(i, n as usize));
+    let (_, timestamp) = parsed!(timestamp(window));
     Ok((i, timestamp))
 }
 
@@ -111,8 +113,8 @@ pub fn parse_ct_signed_certificate_timestamp_list(
 ) -> IResult<&[u8], Vec<SignedCertificateTimestamp>>
     ensures { GivesOrMemory (λ v. map view_timestamp v.items) timestamp_list i.now result }
 {
-    let (i, n) = number2(i)?;
-    let (i, window) = block(i, n as usize)?;
-    let (_, timestamps) = items::<SignedCertificateTimestamp>(alloc, window)?;
+    let (i, n) = parsed!(number2(i));
+    let (i, window) = parsed!(block(i, n as usize));
+    let (_, timestamps) = parsed!(items::<SignedCertificateTimestamp>(alloc, window));
     Ok((i, timestamps))
 }

@@ -4,7 +4,7 @@ ghost use Rattle.layouts.specs.Items.{items_in};
 ghost use Rattle.tls_key_exchange.specs.Timestamp.{serialized_timestamp, timestamp_list};
 
 use crate::timestamp::SignedCertificateTimestamp;
-use layouts::{IResult, Items, counted2};
+use layouts::{IResult, Items, counted2, parsed};
 
 /// Reads a list of timestamps in place (RFC 6962, section 3.3). Gives the same answer as
 /// [`crate::parse_ct_signed_certificate_timestamp_list`], but allocates nothing.
@@ -15,6 +15,6 @@ use layouts::{IResult, Items, counted2};
 pub fn certificate_timestamps(i: &[u8]) -> IResult<&[u8], Items<SignedCertificateTimestamp>>
     ensures { Gives (λ v. items_in serialized_timestamp v.bytes.now) timestamp_list i.now result }
 {
-    let (i, window) = counted2(i)?;
+    let (i, window) = parsed!(counted2(i));
     Ok((i, Items::new(window)))
 }

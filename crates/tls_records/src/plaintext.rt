@@ -11,7 +11,7 @@ ghost use Rattle.tls_records.specs.RecordText.{WritesBack};
 ghost use Rattle.raw_records.specs.RawRecord.{view_header, raw_record};
 ghost use Rattle.tls_records.specs.Record.{Plaintext, record_content, view_plaintext, plaintext};
 
-use layouts::{Err, ErrorKind, IResult, Item, OutOfMemory, Room, hops2, items1, refused};
+use layouts::{Err, ErrorKind, IResult, Item, OutOfMemory, Room, hops2, items1, parsed, refused};
 use raw_records::content::{Alert, ChangeCipherSpec, Handshake, Protocol};
 use raw_records::{TlsRawRecord, TlsRecordHeader, parse_tls_raw_record};
 use std::alloc::Global;
@@ -79,7 +79,7 @@ fn application_data_alone(alloc: Global, i: &[u8]) -> IResult<&[u8], Vec<TlsMess
     ensures { GivesOrMemory (λ v. map view_message v.items) (mapped (λ m. m ∷ []) application_data)
         i.now result }
 {
-    let (i, data) = parse_tls_message_applicationdata(i)?;
+    let (i, data) = parsed!(parse_tls_message_applicationdata(i));
     let mut messages = Vec::new(alloc);
     messages.push(data)?;
     Ok((i, messages))
@@ -141,8 +141,8 @@ fn record_with_messages(alloc: Global, i: &[u8]) -> IResult<&[u8], TlsPlaintext>
     ensures never_out_of_memory_without_raw_record { IsErr (reading raw_record i.now)
         → MemorySufficed result }
 {
-    let (i, TlsRawRecord { hdr, bytes }) = parse_tls_raw_record(i)?;
-    let (_, msg) = parse_tls_record_with_header(alloc, bytes, &hdr)?;
+    let (i, TlsRawRecord { hdr, bytes }) = parsed!(parse_tls_raw_record(i));
+    let (_, msg) = parsed!(parse_tls_record_with_header(alloc, bytes, &hdr));
     Ok((i, TlsPlaintext { hdr, msg }))
 }
 

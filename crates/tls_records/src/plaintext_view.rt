@@ -13,7 +13,7 @@ ghost use Rattle.raw_records.specs.RawRecord.{view_header};
 ghost use Rattle.tls_records.specs.InPlace.{body_of_type, host_name_of_record, messages_of_fragment, view_plaintext_in_place};
 ghost use Rattle.tls_records.specs.Record.{plaintext, record_content};
 
-use layouts::{Err, Error, ErrorKind, IResult, Items};
+use layouts::{Err, Error, ErrorKind, IResult, Items, parsed};
 use raw_records::{TlsRawRecord, TlsRecordHeader, completed, first_judged, parse_tls_raw_record};
 use tls_base::{TlsHandshakeType, TlsRecordType};
 use tls_ext::server_name;
@@ -92,7 +92,7 @@ pub fn parse_tls_record_with_header_in_place<'a>(
 pub fn parse_tls_plaintext_in_place(i: &[u8]) -> IResult<&[u8], PlaintextView>
     ensures { Gives view_plaintext_in_place plaintext i.now result }
 {
-    let (i, TlsRawRecord { hdr, bytes }) = parse_tls_raw_record(i)?;
+    let (i, TlsRawRecord { hdr, bytes }) = parsed!(parse_tls_raw_record(i));
     let msg = parse_tls_record_with_header_in_place(bytes, &hdr)?;
     Ok((i, PlaintextView { hdr, msg }))
 }
@@ -132,13 +132,13 @@ pub fn first_body<'a>(
 pub fn server_name_of_record(i: &[u8]) -> Result<Option<&[u8]>, Err<Error<&[u8]>>>
     ensures { Returns (option_map (λ x. x.now)) (host_name_of_record i.now) result }
 {
-    let (_, record) = parse_tls_raw_record(i)?;
+    let (_, record) = parsed!(parse_tls_raw_record(i));
     if record.hdr.record_type != TlsRecordType::Handshake {
         return Ok(None);
     }
     let Some(body) = first_body(record.bytes, TlsHandshakeType::ClientHello)? else {
         return Ok(None);
     };
-    let (_, hello) = ClientHelloView::parse(body)?;
+    let (_, hello) = parsed!(ClientHelloView::parse(body));
     server_name(hello.ext)
 }

@@ -14,7 +14,7 @@ use crate::walk::{
     Inside, LINK_ETHERNET, Layer, Unwrapped, datagram_layer, follow, inner_layer, packet_layer,
 };
 use capture::{IpDatagram, IpFragment, parse_fragment_v4, parse_fragment_v6, parse_link};
-use layouts::{ErrorKind, IResult, refused};
+use layouts::{ErrorKind, IResult, parsed, refused};
 
 /// Parses a fragment of this EtherType.
 fn fragment_of_type(i: &[u8], kind: u16) -> IResult<&[u8], IpFragment>
@@ -31,7 +31,7 @@ fn fragment_of_type(i: &[u8], kind: u16) -> IResult<&[u8], IpFragment>
 fn packet_fragment(i: &[u8], link_type: u16) -> IResult<&[u8], IpFragment>
     ensures { Gives view_fragment (packet_fragment_layout link_type) i.now result }
 {
-    let (i, kind) = parse_link(i, link_type)?;
+    let (i, kind) = parsed!(parse_link(i, link_type));
     fragment_of_type(i, kind)
 }
 

@@ -8,7 +8,7 @@ ghost use Rattle.tunnels.specs.Tunnel.{view_header};
 ghost use Rattle.tunnels.specs.Gre.{gre, gre_payload as gre_payload_layout, erspan as erspan_layout, erspan2 as erspan2_layout, erspan3 as erspan3_layout, copied as copied_layout, key_if as key_if_layout, is_plain as is_plain_flags, erspan_tunnel as erspan_tunnel_of};
 
 use crate::tunnel::{ETHERNET, Header, Tunnel, TunnelKind, carrying, skipped_if, version_type};
-use layouts::{ErrorKind, IResult, block, number2, number4, refused};
+use layouts::{ErrorKind, IResult, block, number2, number4, parsed, refused};
 
 /// The GRE protocol of ERSPAN types I and II.
 const ERSPAN: u16 = 0x88be;
@@ -28,7 +28,7 @@ fn key_if(i: &[u8], present: bool) -> IResult<&[u8], Option<u32>>
     ensures { Gives (λ v. v) (key_if_layout present) i.now result }
 {
     if present {
-        let (i, key) = number4(i)?;
+        let (i, key) = parsed!(number4(i));
         return Ok((i, Some(key)));
     }
     Ok((i, None))
@@ -48,12 +48,12 @@ fn erspan_tunnel(id: Option<u32>) -> Tunnel
 fn erspan2(i: &[u8]) -> IResult<&[u8], Header>
     ensures { Gives view_header erspan2_layout i.now result }
 {
-    let (i, front) = number2(i)?;
+    let (i, front) = parsed!(number2(i));
     if front / 4096 != 1 {
         return refused(i, ErrorKind::Verify);
     }
-    let (i, session) = number2(i)?;
-    let (i, _) = block(i, 4)?;
+    let (i, session) = parsed!(number2(i));
+    let (i, _) = parsed!(block(i, 4));
     carrying(i, erspan_tunnel(Some(u32::from(session % 1024))), ETHERNET)
 }
 
@@ -83,15 +83,15 @@ fn copied(i: &[u8], frame_type: u16) -> IResult<&[u8], u16>
 fn erspan3(i: &[u8]) -> IResult<&[u8], Header>
     ensures { Gives view_header erspan3_layout i.now result }
 {
-    let (i, front) = number2(i)?;
+    let (i, front) = parsed!(number2(i));
     if front / 4096 != 2 {
         return refused(i, ErrorKind::Verify);
     }
-    let (i, session) = number2(i)?;
-    let (i, _) = block(i, 6)?;
-    let (i, last) = number2(i)?;
-    let (i, _) = skipped_if(i, last % 2 == 1, 8)?;
-    let (i, kind) = copied(i, last / 1024 % 32)?;
+    let (i, session) = parsed!(number2(i));
+    let (i, _) = parsed!(block(i, 6));
+    let (i, last) = parsed!(number2(i));
+    let (i, _) = parsed!(skipped_if(i, last % 2 == 1, 8));
+    let (i, kind) = parsed!(copied(i, last / 1024 % 32));
     carrying(i, erspan_tunnel(Some(u32::from(session % 1024))), kind)
 }
 
@@ -131,14 +131,14 @@ fn gre_payload(
 pub fn parse_gre(i: &[u8]) -> IResult<&[u8], Header>
     ensures { Gives view_header gre i.now result }
 {
-    let (i, flags) = number2(i)?;
+    let (i, flags) = parsed!(number2(i));
     if !is_plain(flags) {
         return refused(i, ErrorKind::Verify);
     }
-    let (i, protocol) = number2(i)?;
-    let (i, _) = skipped_if(i, flags / 0x8000 == 1, 4)?;
-    let (i, key) = key_if(i, flags / 0x2000 % 2 == 1)?;
+    let (i, protocol) = parsed!(number2(i));
+    let (i, _) = parsed!(skipped_if(i, flags / 0x8000 == 1, 4));
+    let (i, key) = parsed!(key_if(i, flags / 0x2000 % 2 == 1));
     let is_numbered = flags / 0x1000 % 2 == 1;
-    let (i, _) = skipped_if(i, is_numbered, 4)?;
+    let (i, _) = parsed!(skipped_if(i, is_numbered, 4));
     gre_payload(i, protocol, is_numbered, key)
 }

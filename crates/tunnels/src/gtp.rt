@@ -7,7 +7,9 @@ ghost use Rattle.tunnels.specs.Tunnel.{view_header};
 ghost use Rattle.tunnels.specs.Gtp.{extension as extension_layout, extensions as extensions_layout, extensions_if as extensions_if_layout, further_extension, gtp, gtp_payload as gtp_payload_layout, optional_fields as optional_fields_layout};
 
 use crate::tunnel::{Header, Tunnel, TunnelKind, carrying, version_type};
-use layouts::{Err, ErrorKind, IResult, InPlace, Items, block, number1, number2, number4, refused};
+use layouts::{
+    Err, ErrorKind, IResult, InPlace, Items, block, number1, number2, number4, parsed, refused,
+};
 
 /// The message type of user data (G-PDU).
 const USER_DATA: u8 = 255;
@@ -17,11 +19,11 @@ const USER_DATA: u8 = 255;
 fn extension(i: &[u8]) -> IResult<&[u8], u8>
     ensures { Gives (λ v. v) extension_layout i.now result }
 {
-    let (i, words) = number1(i)?;
+    let (i, words) = parsed!(number1(i));
     if words < 1 {
         return refused(i, ErrorKind::LengthValue);
     }
-    let (i, _) = block(i, words as usize * 4 - 2)?;
+    let (i, _) = parsed!(block(i, words as usize * 4 - 2));
     number1(i)
 }
 
@@ -38,7 +40,7 @@ impl<'a> InPlace<'a> for FurtherExtension {
     ghost layout = { further_extension };
 
     fn read(i: &'a [u8]) -> IResult<&'a [u8], ()> {
-        let (i, next) = extension(i)?;
+        let (i, next) = parsed!(extension(i));
         if next == 0 {
             return refused(i, ErrorKind::Tag);
         }
@@ -72,8 +74,8 @@ fn optional_fields(i: &[u8], flags: u8) -> IResult<&[u8], u8>
     if flags == 0 {
         return Ok((i, 0));
     }
-    let (i, _) = block(i, 3)?;
-    let (i, next) = number1(i)?;
+    let (i, _) = parsed!(block(i, 3));
+    let (i, next) = parsed!(number1(i));
     extensions_if(i, flags / 4 == 1 && next != 0)
 }
 
@@ -81,8 +83,8 @@ fn optional_fields(i: &[u8], flags: u8) -> IResult<&[u8], u8>
 fn gtp_payload(i: &[u8], flags: u8, id: u32) -> IResult<&[u8], Header>
     ensures { Gives view_header (gtp_payload_layout flags id) i.now result }
 {
-    let (i, _) = optional_fields(i, flags)?;
-    let (i, kind) = version_type(i)?;
+    let (i, _) = parsed!(optional_fields(i, flags));
+    let (i, kind) = parsed!(version_type(i));
     let tunnel = Tunnel {
         kind: TunnelKind::GtpU,
         id: Some(id),
@@ -113,17 +115,17 @@ fn whole_payload(i: &[u8], flags: u8, id: u32) -> IResult<&[u8], Header>
 pub fn parse_gtp(i: &[u8]) -> IResult<&[u8], Header>
     ensures { Gives view_header gtp i.now result }
 {
-    let (i, first) = number1(i)?;
+    let (i, first) = parsed!(number1(i));
     if first / 16 != 3 {
         return refused(i, ErrorKind::Verify);
     }
-    let (i, message) = number1(i)?;
+    let (i, message) = parsed!(number1(i));
     if message != USER_DATA {
         return refused(i, ErrorKind::Verify);
     }
-    let (i, len) = number2(i)?;
-    let (i, id) = number4(i)?;
-    let (i, held) = block(i, len as usize)?;
-    let (_, header) = whole_payload(held, first % 8, id)?;
+    let (i, len) = parsed!(number2(i));
+    let (i, id) = parsed!(number4(i));
+    let (i, held) = parsed!(block(i, len as usize));
+    let (_, header) = parsed!(whole_payload(held, first % 8, id));
     Ok((i, header))
 }

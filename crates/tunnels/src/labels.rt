@@ -7,7 +7,7 @@ ghost use Rattle.tunnels.specs.Tunnel.{view_header};
 ghost use Rattle.tunnels.specs.Labels.{backbone, mpls, type_behind_labels as type_behind, upper_label};
 
 use crate::tunnel::{ETHERNET, Header, Tunnel, TunnelKind, carrying, skipped_if, type_of_version};
-use layouts::{ErrorKind, IResult, InPlace, Items, number1, number4, refused};
+use layouts::{ErrorKind, IResult, InPlace, Items, number1, number4, parsed, refused};
 
 /// A label with another behind it.
 struct UpperLabel;
@@ -22,7 +22,7 @@ impl<'a> InPlace<'a> for UpperLabel {
     ghost layout = { upper_label };
 
     fn read(i: &'a [u8]) -> IResult<&'a [u8], ()> {
-        let (i, entry) = number4(i)?;
+        let (i, entry) = parsed!(number4(i));
         if entry / 256 % 2 != 0 {
             return refused(i, ErrorKind::Tag);
         }
@@ -50,9 +50,9 @@ fn type_behind_labels(half: u8) -> u16
 pub fn parse_mpls(i: &[u8]) -> IResult<&[u8], Header>
     ensures { Gives view_header mpls i.now result }
 {
-    let (i, entry) = number4(Items::<UpperLabel>::new(i).rest())?;
-    let (_, first) = number1(i)?;
-    let (i, _) = skipped_if(i, first / 16 == 0, 4)?;
+    let (i, entry) = parsed!(number4(Items::<UpperLabel>::new(i).rest()));
+    let (_, first) = parsed!(number1(i));
+    let (i, _) = parsed!(skipped_if(i, first / 16 == 0, 4));
     let tunnel = Tunnel {
         kind: TunnelKind::Mpls,
         id: Some(entry / 4096),
@@ -68,7 +68,7 @@ pub fn parse_mpls(i: &[u8]) -> IResult<&[u8], Header>
 pub fn parse_backbone(i: &[u8]) -> IResult<&[u8], Header>
     ensures { Gives view_header backbone i.now result }
 {
-    let (i, control) = number4(i)?;
+    let (i, control) = parsed!(number4(i));
     let tunnel = Tunnel {
         kind: TunnelKind::Backbone,
         id: Some(control % 0x0100_0000),

@@ -7,7 +7,7 @@ ghost use Rattle.tunnels.specs.Tunnel.{view_header};
 ghost use Rattle.tunnels.specs.Overlay.{geneve, geneve_front as geneve_front_layout, is_overlaid as is_overlaid_type, vxlan};
 
 use crate::tunnel::{ETHERNET, Header, IPV4, IPV6, Tunnel, TunnelKind, carrying};
-use layouts::{ErrorKind, IResult, block, number1, number2, number3, refused};
+use layouts::{ErrorKind, IResult, block, number1, number2, number3, parsed, refused};
 
 /// Parses a VXLAN header (RFC 7348, section 5), 8 bytes, and the Ethernet frame behind it.
 ///
@@ -16,13 +16,13 @@ use layouts::{ErrorKind, IResult, block, number1, number2, number3, refused};
 pub fn parse_vxlan(i: &[u8]) -> IResult<&[u8], Header>
     ensures { Gives view_header vxlan i.now result }
 {
-    let (i, flags) = number1(i)?;
+    let (i, flags) = parsed!(number1(i));
     if flags != 0x08 && flags != 0x88 {
         return refused(i, ErrorKind::Verify);
     }
-    let (i, _) = block(i, 3)?;
-    let (i, network) = number3(i)?;
-    let (i, _) = block(i, 1)?;
+    let (i, _) = parsed!(block(i, 3));
+    let (i, network) = parsed!(number3(i));
+    let (i, _) = parsed!(block(i, 1));
     let tunnel = Tunnel {
         kind: TunnelKind::Vxlan,
         id: Some(network),
@@ -43,12 +43,12 @@ fn geneve_front(i: &[u8]) -> IResult<&[u8], (u8, u16)>
     ensures gives { Gives (λ v. v) geneve_front_layout i.now result }
     ensures bound { IfOk result (λ x. x.1.0 < 64) }
 {
-    let (i, words) = number1(i)?;
+    let (i, words) = parsed!(number1(i));
     if words > 63 {
         return refused(i, ErrorKind::Verify);
     }
-    let (i, _) = block(i, 1)?;
-    let (i, kind) = number2(i)?;
+    let (i, _) = parsed!(block(i, 1));
+    let (i, kind) = parsed!(number2(i));
     if !is_overlaid(kind) {
         return refused(i, ErrorKind::Verify);
     }
@@ -64,9 +64,9 @@ fn geneve_front(i: &[u8]) -> IResult<&[u8], (u8, u16)>
 pub fn parse_geneve(i: &[u8]) -> IResult<&[u8], Header>
     ensures { Gives view_header geneve i.now result }
 {
-    let (i, (words, kind)) = geneve_front(i)?;
-    let (i, network) = number3(i)?;
-    let (i, _) = block(i, words as usize * 4 + 1)?;
+    let (i, (words, kind)) = parsed!(geneve_front(i));
+    let (i, network) = parsed!(number3(i));
+    let (i, _) = parsed!(block(i, words as usize * 4 + 1));
     let tunnel = Tunnel {
         kind: TunnelKind::Geneve,
         id: Some(network),

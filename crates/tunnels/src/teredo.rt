@@ -6,16 +6,16 @@ ghost use Rattle.tunnels.specs.Tunnel.{view_header};
 ghost use Rattle.tunnels.specs.Teredo.{authentication as authentication_layout, authentication_if as authentication_if_layout, teredo};
 
 use crate::tunnel::{Header, IPV6, Tunnel, TunnelKind, carrying, skipped_if};
-use layouts::{ErrorKind, IResult, block, number1, number2, refused};
+use layouts::{ErrorKind, IResult, block, number1, number2, parsed, refused};
 
 /// Skips an authentication header.
 fn authentication(i: &[u8]) -> IResult<&[u8], ()>
     ensures { Gives (λ v. v) authentication_layout i.now result }
 {
-    let (i, _) = block(i, 2)?;
-    let (i, name) = number1(i)?;
-    let (i, value) = number1(i)?;
-    let (i, _) = block(i, name as usize + value as usize + 9)?;
+    let (i, _) = parsed!(block(i, 2));
+    let (i, name) = parsed!(number1(i));
+    let (i, value) = parsed!(number1(i));
+    let (i, _) = parsed!(block(i, name as usize + value as usize + 9));
     Ok((i, ()))
 }
 
@@ -38,11 +38,11 @@ fn authentication_if(i: &[u8], front: u16) -> IResult<&[u8], ()>
 pub fn parse_teredo(i: &[u8]) -> IResult<&[u8], Header>
     ensures { Gives view_header teredo i.now result }
 {
-    let (_, front) = number2(i)?;
-    let (i, _) = authentication_if(i, front)?;
-    let (_, behind) = number2(i)?;
-    let (i, _) = skipped_if(i, behind == 0, 8)?;
-    let (_, first) = number1(i)?;
+    let (_, front) = parsed!(number2(i));
+    let (i, _) = parsed!(authentication_if(i, front));
+    let (_, behind) = parsed!(number2(i));
+    let (i, _) = parsed!(skipped_if(i, behind == 0, 8));
+    let (_, first) = parsed!(number1(i));
     if first / 16 != 6 {
         return refused(i, ErrorKind::Verify);
     }

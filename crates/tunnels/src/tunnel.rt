@@ -5,7 +5,7 @@ ghost use Rattle.std.specs.Prelude.{◌≡◌, ◌≤◌, ◌<◌, ◌+◌, ◌+
 ghost use Rattle.layouts.specs.Answers.{Gives};
 ghost use Rattle.tunnels.specs.Tunnel.{carrying as carrying_layout, listed, skipped_if as skipped_if_layout, version_type as version_type_layout, type_of_version as type_of_version_number, view_header};
 
-use layouts::{IResult, block, number1, rest};
+use layouts::{IResult, block, number1, parsed, rest};
 
 /// The most nested tunnels that are followed.
 pub const MAX_TUNNELS: usize = 8;
@@ -131,7 +131,7 @@ impl Tunnels {
 pub(crate) fn carrying(i: &[u8], tunnel: Tunnel, kind: u16) -> IResult<&[u8], Header>
     ensures { Gives view_header (carrying_layout tunnel kind) i.now result }
 {
-    let (i, inside) = rest(i)?;
+    let (i, inside) = parsed!(rest(i));
     Ok((
         i,
         Header {
@@ -147,7 +147,7 @@ pub(crate) fn skipped_if(i: &[u8], present: bool, count: usize) -> IResult<&[u8]
     ensures { Gives (λ v. v) (skipped_if_layout present count) i.now result }
 {
     if present {
-        let (i, _) = block(i, count)?;
+        let (i, _) = parsed!(block(i, count));
         return Ok((i, ()));
     }
     Ok((i, ()))
@@ -168,6 +168,6 @@ pub(crate) fn type_of_version(version: u8) -> u16
 pub(crate) fn version_type(i: &[u8]) -> IResult<&[u8], u16>
     ensures { Gives (λ v. v) version_type_layout i.now result }
 {
-    let (_, first) = number1(i)?;
+    let (_, first) = parsed!(number1(i));
     Ok((i, type_of_version(first / 16)))
 }

@@ -12,7 +12,7 @@ use crate::carriers::{by_ports, by_protocol};
 use crate::labels::{parse_backbone, parse_mpls};
 use crate::tunnel::{ETHERNET, Header, IPV4, IPV6, MAX_TUNNELS, Tunnels};
 use capture::{Content, IpDatagram, parse_ipv4, parse_ipv6, parse_link};
-use layouts::IResult;
+use layouts::{IResult, parsed};
 
 /// The EtherTypes of MPLS: unicast and multicast.
 const MPLS: u16 = 0x8847;
@@ -101,19 +101,19 @@ fn layer_of_type(i: &[u8], kind: u16) -> IResult<&[u8], Layer>
 {
     match kind {
         IPV4 => {
-            let (i, datagram) = parse_ipv4(i)?;
+            let (i, datagram) = parsed!(parse_ipv4(i));
             Ok((i, datagram_layer(datagram)))
         }
         IPV6 => {
-            let (i, datagram) = parse_ipv6(i)?;
+            let (i, datagram) = parsed!(parse_ipv6(i));
             Ok((i, datagram_layer(datagram)))
         }
         MPLS | MPLS_TO_MANY => {
-            let (i, header) = parse_mpls(i)?;
+            let (i, header) = parsed!(parse_mpls(i));
             Ok((i, Layer::Wraps(header)))
         }
         BACKBONE => {
-            let (i, header) = parse_backbone(i)?;
+            let (i, header) = parsed!(parse_backbone(i));
             Ok((i, Layer::Wraps(header)))
         }
         _ => Ok((i, Layer::Unknown)),
@@ -125,7 +125,7 @@ fn layer_of_type(i: &[u8], kind: u16) -> IResult<&[u8], Layer>
 pub(crate) fn packet_layer(i: &[u8], link_type: u16) -> IResult<&[u8], Layer>
     ensures { Gives view_layer (packet_layer_layout link_type) i.now result }
 {
-    let (i, kind) = parse_link(i, link_type)?;
+    let (i, kind) = parsed!(parse_link(i, link_type));
     layer_of_type(i, kind)
 }
 

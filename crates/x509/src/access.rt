@@ -10,7 +10,7 @@ ghost use Rattle.x509.specs.Access.{AccessDescription as PlainAccess, view_acces
 
 use crate::general_name::{GeneralName, GeneralNames};
 use der::{AllBytes, ItemsOf, ObjectIdentifier, object_identifier, optional, tag, tagged};
-use layouts::{IResult, InPlace, Items};
+use layouts::{IResult, InPlace, Items, parsed};
 
 /// Where to find information of one kind.
 #[derive(Clone, Copy, Debug, PartialEq)]
@@ -35,8 +35,8 @@ impl<'a> InPlace<'a> for AccessContent {
 
     #[tactic(auto, using(layouts::proofs::OneAnswerLemmas::read_allowed), unfolding(crate::specs::Access::access_description_content))]
     fn read(i: &'a [u8]) -> IResult<&'a [u8], AccessDescription<'a>> {
-        let (i, access_method) = object_identifier(i)?;
-        let (i, access_location) = GeneralNames::read(i)?;
+        let (i, access_method) = parsed!(object_identifier(i));
+        let (i, access_location) = parsed!(GeneralNames::read(i));
         let description = AccessDescription {
             access_method,
             access_location,
@@ -91,8 +91,8 @@ impl<'a> InPlace<'a> for PolicyContent {
 
     #[tactic(auto, using(layouts::proofs::OneAnswerLemmas::read_allowed), unfolding(crate::specs::Access::policy_content))]
     fn read(i: &'a [u8]) -> IResult<&'a [u8], ObjectIdentifier<'a>> {
-        let (i, id) = object_identifier(i)?;
-        let (i, _) = optional::<AllBytes>(i, tag::SEQUENCE)?;
+        let (i, id) = parsed!(object_identifier(i));
+        let (i, _) = parsed!(optional::<AllBytes>(i, tag::SEQUENCE));
         Ok((i, id))
     }
 }

@@ -6,7 +6,7 @@ ghost use Rattle.x509.specs.Certificate.{AlgorithmIdentifier as PlainAlgorithm, 
 ghost use Rattle.x509.specs.Certificate.{SubjectPublicKeyInfo as PlainKeyInfo, view_key_info, key_info_content, subject_public_key_info};
 
 use der::{BitString, Element, ObjectIdentifier, object_identifier, optional_element, tag, tagged};
-use layouts::{IResult, InPlace};
+use layouts::{IResult, InPlace, parsed};
 
 /// An algorithm.
 #[derive(Clone, Copy, Debug, PartialEq)]
@@ -31,8 +31,8 @@ impl<'a> InPlace<'a> for AlgorithmContent {
 
     #[tactic(auto, using(layouts::proofs::OneAnswerLemmas::read_allowed), unfolding(crate::specs::Certificate::algorithm_content))]
     fn read(i: &'a [u8]) -> IResult<&'a [u8], AlgorithmIdentifier<'a>> {
-        let (i, algorithm) = object_identifier(i)?;
-        let (i, parameters) = optional_element(i)?;
+        let (i, algorithm) = parsed!(object_identifier(i));
+        let (i, parameters) = parsed!(optional_element(i));
         let identifier = AlgorithmIdentifier {
             algorithm,
             parameters,
@@ -75,8 +75,8 @@ impl<'a> InPlace<'a> for KeyInfoContent {
 
     #[tactic(auto, using(layouts::proofs::OneAnswerLemmas::read_allowed), unfolding(crate::specs::Certificate::key_info_content))]
     fn read(i: &'a [u8]) -> IResult<&'a [u8], SubjectPublicKeyInfo<'a>> {
-        let (i, algorithm) = parse_algorithm_identifier(i)?;
-        let (i, subject_public_key) = tagged::<BitString>(i, tag::BIT_STRING)?;
+        let (i, algorithm) = parsed!(parse_algorithm_identifier(i));
+        let (i, subject_public_key) = parsed!(tagged::<BitString>(i, tag::BIT_STRING));
         let info = SubjectPublicKeyInfo {
             algorithm,
             subject_public_key,

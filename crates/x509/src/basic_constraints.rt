@@ -5,7 +5,7 @@ ghost use Rattle.layouts.specs.Answers.{Gives};
 ghost use Rattle.x509.specs.Extensions.{BasicConstraints as PlainBasicConstraints, view_basic_constraints, basic_constraints_content, basic_constraints};
 
 use der::{Integer, default_false, optional, tag, tagged};
-use layouts::{IResult, InPlace};
+use layouts::{IResult, InPlace, parsed};
 
 /// Whether a subject may sign certificates, and how long a chain of them.
 #[derive(Clone, Copy, Debug, PartialEq)]
@@ -31,8 +31,8 @@ impl<'a> InPlace<'a> for ConstraintsContent {
 
     #[tactic(auto, using(layouts::proofs::OneAnswerLemmas::read_allowed), unfolding(crate::specs::Extensions::basic_constraints_content))]
     fn read(i: &'a [u8]) -> IResult<&'a [u8], BasicConstraints<'a>> {
-        let (i, ca) = default_false(i)?;
-        let (i, path_len_constraint) = optional::<Integer>(i, tag::INTEGER)?;
+        let (i, ca) = parsed!(default_false(i));
+        let (i, path_len_constraint) = parsed!(optional::<Integer>(i, tag::INTEGER));
         let constraints = BasicConstraints {
             ca,
             path_len_constraint,

@@ -8,7 +8,7 @@ ghost use Rattle.x509.specs.Certificate.{Certificate as PlainCertificate, view_c
 use crate::algorithm::{AlgorithmIdentifier, parse_algorithm_identifier};
 use crate::tbs::TBSCertificate;
 use der::{BitString, tag, tagged};
-use layouts::{IResult, InPlace, rest};
+use layouts::{IResult, InPlace, parsed, rest};
 
 /// A certificate.
 #[derive(Clone, Copy, Debug, PartialEq)]
@@ -45,11 +45,11 @@ impl<'a> InPlace<'a> for CertificateContent {
 
     #[tactic(auto, using(layouts::proofs::OneAnswerLemmas::read_allowed), unfolding(crate::specs::Certificate::certificate_content))]
     fn read(i: &'a [u8]) -> IResult<&'a [u8], Certificate<'a>> {
-        let (_, whole) = rest(i)?;
-        let (behind, tbs_certificate) = tagged::<TBSCertificate>(i, tag::SEQUENCE)?;
+        let (_, whole) = parsed!(rest(i));
+        let (behind, tbs_certificate) = parsed!(tagged::<TBSCertificate>(i, tag::SEQUENCE));
         let signed_bytes = front_of(whole, behind);
-        let (i, signature_algorithm) = parse_algorithm_identifier(behind)?;
-        let (i, signature_value) = tagged::<BitString>(i, tag::BIT_STRING)?;
+        let (i, signature_algorithm) = parsed!(parse_algorithm_identifier(behind));
+        let (i, signature_value) = parsed!(tagged::<BitString>(i, tag::BIT_STRING));
         let certificate = Certificate {
             signed_bytes,
             tbs_certificate,

@@ -9,7 +9,7 @@ ghost use Rattle.x509.specs.Certificate.{Extension as PlainExtension, view_exten
 ghost use Rattle.x509.specs.Extensions.{first_of};
 
 use der::{AllBytes, ItemsOf, ObjectIdentifier, default_false, object_identifier, tag, tagged};
-use layouts::{IResult, InPlace, Items};
+use layouts::{IResult, InPlace, Items, parsed};
 
 /// An extension.
 #[derive(Clone, Copy, Debug, PartialEq)]
@@ -36,9 +36,9 @@ impl<'a> InPlace<'a> for ExtensionContent {
 
     #[tactic(auto, using(layouts::proofs::OneAnswerLemmas::read_allowed), unfolding(crate::specs::Certificate::extension_content))]
     fn read(i: &'a [u8]) -> IResult<&'a [u8], Extension<'a>> {
-        let (i, extn_id) = object_identifier(i)?;
-        let (i, critical) = default_false(i)?;
-        let (i, extn_value) = tagged::<AllBytes>(i, tag::OCTET_STRING)?;
+        let (i, extn_id) = parsed!(object_identifier(i));
+        let (i, critical) = parsed!(default_false(i));
+        let (i, extn_value) = parsed!(tagged::<AllBytes>(i, tag::OCTET_STRING));
         let extension = Extension {
             extn_id,
             critical,

@@ -8,7 +8,7 @@ ghost use Rattle.der.specs.Element.{view_element};
 ghost use Rattle.x509.specs.GeneralName.{GeneralName as PlainGeneralName, view_general_name, name_of, general_name, general_names, OtherName as PlainOtherName, view_other_name, other_name};
 
 use der::{Element, ItemsOf, ObjectIdentifier, object_identifier, tag, tagged};
-use layouts::{IResult, InPlace, Items};
+use layouts::{IResult, InPlace, Items, parsed};
 
 /// A name of a subject or an issuer. The bytes of text are returned as they are.
 #[derive(Clone, Copy, Debug, PartialEq)]
@@ -53,7 +53,7 @@ impl<'a> InPlace<'a> for GeneralNames {
 
     #[tactic(auto, using(layouts::proofs::OneAnswerLemmas::read_allowed), unfolding(crate::specs::GeneralName::general_name))]
     fn read(i: &'a [u8]) -> IResult<&'a [u8], GeneralName<'a>> {
-        let (i, e) = Element::read(i)?;
+        let (i, e) = parsed!(Element::read(i));
         Ok((i, general_name_of(e)))
     }
 }
@@ -85,7 +85,7 @@ pub struct OtherName<'a> {
 pub fn parse_other_name(i: &[u8]) -> IResult<&[u8], OtherName>
     ensures { Gives view_other_name other_name i.now result }
 {
-    let (i, type_id) = object_identifier(i)?;
-    let (i, value) = tagged::<Element>(i, 0xa0)?;
+    let (i, type_id) = parsed!(object_identifier(i));
+    let (i, value) = parsed!(tagged::<Element>(i, 0xa0));
     Ok((i, OtherName { type_id, value }))
 }

@@ -7,7 +7,7 @@ ghost use Rattle.x509.specs.Extensions.{AuthorityKeyIdentifier as PlainKeyIdenti
 
 use crate::general_name::GeneralNames;
 use der::{AllBytes, Integer, ItemsOf, optional, tag, tagged};
-use layouts::{IResult, InPlace, Items};
+use layouts::{IResult, InPlace, Items, parsed};
 
 /// The key that signed a certificate: its identifier, or the issuer and serial number of its
 /// certificate, or both.
@@ -35,9 +35,9 @@ impl<'a> InPlace<'a> for KeyIdentifierContent {
 
     #[tactic(auto, using(layouts::proofs::OneAnswerLemmas::read_allowed), unfolding(crate::specs::Extensions::key_identifier_content))]
     fn read(i: &'a [u8]) -> IResult<&'a [u8], AuthorityKeyIdentifier<'a>> {
-        let (i, key_identifier) = optional::<AllBytes>(i, 0x80)?;
-        let (i, authority_cert_issuer) = optional::<ItemsOf<GeneralNames>>(i, 0xa1)?;
-        let (i, authority_cert_serial_number) = optional::<Integer>(i, 0x82)?;
+        let (i, key_identifier) = parsed!(optional::<AllBytes>(i, 0x80));
+        let (i, authority_cert_issuer) = parsed!(optional::<ItemsOf<GeneralNames>>(i, 0xa1));
+        let (i, authority_cert_serial_number) = parsed!(optional::<Integer>(i, 0x82));
         let identifier = AuthorityKeyIdentifier {
             key_identifier,
             authority_cert_issuer,

@@ -13,16 +13,16 @@ use crate::algorithm::SubjectPublicKeyInfo;
 use crate::oid;
 use crate::public_key::PositiveBits;
 use der::{AllBytes, Element, Integer, tag, tagged};
-use layouts::{IResult, InPlace, rest};
+use layouts::{IResult, InPlace, parsed, rest};
 
 /// Parses the content of Dss-Parms, and returns the bit length of its prime p.
 #[tactic(auto, using(layouts::proofs::OneAnswerLemmas::read_allowed), unfolding(crate::specs::KeyParameters::dsa_parameters))]
 fn dsa_prime_bits(i: &[u8]) -> IResult<&[u8], u32>
     ensures { Gives (λ v. v) dsa_parameters i.now result }
 {
-    let (i, bits) = tagged::<PositiveBits>(i, tag::INTEGER)?;
-    let (i, _) = tagged::<Integer>(i, tag::INTEGER)?;
-    let (i, _) = tagged::<Integer>(i, tag::INTEGER)?;
+    let (i, bits) = parsed!(tagged::<PositiveBits>(i, tag::INTEGER));
+    let (i, _) = parsed!(tagged::<Integer>(i, tag::INTEGER));
+    let (i, _) = parsed!(tagged::<Integer>(i, tag::INTEGER));
     Ok((i, bits))
 }
 
@@ -31,12 +31,12 @@ fn dsa_prime_bits(i: &[u8]) -> IResult<&[u8], u32>
 fn curve_order_bits(i: &[u8]) -> IResult<&[u8], u32>
     ensures { Gives (λ v. v) explicit_curve i.now result }
 {
-    let (i, _) = tagged::<Integer>(i, tag::INTEGER)?;
-    let (i, _) = tagged::<AllBytes>(i, tag::SEQUENCE)?;
-    let (i, _) = tagged::<AllBytes>(i, tag::SEQUENCE)?;
-    let (i, _) = tagged::<AllBytes>(i, tag::OCTET_STRING)?;
-    let (i, order) = tagged::<PositiveBits>(i, tag::INTEGER)?;
-    let (i, _) = rest(i)?;
+    let (i, _) = parsed!(tagged::<Integer>(i, tag::INTEGER));
+    let (i, _) = parsed!(tagged::<AllBytes>(i, tag::SEQUENCE));
+    let (i, _) = parsed!(tagged::<AllBytes>(i, tag::SEQUENCE));
+    let (i, _) = parsed!(tagged::<AllBytes>(i, tag::OCTET_STRING));
+    let (i, order) = parsed!(tagged::<PositiveBits>(i, tag::INTEGER));
+    let (i, _) = parsed!(rest(i));
     Ok((i, order))
 }
 

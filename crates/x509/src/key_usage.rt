@@ -9,7 +9,7 @@ ghost use Rattle.x509.specs.Extensions.{usage_of as usage_by, key_usage, KeyPurp
 
 use crate::oid;
 use der::{BitString, ItemsOf, ObjectIdentifier, object_identifier, tag, tagged};
-use layouts::{IResult, InPlace, Items};
+use layouts::{IResult, InPlace, Items, parsed};
 
 /// What a key may be used for.
 #[derive(Clone, Copy, Debug, PartialEq, Eq)]
@@ -58,7 +58,7 @@ fn usage_of(bits: BitString) -> KeyUsage
 pub fn parse_key_usage(i: &[u8]) -> IResult<&[u8], KeyUsage>
     ensures { Gives (λ v. v) key_usage i.now result }
 {
-    let (i, bits) = tagged::<BitString>(i, tag::BIT_STRING)?;
+    let (i, bits) = parsed!(tagged::<BitString>(i, tag::BIT_STRING));
     Ok((i, usage_of(bits)))
 }
 
@@ -120,7 +120,7 @@ impl<'a> InPlace<'a> for KeyPurposeIds {
 
     #[tactic(auto, using(layouts::proofs::OneAnswerLemmas::read_allowed), unfolding(crate::specs::Extensions::key_purpose))]
     fn read(i: &'a [u8]) -> IResult<&'a [u8], KeyPurposeId<'a>> {
-        let (i, id) = object_identifier(i)?;
+        let (i, id) = parsed!(object_identifier(i));
         Ok((i, purpose_of(id)))
     }
 }

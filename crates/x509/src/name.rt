@@ -7,7 +7,7 @@ ghost use Rattle.layouts.specs.Items.{items_in};
 ghost use Rattle.x509.specs.Name.{AttributeTypeAndValue as PlainAttribute, view_attribute, attribute_content, attribute, relative_distinguished_name, whole_set, name as name_layout};
 
 use der::{Element, ItemsOf, ListOf, ObjectIdentifier, object_identifier, tag, tagged};
-use layouts::{IResult, InPlace, Items};
+use layouts::{IResult, InPlace, Items, parsed};
 
 /// An attribute of a name.
 #[derive(Clone, Copy, Debug, PartialEq)]
@@ -32,8 +32,8 @@ impl<'a> InPlace<'a> for AttributeContent {
 
     #[tactic(auto, using(layouts::proofs::OneAnswerLemmas::read_allowed), unfolding(crate::specs::Name::attribute_content))]
     fn read(i: &'a [u8]) -> IResult<&'a [u8], AttributeTypeAndValue<'a>> {
-        let (i, attribute_type) = object_identifier(i)?;
-        let (i, value) = Element::read(i)?;
+        let (i, attribute_type) = parsed!(object_identifier(i));
+        let (i, value) = parsed!(Element::read(i));
         let attribute = AttributeTypeAndValue {
             attribute_type,
             value,

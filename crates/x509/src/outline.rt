@@ -15,7 +15,7 @@ use crate::extension::Extensions;
 use crate::name::{Name, parse_name};
 use crate::tbs::{Version, read_optional_fields};
 use der::{AllBytes, Integer, element_bytes, optional, tag, tagged};
-use layouts::{Err, Error, IResult, InPlace, Items, rest};
+use layouts::{Err, Error, IResult, InPlace, Items, parsed, rest};
 
 /// The elements of a TBSCertificate up to the issuer.
 #[derive(Clone, Copy)]
@@ -31,10 +31,10 @@ struct FirstElements<'a> {
 fn read_first_elements(i: &[u8]) -> IResult<&[u8], FirstElements>
     ensures { Gives view_first_elements first_elements i.now result }
 {
-    let (i, version) = optional::<AllBytes>(i, 0xa0)?;
-    let (i, serial_number) = element_bytes(i)?;
-    let (i, signature) = element_bytes(i)?;
-    let (i, issuer) = element_bytes(i)?;
+    let (i, version) = parsed!(optional::<AllBytes>(i, 0xa0));
+    let (i, serial_number) = parsed!(element_bytes(i));
+    let (i, signature) = parsed!(element_bytes(i));
+    let (i, issuer) = parsed!(element_bytes(i));
     let elements = FirstElements {
         version,
         serial_number,
@@ -65,11 +65,11 @@ impl<'a> InPlace<'a> for TbsElements<'a> {
 
     #[tactic(auto, using(layouts::proofs::OneAnswerLemmas::read_allowed), unfolding(crate::specs::Outline::tbs_elements))]
     fn read(i: &'a [u8]) -> IResult<&'a [u8], Self> {
-        let (i, first) = read_first_elements(i)?;
-        let (i, validity) = element_bytes(i)?;
-        let (i, subject) = element_bytes(i)?;
-        let (i, key) = element_bytes(i)?;
-        let (i, others) = rest(i)?;
+        let (i, first) = parsed!(read_first_elements(i));
+        let (i, validity) = parsed!(element_bytes(i));
+        let (i, subject) = parsed!(element_bytes(i));
+        let (i, key) = parsed!(element_bytes(i));
+        let (i, others) = parsed!(rest(i));
         let elements = TbsElements {
             first,
             validity,
@@ -119,9 +119,9 @@ impl<'a> InPlace<'a> for OutlineContent {
 
     #[tactic(auto, using(layouts::proofs::OneAnswerLemmas::read_allowed), unfolding(crate::specs::Outline::outline_content))]
     fn read(i: &'a [u8]) -> IResult<&'a [u8], Outline<'a>> {
-        let (i, tbs) = tagged::<TbsElements>(i, tag::SEQUENCE)?;
-        let (i, signature_algorithm) = element_bytes(i)?;
-        let (i, _) = rest(i)?;
+        let (i, tbs) = parsed!(tagged::<TbsElements>(i, tag::SEQUENCE));
+        let (i, signature_algorithm) = parsed!(element_bytes(i));
+        let (i, _) = parsed!(rest(i));
         let outline = Outline {
             version: tbs.first.version,
             serial_number: tbs.first.serial_number,
@@ -171,8 +171,8 @@ impl<'a> InPlace<'a> for ValidityContent {
 
     #[tactic(auto, using(layouts::proofs::OneAnswerLemmas::read_allowed), unfolding(crate::specs::Outline::validity_elements_content))]
     fn read(i: &'a [u8]) -> IResult<&'a [u8], ValidityElements<'a>> {
-        let (i, not_before) = element_bytes(i)?;
-        let (i, not_after) = element_bytes(i)?;
+        let (i, not_before) = parsed!(element_bytes(i));
+        let (i, not_after) = parsed!(element_bytes(i));
         let validity = ValidityElements {
             not_before,
             not_after,
@@ -198,7 +198,7 @@ impl<'a> Outline<'a> {
     {
         match self.version {
             Some(content) => {
-                let (_, version) = Version::read(content)?;
+                let (_, version) = parsed!(Version::read(content));
                 Ok(version)
             }
             None => Ok(0),
@@ -209,7 +209,7 @@ impl<'a> Outline<'a> {
     pub fn serial_number(self) -> Result<&'a [u8], Err<Error<&'a [u8]>>>
         ensures { Returns (λ v. v.now) (serial_number_in self.entry.serial_number.now) result }
     {
-        let (_, number) = tagged::<Integer>(self.serial_number, tag::INTEGER)?;
+        let (_, number) = parsed!(tagged::<Integer>(self.serial_number, tag::INTEGER));
         Ok(number)
     }
 
@@ -218,7 +218,7 @@ impl<'a> Outline<'a> {
         ensures { Returns (λ v. items_in relative_distinguished_name v.bytes.now)
             (value_of (reading name_layout self.entry.issuer.now)) result }
     {
-        let (_, name) = parse_name(self.issuer)?;
+        let (_, name) = parsed!(parse_name(self.issuer));
         Ok(name)
     }
 
@@ -227,7 +227,7 @@ impl<'a> Outline<'a> {
         ensures { Returns (λ v. items_in relative_distinguished_name v.bytes.now)
             (value_of (reading name_layout self.entry.subject.now)) result }
     {
-        let (_, name) = parse_name(self.subject)?;
+        let (_, name) = parsed!(parse_name(self.subject));
         Ok(name)
     }
 
@@ -236,7 +236,7 @@ impl<'a> Outline<'a> {
         ensures { Returns view_validity_elements
             (value_of (reading validity_elements self.entry.validity.now)) result }
     {
-        let (_, validity) = parse_validity_elements(self.validity)?;
+        let (_, validity) = parsed!(parse_validity_elements(self.validity));
         Ok(validity)
     }
 
@@ -246,7 +246,7 @@ impl<'a> Outline<'a> {
             (value_of (reading subject_public_key_info self.entry.subject_public_key_info.now))
             result }
     {
-        let (_, info) = parse_key_info(self.subject_public_key_info)?;
+        let (_, info) = parsed!(parse_key_info(self.subject_public_key_info));
         Ok(info)
     }
 
@@ -255,7 +255,7 @@ impl<'a> Outline<'a> {
         ensures { Returns view_algorithm
             (value_of (reading algorithm_identifier self.entry.signature_algorithm.now)) result }
     {
-        let (_, algorithm) = parse_algorithm_identifier(self.signature_algorithm)?;
+        let (_, algorithm) = parsed!(parse_algorithm_identifier(self.signature_algorithm));
         Ok(algorithm)
     }
 
@@ -264,7 +264,7 @@ impl<'a> Outline<'a> {
         ensures { Returns (λ v. items_in extension v.bytes.now)
             (extensions_in self.entry.others.now) result }
     {
-        let (_, fields) = read_optional_fields(self.others)?;
+        let (_, fields) = parsed!(read_optional_fields(self.others));
         Ok(fields.extensions)
     }
 }

@@ -13,7 +13,7 @@ ghost use Rattle.x509.specs.PublicKey.{byte_bits as byte_bits_of, zero_byte, bit
 use crate::algorithm::SubjectPublicKeyInfo;
 use crate::oid;
 use der::{Element, Integer, ObjectIdentifier, tag, tagged};
-use layouts::{Err, Error, ErrorKind, IResult, InPlace, Items, number1, refused, rest};
+use layouts::{Err, Error, ErrorKind, IResult, InPlace, Items, number1, parsed, refused, rest};
 
 /// The bit length of a number; 1 for 0.
 fn byte_bits(n: u8) -> u32
@@ -46,7 +46,7 @@ impl<'a> InPlace<'a> for ZeroByte {
 
     #[tactic(auto, using(layouts::proofs::OneAnswerLemmas::read_allowed), unfolding(crate::specs::PublicKey::zero_byte))]
     fn read(i: &'a [u8]) -> IResult<&'a [u8], ()> {
-        let (i, n) = number1(i)?;
+        let (i, n) = parsed!(number1(i));
         if n != 0 {
             return refused(i, ErrorKind::Tag);
         }
@@ -60,12 +60,12 @@ fn bit_length_of(i: &[u8]) -> IResult<&[u8], u32>
     ensures { Gives (λ n. n) bit_length i.now result }
 {
     let i = Items::<ZeroByte>::new(i).rest();
-    let (i, first) = number1(i)?;
+    let (i, first) = parsed!(number1(i));
     let n = i.len();
     if n > 65535 {
         return refused(i, ErrorKind::TooLarge);
     }
-    let (i, _) = rest(i)?;
+    let (i, _) = parsed!(rest(i));
     Ok((i, n as u32 * 8 + byte_bits(first)))
 }
 
@@ -83,8 +83,8 @@ impl<'a> InPlace<'a> for PositiveBits {
 
     #[tactic(auto, using(layouts::proofs::OneAnswerLemmas::read_allowed), unfolding(crate::specs::PublicKey::positive_bits))]
     fn read(i: &'a [u8]) -> IResult<&'a [u8], u32> {
-        let (_, _) = Integer::read(i)?;
-        let (_, first) = number1(i)?;
+        let (_, _) = parsed!(Integer::read(i));
+        let (_, first) = parsed!(number1(i));
         if first >= 128 {
             return refused(i, ErrorKind::Verify);
         }
@@ -106,8 +106,8 @@ impl<'a> InPlace<'a> for RsaContent {
 
     #[tactic(auto, using(layouts::proofs::OneAnswerLemmas::read_allowed), unfolding(crate::specs::PublicKey::rsa_content))]
     fn read(i: &'a [u8]) -> IResult<&'a [u8], u32> {
-        let (i, bits) = tagged::<PositiveBits>(i, tag::INTEGER)?;
-        let (i, _) = tagged::<Integer>(i, tag::INTEGER)?;
+        let (i, bits) = parsed!(tagged::<PositiveBits>(i, tag::INTEGER));
+        let (i, _) = parsed!(tagged::<Integer>(i, tag::INTEGER));
         Ok((i, bits))
     }
 }
@@ -151,7 +151,7 @@ fn named_curve<'a>(parameters: Option<Element<'a>>) -> Result<PublicKey<'a>, Err
                 content,
             },
         ) => {
-            let (_, curve) = ObjectIdentifier::read(content)?;
+            let (_, curve) = parsed!(ObjectIdentifier::read(content));
             Ok(PublicKey::Ec(curve))
         }
         _ => Err(Err::Error(Error {
@@ -172,7 +172,7 @@ impl<'a> SubjectPublicKeyInfo<'a> {
     {
         let algorithm = self.algorithm.algorithm.content;
         if algorithm == oid::RSA_ENCRYPTION.content || algorithm == oid::RSASSA_PSS.content {
-            let (_, bits) = parse_rsa_public_key(self.subject_public_key.bytes)?;
+            let (_, bits) = parsed!(parse_rsa_public_key(self.subject_public_key.bytes));
             return Ok(PublicKey::Rsa(bits));
         }
         if algorithm == oid::EC_PUBLIC_KEY.content {

@@ -13,7 +13,7 @@ use crate::extension::{ExtensionList, Extensions};
 use crate::name::{Name, parse_name};
 use crate::validity::{Validity, parse_validity};
 use der::{BitString, Integer, optional, tag, tagged};
-use layouts::{ErrorKind, IResult, InPlace, Items, number1, refused};
+use layouts::{ErrorKind, IResult, InPlace, Items, number1, parsed, refused};
 
 /// The content of a version's INTEGER.
 struct VersionContent;
@@ -29,7 +29,7 @@ impl<'a> InPlace<'a> for VersionContent {
 
     #[tactic(auto, using(layouts::proofs::OneAnswerLemmas::read_allowed), unfolding(crate::specs::Certificate::version_content))]
     fn read(i: &'a [u8]) -> IResult<&'a [u8], u8> {
-        let (i, n) = number1(i)?;
+        let (i, n) = parsed!(number1(i));
         if n >= 128 {
             return refused(i, ErrorKind::Verify);
         }
@@ -68,9 +68,9 @@ struct FirstFields<'a> {
 fn read_first_fields(i: &[u8]) -> IResult<&[u8], FirstFields>
     ensures { Gives view_first_fields first_fields i.now result }
 {
-    let (i, version) = optional::<Version>(i, 0xa0)?;
-    let (i, serial_number) = tagged::<Integer>(i, tag::INTEGER)?;
-    let (i, signature) = parse_algorithm_identifier(i)?;
+    let (i, version) = parsed!(optional::<Version>(i, 0xa0));
+    let (i, serial_number) = parsed!(tagged::<Integer>(i, tag::INTEGER));
+    let (i, signature) = parsed!(parse_algorithm_identifier(i));
     let version = match version {
         Some(n) => n,
         None => 0,
@@ -97,10 +97,10 @@ struct NameFields<'a> {
 fn read_name_fields(i: &[u8]) -> IResult<&[u8], NameFields>
     ensures { Gives view_name_fields name_fields i.now result }
 {
-    let (i, issuer) = parse_name(i)?;
-    let (i, validity) = parse_validity(i)?;
-    let (i, subject) = parse_name(i)?;
-    let (i, subject_public_key_info) = parse_key_info(i)?;
+    let (i, issuer) = parsed!(parse_name(i));
+    let (i, validity) = parsed!(parse_validity(i));
+    let (i, subject) = parsed!(parse_name(i));
+    let (i, subject_public_key_info) = parsed!(parse_key_info(i));
     let fields = NameFields {
         issuer,
         validity,
@@ -123,9 +123,9 @@ pub(crate) struct OptionalFields<'a> {
 pub(crate) fn read_optional_fields<'a>(i: &'a [u8]) -> IResult<&'a [u8], OptionalFields<'a>>
     ensures { Gives view_optional_fields optional_fields i.now result }
 {
-    let (i, issuer_unique_id) = optional::<BitString>(i, 0x81)?;
-    let (i, subject_unique_id) = optional::<BitString>(i, 0x82)?;
-    let (i, list) = optional::<ExtensionList>(i, 0xa3)?;
+    let (i, issuer_unique_id) = parsed!(optional::<BitString>(i, 0x81));
+    let (i, subject_unique_id) = parsed!(optional::<BitString>(i, 0x82));
+    let (i, list) = parsed!(optional::<ExtensionList>(i, 0xa3));
     let extensions = match list {
         Some(extensions) => extensions,
         None => Items::new(&[]),
@@ -174,9 +174,9 @@ impl<'a> InPlace<'a> for TBSCertificate<'a> {
 
     #[tactic(auto, using(layouts::proofs::OneAnswerLemmas::read_allowed), unfolding(crate::specs::Certificate::tbs_certificate))]
     fn read(i: &'a [u8]) -> IResult<&'a [u8], Self> {
-        let (i, first) = read_first_fields(i)?;
-        let (i, names) = read_name_fields(i)?;
-        let (i, others) = read_optional_fields(i)?;
+        let (i, first) = parsed!(read_first_fields(i));
+        let (i, names) = parsed!(read_name_fields(i));
+        let (i, others) = parsed!(read_optional_fields(i));
         let certificate = TBSCertificate {
             version: first.version,
             serial_number: first.serial_number,

@@ -5,7 +5,7 @@ ghost use Rattle.layouts.specs.Answers.{Gives};
 ghost use Rattle.x509.specs.Certificate.{time as time_layout, validity_content, validity};
 
 use der::{GeneralizedTime, UtcTime, tag, tagged};
-use layouts::{ErrorKind, IResult, InPlace, number1, refused};
+use layouts::{ErrorKind, IResult, InPlace, number1, parsed, refused};
 
 /// Parses a Time, in seconds since 1970-01-01 00:00:00 UTC: a UTCTime of a year from 1950 to 2049,
 /// or a GeneralizedTime.
@@ -17,7 +17,7 @@ use layouts::{ErrorKind, IResult, InPlace, number1, refused};
 pub fn parse_time(i: &[u8]) -> IResult<&[u8], i64>
     ensures { Gives (λ v. v) time_layout i.now result }
 {
-    let (_, t) = number1(i)?;
+    let (_, t) = parsed!(number1(i));
     match t {
         tag::UTC_TIME => tagged::<UtcTime>(i, tag::UTC_TIME),
         tag::GENERALIZED_TIME => tagged::<GeneralizedTime>(i, tag::GENERALIZED_TIME),
@@ -50,8 +50,8 @@ impl<'a> InPlace<'a> for ValidityContent {
 
     #[tactic(auto, using(layouts::proofs::OneAnswerLemmas::read_allowed), unfolding(crate::specs::Certificate::validity_content))]
     fn read(i: &'a [u8]) -> IResult<&'a [u8], Validity> {
-        let (i, not_before) = parse_time(i)?;
-        let (i, not_after) = parse_time(i)?;
+        let (i, not_before) = parsed!(parse_time(i));
+        let (i, not_after) = parsed!(parse_time(i));
         let validity = Validity {
             not_before,
             not_after,

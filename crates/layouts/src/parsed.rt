@@ -1,7 +1,8 @@
 //! A `?` for parse calls.
 
 /// Expands to the rest and the value that a parse call returns, or returns its refusal. `?` does
-/// the same through `Try`, which takes twice as long to prove.
+/// the same through `Try`, and takes up to twice as long to prove.
+#[macro_export]
 macro_rules! parsed {
     ($call:expr) => {
         match $call {
@@ -10,5 +11,3 @@ macro_rules! parsed {
         }
     };
 }
-
-pub(crate) use parsed;
