@@ -3,7 +3,7 @@ ghost use Rattle.layouts.specs.Answers.{Gives};
 ghost use Rattle.layouts.specs.Items.{items_in};
 ghost use Rattle.dtls_stream.specs.Ack.{RecordNumber as Numbered, ack, record_number, view_record_number};
 
-use layouts::{ErrorKind, IResult, InPlace, Items, block, number2, number8, refused};
+use layouts::{ErrorKind, IResult, InPlace, Items, block, number2, number8, parsed, refused};
 
 /// The length of a record number in an ACK, in bytes.
 const RECORD_NUMBER_LEN: u16 = 16;
@@ -29,8 +29,8 @@ impl<'a> InPlace<'a> for RecordNumber {
     #[tactic(auto, using(layouts::proofs::OneAnswerLemmas::read_allowed), unfolding(crate::specs::Ack::record_number))]
     #[inline(always)]
     fn read(i: &'a [u8]) -> IResult<&'a [u8], Self> {
-        let (i, epoch) = number8(i)?;
-        let (i, sequence_number) = number8(i)?;
+        let (i, epoch) = parsed!(number8(i));
+        let (i, sequence_number) = parsed!(number8(i));
         let number = RecordNumber {
             epoch,
             sequence_number,
@@ -52,10 +52,10 @@ impl<'a> InPlace<'a> for RecordNumber {
 pub fn parse_dtls13_ack(i: &[u8]) -> IResult<&[u8], Items<RecordNumber>>
     ensures { Gives (λ v. items_in record_number v.bytes.now) ack i.now result }
 {
-    let (i, n) = number2(i)?;
+    let (i, n) = parsed!(number2(i));
     if n % RECORD_NUMBER_LEN != 0 {
         return refused(i, ErrorKind::LengthValue);
     }
-    let (i, window) = block(i, n as usize)?;
+    let (i, window) = parsed!(block(i, n as usize));
     Ok((i, Items::new(window)))
 }

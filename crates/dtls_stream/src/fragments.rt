@@ -7,7 +7,7 @@ ghost use Rattle.dtls_stream.specs.Messages.{view_message};
 ghost use Rattle.dtls_stream.specs.declared.fragments.FragmentError.TheVariants as fragment_error;
 
 use crate::event::Message;
-use layouts::{IResult, Item, Room, block, number2, number3};
+use layouts::{IResult, Item, Room, block, number2, number3, parsed};
 use segments::TcpReassembler;
 use std::alloc::{AllocError, Global};
 use std::marker::Model;
@@ -67,12 +67,12 @@ pub struct Fragment<'a> {
 pub fn parse_dtls_fragment(i: &[u8]) -> IResult<&[u8], Fragment>
     ensures { Gives view_fragment fragment_layout i.now result }
 {
-    let (i, msg_type) = TlsHandshakeType::parse(i)?;
-    let (i, length) = number3(i)?;
-    let (i, message_seq) = number2(i)?;
-    let (i, fragment_offset) = number3(i)?;
-    let (i, fragment_length) = number3(i)?;
-    let (i, body) = block(i, fragment_length as usize)?;
+    let (i, msg_type) = parsed!(TlsHandshakeType::parse(i));
+    let (i, length) = parsed!(number3(i));
+    let (i, message_seq) = parsed!(number2(i));
+    let (i, fragment_offset) = parsed!(number3(i));
+    let (i, fragment_length) = parsed!(number3(i));
+    let (i, body) = parsed!(block(i, fragment_length as usize));
     let fragment = Fragment {
         msg_type,
         length,

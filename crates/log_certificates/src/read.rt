@@ -317,8 +317,8 @@ fn extensions_of<'a>(outline: Outline<'a>) -> (Items<'a, Extensions>, Option<Err
     }
 }
 
-/// Returns a certificate whose fields are read one by one: a broken one doesn't hide the others. Its
-/// unique identifiers aren't read.
+/// Returns a certificate whose fields are read one by one: a broken one doesn't hide the others.
+/// Its unique identifiers aren't read.
 fn certificate_by_fields<'a>(outline: Outline<'a>) -> ReadCertificate<'a>
     ensures { view_read result ≡ fields_of (view_outline outline.entry) }
 {

@@ -4,7 +4,7 @@ ghost use Rattle.std.specs.Option.{option_map};
 ghost use Rattle.layouts.specs.Answers.{Gives};
 ghost use Rattle.tls_summary.specs.Encrypted.{ech_client_hello, encrypted_in as encrypted_by, view_encrypted};
 
-use layouts::{ErrorKind, IResult, counted2, number1, number2, refused};
+use layouts::{ErrorKind, IResult, counted2, number1, number2, parsed, refused};
 
 /// The encrypted_client_hello of a ClientHello in the clear, whose type is outer (RFC 9849, section
 /// 5). A client without the server's key sends one of random values (section 6.2).
@@ -32,15 +32,15 @@ pub struct EncryptedClientHello<'a> {
 fn parse_encrypted(i: &[u8]) -> IResult<&[u8], EncryptedClientHello>
     ensures { Gives view_encrypted ech_client_hello i.now result }
 {
-    let (i, kind) = number1(i)?;
+    let (i, kind) = parsed!(number1(i));
     if kind != 0 {
         return refused(i, ErrorKind::Switch);
     }
-    let (i, kdf) = number2(i)?;
-    let (i, aead) = number2(i)?;
-    let (i, config_id) = number1(i)?;
-    let (i, enc) = counted2(i)?;
-    let (i, payload) = counted2(i)?;
+    let (i, kdf) = parsed!(number2(i));
+    let (i, aead) = parsed!(number2(i));
+    let (i, config_id) = parsed!(number1(i));
+    let (i, enc) = parsed!(counted2(i));
+    let (i, payload) = parsed!(counted2(i));
     if payload.is_empty() {
         return refused(i, ErrorKind::LengthValue);
     }

@@ -5,7 +5,7 @@ ghost use Rattle.layouts.specs.Answers.{Gives, answer_of};
 ghost use Rattle.tls_key_exchange.specs.KeyExchange.{view_dh_params, view_ec_parameters};
 ghost use Rattle.tls_summary.specs.Exchange.{bits_behind as bits_behind_of, bits_of as bits_by, byte_bits as byte_bits_of, curve_by, hinted_parameters as hinted_layout, hinted_primes as hinted_primes_layout, named, prime_bits as prime_bits_in, prime_bits_by};
 
-use layouts::{IResult, counted2};
+use layouts::{IResult, counted2, parsed};
 use tls_base::{KeyExchange, NamedGroup, Public, TlsCipherSuiteID};
 use tls_key_exchange::{
     ECParameters, ECParametersContent, ServerDHParams, parse_dh_params, parse_ec_parameters,
@@ -16,7 +16,7 @@ use tls_key_exchange::{
 fn hinted_parameters(i: &[u8]) -> IResult<&[u8], ECParameters>
     ensures { Gives view_ec_parameters hinted_layout i.now result }
 {
-    let (i, _) = counted2(i)?;
+    let (i, _) = parsed!(counted2(i));
     parse_ec_parameters(i)
 }
 
@@ -102,7 +102,7 @@ fn bits_of(number: &[u8]) -> u32
 fn hinted_primes(i: &[u8]) -> IResult<&[u8], ServerDHParams>
     ensures { Gives view_dh_params hinted_primes_layout i.now result }
 {
-    let (i, _) = counted2(i)?;
+    let (i, _) = parsed!(counted2(i));
     parse_dh_params(i)
 }
 

@@ -12,7 +12,7 @@ ghost use Rattle.x509_text.specs.Exponent.{exponent_content, exponent_of, natura
 use crate::number::{is_negative, without_padding};
 use der::{Integer, tag, tagged};
 use itoa::Buffer;
-use layouts::{ErrorKind, IResult, InPlace, number1, refused};
+use layouts::{ErrorKind, IResult, InPlace, number1, parsed, refused};
 use std::alloc::{AllocError, Global};
 use x509::{SubjectPublicKeyInfo, oid};
 
@@ -30,8 +30,8 @@ impl<'a> InPlace<'a> for Natural {
 
     #[tactic(auto, using(layouts::proofs::OneAnswerLemmas::read_allowed), unfolding(crate::specs::Exponent::natural))]
     fn read(i: &'a [u8]) -> IResult<&'a [u8], &'a [u8]> {
-        let (_, _) = Integer::read(i)?;
-        let (_, first) = number1(i)?;
+        let (_, _) = parsed!(Integer::read(i));
+        let (_, first) = parsed!(number1(i));
         if first >= 128 {
             return refused(i, ErrorKind::Verify);
         }
@@ -53,7 +53,7 @@ impl<'a> InPlace<'a> for ExponentContent {
 
     #[tactic(auto, using(layouts::proofs::OneAnswerLemmas::read_allowed), unfolding(crate::specs::Exponent::exponent_content))]
     fn read(i: &'a [u8]) -> IResult<&'a [u8], &'a [u8]> {
-        let (i, _) = tagged::<Integer>(i, tag::INTEGER)?;
+        let (i, _) = parsed!(tagged::<Integer>(i, tag::INTEGER));
         tagged::<Natural>(i, tag::INTEGER)
     }
 }

@@ -12,7 +12,7 @@ ghost use Rattle.x509_text.specs.Signature.{has_weak_hash as has_weak_hash_of, i
 
 use crate::tables::{Algorithm, WEAK_HASHES, WEAK_SIGNATURES};
 use der::{Element, optional, tag};
-use layouts::{IResult, InPlace, rest};
+use layouts::{IResult, InPlace, parsed, rest};
 use x509::{AlgorithmIdentifier, oid, parse_algorithm_identifier};
 
 /// Whether a table has this content.
@@ -65,8 +65,8 @@ impl<'a> InPlace<'a> for Hash {
 fn read_pss_hash(i: &[u8]) -> IResult<&[u8], Option<AlgorithmIdentifier>>
     ensures { Gives (λ v. option_map view_algorithm v) pss_hash i.now result }
 {
-    let (i, hash) = optional::<Hash>(i, 0xa0)?;
-    let (i, _) = rest(i)?;
+    let (i, hash) = parsed!(optional::<Hash>(i, 0xa0));
+    let (i, _) = parsed!(rest(i));
     Ok((i, hash))
 }
 

@@ -11,7 +11,7 @@ ghost use Rattle.x509_text.specs.Value.{bmp_character, byte_text, converted_of, 
 
 use crate::hexadecimal::{add_dump, hex_digit};
 use der::{Element, tag};
-use layouts::{ErrorKind, IResult, InPlace, Items, number2, number4, refused};
+use layouts::{ErrorKind, IResult, InPlace, Items, number2, number4, parsed, refused};
 use std::alloc::{AllocError, Global};
 
 /// The tag of a NumericString (X.680, section 8.4).
@@ -90,7 +90,7 @@ impl<'a> InPlace<'a> for BmpCharacter {
 
     #[tactic(auto, using(layouts::proofs::OneAnswerLemmas::read_allowed), unfolding(crate::specs::Value::bmp_character))]
     fn read(i: &'a [u8]) -> IResult<&'a [u8], char> {
-        let (i, n) = number2(i)?;
+        let (i, n) = parsed!(number2(i));
         match char::from_u32(n as u32) {
             Some(c) => Ok((i, c)),
             None => refused(i, ErrorKind::Verify),
@@ -112,7 +112,7 @@ impl<'a> InPlace<'a> for UniversalCharacter {
 
     #[tactic(auto, using(layouts::proofs::OneAnswerLemmas::read_allowed), unfolding(crate::specs::Value::universal_character))]
     fn read(i: &'a [u8]) -> IResult<&'a [u8], char> {
-        let (i, n) = number4(i)?;
+        let (i, n) = parsed!(number4(i));
         match char::from_u32(n) {
             Some(c) => Ok((i, c)),
             None => refused(i, ErrorKind::Verify),
