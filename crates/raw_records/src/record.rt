@@ -100,11 +100,11 @@ pub fn parse_tls_raw_record(i: &[u8]) -> IResult<&[u8], TlsRawRecord>
     // The input begins with the record's bytes, and the rest follows them.
     ensures in_front { IfOk result (λ x. IsInFront (view_raw_record x.1) i.now x.0.now) }
 {
-    let (i, hdr) = parsed!(parse_tls_record_header(i));
+    let (i, hdr) = parse_tls_record_header(i)?;
     if hdr.len > MAX_RECORD_LEN {
         return refused(i, ErrorKind::TooLarge);
     }
-    let (i, bytes) = parsed!(block(i, hdr.len as usize));
+    let (i, bytes) = block(i, hdr.len as usize)?;
     Ok((i, TlsRawRecord { hdr, bytes }))
 }
 

@@ -10,7 +10,7 @@ ghost use Rattle.tls_hs.specs.Places.{LiesAsClientHello};
 use crate::hello_fields::{
     cipher_suites_in_place, compressions_in_place, extension_block, session_id,
 };
-use layouts::{IResult, Items, block, counted1, parsed};
+use layouts::{IResult, Items, block, counted1};
 use tls_base::{TlsCipherSuiteID, TlsCompressionID, TlsVersion};
 
 /// The body of a ClientHello (RFC 5246, section 7.4.1.2), as [`crate::TlsClientHelloContents`],
@@ -42,7 +42,7 @@ fn cookie_where(i: &[u8], has_cookie: bool) -> IResult<&[u8], Option<&[u8]>>
     if !has_cookie {
         return Ok((i, None));
     }
-    let (i, cookie) = parsed!(counted1(i));
+    let (i, cookie) = counted1(i)?;
     Ok((i, Some(cookie)))
 }
 
@@ -65,12 +65,12 @@ pub fn client_hello_fields(
     ensures lies { IfOk result
         (λ x. LiesAsClientHello i.now x.1.0 (option_map (λ c. c.now) x.1.1)) }
 {
-    let (i, version) = parsed!(TlsVersion::parse(i));
-    let (i, random) = parsed!(block(i, 32));
-    let (i, session_id) = parsed!(session_id(i));
-    let (i, cookie) = parsed!(cookie_where(i, has_cookie));
-    let (i, ciphers) = parsed!(cipher_suites_in_place(i));
-    let (i, comp) = parsed!(compressions_in_place(i));
+    let (i, version) = TlsVersion::parse(i)?;
+    let (i, random) = block(i, 32)?;
+    let (i, session_id) = session_id(i)?;
+    let (i, cookie) = cookie_where(i, has_cookie)?;
+    let (i, ciphers) = cipher_suites_in_place(i)?;
+    let (i, comp) = compressions_in_place(i)?;
     let (i, ext) = extension_block(i);
     let hello = ClientHelloView {
         version,
@@ -94,7 +94,7 @@ impl<'a> ClientHelloView<'a> {
     pub fn parse(i: &'a [u8]) -> IResult<&'a [u8], Self>
         ensures { Gives view_client_hello_in_place client_hello i.now result }
     {
-        let (i, (hello, _)) = parsed!(client_hello_fields(i, false));
+        let (i, (hello, _)) = client_hello_fields(i, false)?;
         Ok((i, hello))
     }
 }

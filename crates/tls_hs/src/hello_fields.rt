@@ -74,7 +74,7 @@ pub fn cipher_suites_in_place(i: &[u8]) -> IResult<&[u8], Items<TlsCipherSuiteID
     ensures gives { Gives (λ v. items_in (number 2) v.bytes.now) cipher_suites_layout i.now result }
     ensures leads { IfOk result (λ x. Leads 2 i.now x.1.bytes.now x.0.now) }
 {
-    let (after, k) = parsed!(number2(i));
+    let (after, k) = number2(i)?;
     let k = k as usize;
     if k % 2 != 0 || k > after.len() {
         return refused(i, ErrorKind::LengthValue);
@@ -91,7 +91,7 @@ pub fn compressions_in_place(i: &[u8]) -> IResult<&[u8], Items<TlsCompressionID>
     ensures gives { Gives (λ v. items_in (number 1) v.bytes.now) compression_methods i.now result }
     ensures leads { IfOk result (λ x. Leads 1 i.now x.1.bytes.now x.0.now) }
 {
-    let (after, k) = parsed!(number1(i));
+    let (after, k) = number1(i)?;
     let k = k as usize;
     if k > after.len() {
         return refused(i, ErrorKind::LengthValue);

@@ -102,7 +102,7 @@ where
     requires { F.pre fun i }
     ensures { (answer : _) × F.post fun i.entry answer × GivesSignature ext answer result }
 {
-    let (i, content) = parsed!(fun(i));
-    let (i, signature) = parsed!(either_signature(i, ext));
+    let (i, content) = fun(i)?;
+    let (i, signature) = either_signature(i, ext)?;
     Ok((i, (content, signature)))
 }

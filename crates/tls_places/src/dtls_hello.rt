@@ -8,7 +8,7 @@ ghost use Rattle.dtls_records.specs.DtlsInPlace.{view_client_hello_in_place};
 ghost use Rattle.tls_places.specs.DtlsHello.{DtlsClientHelloStands};
 
 use dtls_records::DTLSClientHelloView;
-use layouts::{IResult, Place, parsed};
+use layouts::{IResult, Place};
 use tls_hs::parts::{client_hello_fields, client_hello_places_in};
 
 /// An empty place.
@@ -43,7 +43,7 @@ pub fn dtls_client_hello_with_places(
     ensures gives { Gives (λ x. view_client_hello_in_place x.0) client_hello whole.now result }
     ensures places { IfOk result (λ x. DtlsClientHelloStands whole.now x.1.0 x.1.1) }
 {
-    let (rest, (hello, cookie)) = parsed!(client_hello_fields(whole, true));
+    let (rest, (hello, cookie)) = client_hello_fields(whole, true)?;
     let (places, cookie_place) = client_hello_places_in(whole, &hello, cookie);
     let places = DtlsClientHelloPlaces {
         random: places.random,

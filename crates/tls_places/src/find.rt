@@ -17,7 +17,7 @@ ghost use Rattle.tls_places.specs.Place.{IsWithin, Stands};
 
 use crate::frame::{Placed, frame_at};
 use crate::place::{bytes_at, outward, place_within};
-use layouts::{Counted1, Counted2, Err, Error, IResult, Items, Place, parsed};
+use layouts::{Counted1, Counted2, Err, Error, IResult, Items, Place};
 use tls_base::TlsExtensionType;
 use tls_ext::{RawExtension, ServerName};
 
@@ -63,7 +63,7 @@ fn server_names_placed(i: &[u8]) -> IResult<&[u8], (Items<ServerName>, Place)>
         };
         return Ok((i, (Items::new(i), nothing)));
     }
-    let (rest, (window, place)) = parsed!(frame_at::<Counted2>(i, i));
+    let (rest, (window, place)) = frame_at::<Counted2>(i, i)?;
     Ok((rest, (Items::new(window), place)))
 }
 
@@ -73,7 +73,7 @@ fn first_name_place(i: &[u8]) -> Result<Option<Place>, Err<Error<&[u8]>>>
         (picked first_name (reading content.server_names i.now)) result }
     ensures within { IsWithin i.now result }
 {
-    let (_, (names, outer)) = parsed!(server_names_placed(i));
+    let (_, (names, outer)) = server_names_placed(i)?;
     let mut walk: Placed<ServerName> = Placed::new(names.bytes());
     match walk.next() {
         Some((_, inner)) => Ok(Some(place_within(i, outer, inner))),
@@ -106,7 +106,7 @@ fn protocol_names_placed(i: &[u8]) -> IResult<&[u8], (Items<Counted1>, Place)>
         content.application_layer_protocol_negotiation i.now result }
     ensures stands { IfOk result (λ x. Stands i.now x.1.1 x.1.0.bytes.now) }
 {
-    let (rest, (window, place)) = parsed!(frame_at::<Counted2>(i, i));
+    let (rest, (window, place)) = frame_at::<Counted2>(i, i)?;
     Ok((rest, (Items::new(window), place)))
 }
 
@@ -125,6 +125,6 @@ pub fn protocol_names_place(block: &[u8]) -> Result<Option<Place>, Err<Error<&[u
     let Some(outer) = content_place(block, kind)? else {
         return Ok(None);
     };
-    let (_, (_, inner)) = parsed!(protocol_names_placed(bytes_at(block, outer)));
+    let (_, (_, inner)) = protocol_names_placed(bytes_at(block, outer))?;
     Ok(Some(place_within(block, outer, inner)))
 }

@@ -8,7 +8,7 @@ ghost use Rattle.tls_places.specs.Place.{IsEnd, Stands, YieldsPlaced};
 ghost use Rattle.tls_places.specs.Last.{StandsLast};
 
 use crate::place::place_before;
-use layouts::{IResult, InPlace, Items, Place, parsed};
+use layouts::{IResult, InPlace, Items, Place};
 use std::marker::PhantomData;
 
 /// An item that ends in a sequence of bytes: the content of an extension, the body of a message, a
@@ -37,7 +37,7 @@ pub fn frame_at<'a, T: ContentItem<'a>>(
         → IfOk result (λ x. Stands whole.now x.1.1 (T.content x.1.0)) }
     ensures ends { EndsWith whole.now i.now → IfOk result (λ x. EndsWith whole.now x.0.now) }
 {
-    let (rest, item) = parsed!(T::read(i));
+    let (rest, item) = T::read(i)?;
     let place = place_before(whole, T::content(&item), rest);
     Ok((rest, (item, place)))
 }

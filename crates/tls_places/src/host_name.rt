@@ -13,7 +13,7 @@ use crate::find::host_name_place;
 use crate::frame::{Placed, frame_at};
 use crate::place::{bytes_at, outward};
 use crate::record::Record;
-use layouts::{Err, Error, Place, parsed};
+use layouts::{Err, Error, Place};
 use tls_base::{TlsHandshakeType, TlsRecordType};
 use tls_hs::{ClientHelloView, RawHandshake};
 
@@ -53,7 +53,7 @@ pub fn host_name_place_of_hello(body: &[u8]) -> Result<Option<Place>, Err<Error<
         (name_in_hello (reading client_hello body.now)) result }
     ensures within { IsWithin body.now result }
 {
-    let (rest, (hello, places)) = parsed!(ClientHelloView::parse_with_places(body));
+    let (rest, (hello, places)) = ClientHelloView::parse_with_places(body)?;
     match places.ext {
         Some(outer) => outward(body, outer, host_name_place(bytes_at(body, outer))),
         None => Ok(None),
@@ -84,7 +84,7 @@ pub fn host_name_place_of_record(i: &[u8]) -> Result<Option<Place>, Err<Error<&[
     ensures finds { Returns (option_map (bytes_there i.now)) (host_name_of_record i.now) result }
     ensures within { IsWithin i.now result }
 {
-    let (_, (record, outer)) = parsed!(frame_at::<Record>(i, i));
+    let (_, (record, outer)) = frame_at::<Record>(i, i)?;
     if record.hdr.record_type != TlsRecordType::Handshake {
         return Ok(None);
     }

@@ -6,7 +6,7 @@ ghost use Rattle.tls_records.specs.Record as tls;
 ghost use Rattle.dtls_records.specs.DtlsRecord as dtls;
 
 use crate::frame::ContentItem;
-use layouts::{ErrorKind, IResult, InPlace, block, parsed, refused};
+use layouts::{ErrorKind, IResult, InPlace, block, refused};
 use tls_records::{
     DTLSRawHandshake, DTLSRawRecord, MAX_RECORD_LEN, TlsRawRecord, parse_dtls_record_header,
     parse_tls_raw_record,
@@ -61,11 +61,11 @@ impl<'a> InPlace<'a> for DtlsRecord {
     #[tactic(auto, using(layouts::proofs::OneAnswerLemmas::read_allowed), unfolding(raw_records::specs::RawDtlsRecord::raw_record))]
     #[inline(always)]
     fn read(i: &'a [u8]) -> IResult<&'a [u8], DTLSRawRecord<'a>> {
-        let (i, header) = parsed!(parse_dtls_record_header(i));
+        let (i, header) = parse_dtls_record_header(i)?;
         if header.length > MAX_RECORD_LEN {
             return refused(i, ErrorKind::TooLarge);
         }
-        let (i, fragment) = parsed!(block(i, header.length as usize));
+        let (i, fragment) = block(i, header.length as usize)?;
         Ok((i, DTLSRawRecord { header, fragment }))
     }
 }

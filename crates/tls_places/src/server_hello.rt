@@ -8,7 +8,7 @@ ghost use Rattle.tls_hs.specs.ServerHello.{server_hello_any as server_hello_of_a
 ghost use Rattle.tls_places.specs.Hello.{LiesAsServerHello, ServerHelloStands};
 
 use crate::place::{held_before, held_from};
-use layouts::{IResult, Place, parsed};
+use layouts::{IResult, Place};
 use tls_hs::parts::server_hello_any;
 use tls_hs::{TlsServerHelloContents, parse_tls_handshake_server_hello};
 
@@ -47,7 +47,7 @@ pub fn server_hello_with_places(
     ensures gives { Gives (λ x. view_server_hello x.0) server_hello i.now result }
     ensures places { IfOk result (λ x. ServerHelloStands i.now x.1.0 x.1.1) }
 {
-    let (rest, hello) = parsed!(parse_tls_handshake_server_hello(i));
+    let (rest, hello) = parse_tls_handshake_server_hello(i)?;
     let places = places_in(i, &hello, rest);
     Ok((rest, (hello, places)))
 }
@@ -60,7 +60,7 @@ pub fn dtls_server_hello_with_places(
     ensures gives { Gives (λ x. view_server_hello x.0) server_hello_of_any_version i.now result }
     ensures places { IfOk result (λ x. ServerHelloStands i.now x.1.0 x.1.1) }
 {
-    let (rest, hello) = parsed!(server_hello_any(i));
+    let (rest, hello) = server_hello_any(i)?;
     let places = places_in(i, &hello, rest);
     Ok((rest, (hello, places)))
 }

@@ -14,7 +14,7 @@ use crate::part::{Part, tagged_at};
 use crate::place::place_before;
 use crate::value::{BitStringAt, ObjectIdentifierAt};
 use der::{Element, tag};
-use layouts::{IResult, InPlace, Place, parsed};
+use layouts::{IResult, InPlace, Place};
 use x509::{AlgorithmIdentifier, SubjectPublicKeyInfo};
 
 /// The places of an AlgorithmIdentifier's parts.
@@ -41,7 +41,7 @@ fn optional_element_at<'a>(
     if i.is_empty() {
         return Ok((i, (None, None)));
     }
-    let (rest, x) = parsed!(Element::read(i));
+    let (rest, x) = Element::read(i)?;
     let place = place_before(whole, behind, x.content, rest);
     Ok((rest, (Some(x), Some(place))))
 }
@@ -62,15 +62,13 @@ impl<'a> Part<'a> for AlgorithmContentAt {
 
     #[tactic(auto, using(layouts::proofs::OneAnswerLemmas::read_allowed), unfolding(x509::specs::Certificate::algorithm_content, der::specs::ObjectIdentifier::object_identifier))]
     fn read_at(whole: &[u8], behind: usize, i: &'a [u8]) -> IResult<&'a [u8], Self::Read> {
-        let (after, (algorithm, place)) = parsed!(tagged_at::<ObjectIdentifierAt>(
+        let (after, (algorithm, place)) = tagged_at::<ObjectIdentifierAt>(
             whole,
             behind,
             i,
-            tag::OBJECT_IDENTIFIER
-        ));
-        let (rest, (parameters, parameters_place)) = parsed!(optional_element_at(
-            whole, behind, after
-        ));
+            tag::OBJECT_IDENTIFIER,
+        )?;
+        let (rest, (parameters, parameters_place)) = optional_element_at(whole, behind, after)?;
         let identifier = AlgorithmIdentifier {
             algorithm,
             parameters,
@@ -122,13 +120,13 @@ impl<'a> Part<'a> for KeyContentAt {
 
     #[tactic(auto, using(layouts::proofs::OneAnswerLemmas::read_allowed), unfolding(x509::specs::Certificate::key_info_content))]
     fn read_at(whole: &[u8], behind: usize, i: &'a [u8]) -> IResult<&'a [u8], Self::Read> {
-        let (after, (algorithm, places)) = parsed!(algorithm_at(whole, behind, i));
-        let (rest, (subject_public_key, key)) = parsed!(tagged_at::<BitStringAt>(
+        let (after, (algorithm, places)) = algorithm_at(whole, behind, i)?;
+        let (rest, (subject_public_key, key)) = tagged_at::<BitStringAt>(
             whole,
             behind,
             after,
-            tag::BIT_STRING
-        ));
+            tag::BIT_STRING,
+        )?;
         let info = SubjectPublicKeyInfo {
             algorithm,
             subject_public_key,

@@ -12,7 +12,7 @@ use crate::place::taken;
 use crate::tbs::{TBSCertificateAt, TBSPlaces};
 use crate::value::BitStringAt;
 use der::tag;
-use layouts::{IResult, Place, parsed, rest as rest_of};
+use layouts::{IResult, Place, rest as rest_of};
 use x509::Certificate;
 
 /// The places of a certificate's fields.
@@ -44,23 +44,23 @@ impl<'a> Part<'a> for CertificateContentAt {
 
     #[tactic(auto, using(layouts::proofs::OneAnswerLemmas::read_allowed), unfolding(x509::specs::Certificate::certificate_content))]
     fn read_at(whole: &[u8], behind: usize, i: &'a [u8]) -> IResult<&'a [u8], Self::Read> {
-        let (_, bytes) = parsed!(rest_of(i));
-        let (after, (tbs_certificate, tbs_places)) = parsed!(tagged_at::<TBSCertificateAt>(
+        let (_, bytes) = rest_of(i)?;
+        let (after, (tbs_certificate, tbs_places)) = tagged_at::<TBSCertificateAt>(
             whole,
             behind,
             i,
-            tag::SEQUENCE
-        ));
+            tag::SEQUENCE,
+        )?;
         let signed = taken(whole, behind, bytes, after);
-        let (after_algorithm, (signature_algorithm, algorithm_places)) = parsed!(algorithm_at(
-            whole, behind, after
-        ));
-        let (rest, (signature_value, signature_place)) = parsed!(tagged_at::<BitStringAt>(
+        let (after_algorithm, (signature_algorithm, algorithm_places)) = algorithm_at(
+            whole, behind, after,
+        )?;
+        let (rest, (signature_value, signature_place)) = tagged_at::<BitStringAt>(
             whole,
             behind,
             after_algorithm,
-            tag::BIT_STRING
-        ));
+            tag::BIT_STRING,
+        )?;
         let certificate = Certificate {
             signed_bytes: signed.0,
             tbs_certificate,

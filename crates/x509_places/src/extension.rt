@@ -10,7 +10,7 @@ ghost use Rattle.x509_places.specs.Walk.{ExtensionStands};
 use crate::part::{Part, tagged_at};
 use crate::value::{AllBytesAt, ObjectIdentifierAt};
 use der::{default_false, tag};
-use layouts::{IResult, Place, parsed};
+use layouts::{IResult, Place};
 use x509::Extension;
 
 /// The places of an extension's parts.
@@ -38,19 +38,19 @@ impl<'a> Part<'a> for ExtensionContentAt {
 
     #[tactic(auto, using(layouts::proofs::OneAnswerLemmas::read_allowed), unfolding(x509::specs::Certificate::extension_content, der::specs::ObjectIdentifier::object_identifier))]
     fn read_at(whole: &[u8], behind: usize, i: &'a [u8]) -> IResult<&'a [u8], Self::Read> {
-        let (after_id, (extn_id, id_place)) = parsed!(tagged_at::<ObjectIdentifierAt>(
+        let (after_id, (extn_id, id_place)) = tagged_at::<ObjectIdentifierAt>(
             whole,
             behind,
             i,
-            tag::OBJECT_IDENTIFIER
-        ));
-        let (after_critical, critical) = parsed!(default_false(after_id));
-        let (rest, (extn_value, value_place)) = parsed!(tagged_at::<AllBytesAt>(
+            tag::OBJECT_IDENTIFIER,
+        )?;
+        let (after_critical, critical) = default_false(after_id)?;
+        let (rest, (extn_value, value_place)) = tagged_at::<AllBytesAt>(
             whole,
             behind,
             after_critical,
-            tag::OCTET_STRING
-        ));
+            tag::OCTET_STRING,
+        )?;
         let extension = Extension {
             extn_id,
             critical,

@@ -13,7 +13,7 @@ use crate::part::tagged_at;
 use crate::place::place_before;
 use crate::value::ItemsAt;
 use der::tag;
-use layouts::{IResult, InPlace, Items, Place, parsed};
+use layouts::{IResult, InPlace, Items, Place};
 use x509::{GeneralName, GeneralNames};
 
 /// The content of a name's element.
@@ -42,7 +42,7 @@ pub fn general_name_with_place<'a>(
     ensures places { EndsWith whole.now i.now
         → IfOk result (λ x. Stands whole.now x.1.1 (name_content x.1.0)) }
 {
-    let (rest, x) = parsed!(GeneralNames::read(i));
+    let (rest, x) = GeneralNames::read(i)?;
     let content = content_of(&x);
     let place = place_before(whole, 0, content, rest);
     Ok((rest, (x, place)))

@@ -8,7 +8,7 @@ ghost use Rattle.x509.specs.Name.{name, relative_distinguished_name};
 ghost use Rattle.x509_places.specs.Place.{IsBefore, NameStands};
 
 use crate::place::taken;
-use layouts::{IResult, Place, parsed};
+use layouts::{IResult, Place};
 use x509::{Name, parse_name};
 
 /// Parses a Name, with its place including its tag and its length.
@@ -23,7 +23,7 @@ pub(crate) fn name_at<'a>(
         → IfOk result
         (λ x. NameStands whole.now x.1.1 (items_in relative_distinguished_name x.1.0.bytes.now)) }
 {
-    let (rest, x) = parsed!(parse_name(i));
+    let (rest, x) = parse_name(i)?;
     let element = taken(whole, behind, i, rest);
     Ok((rest, (x, element.1)))
 }

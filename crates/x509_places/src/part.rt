@@ -11,7 +11,7 @@ ghost use Rattle.x509_places.specs.Place.{IsBefore};
 
 use crate::place::behind_part;
 use der::der_length;
-use layouts::{Err, ErrorKind, IResult, block, number1, parsed, refused};
+use layouts::{Err, ErrorKind, IResult, block, number1, refused};
 
 /// How a part is parsed with the places of its fields.
 pub(crate) trait Part<'a> {
@@ -40,7 +40,7 @@ fn whole_at<'a, T: Part<'a>>(whole: &[u8], behind: usize, i: &'a [u8]) -> IResul
     ensures gives { Gives T.view (whole_layout T.layout) i.now result }
     ensures places { IsBefore whole.now behind i.now → IfOk result (λ x. T.stands whole.now x.1) }
 {
-    let (i, x) = parsed!(T::read_at(whole, behind, i));
+    let (i, x) = T::read_at(whole, behind, i)?;
     if !i.is_empty() {
         return refused(i, ErrorKind::LengthValue);
     }
@@ -74,14 +74,14 @@ pub(crate) fn tagged_at<'a, T: Part<'a>>(
     ensures gives { Gives T.view (tagged tag T.layout) i.now result }
     ensures places { IsBefore whole.now behind i.now → IfOk result (λ x. T.stands whole.now x.1) }
 {
-    let (after_tag, t) = parsed!(number1(i));
+    let (after_tag, t) = number1(i)?;
     if t != tag {
         return refused(after_tag, ErrorKind::Tag);
     }
-    let (after_length, n) = parsed!(der_length(after_tag));
-    let (rest, content) = parsed!(block(after_length, n));
+    let (after_length, n) = der_length(after_tag)?;
+    let (rest, content) = block(after_length, n)?;
     let inside = behind_part(whole, behind, rest);
-    let (_, x) = parsed!(content_at::<T>(whole, inside, content));
+    let (_, x) = content_at::<T>(whole, inside, content)?;
     Ok((rest, x))
 }
 
@@ -101,9 +101,9 @@ pub(crate) fn optional_at<'a, T: Part<'a>>(
     if i.is_empty() {
         return Ok((i, None));
     }
-    let (_, t) = parsed!(number1(i));
+    let (_, t) = number1(i)?;
     if t == tag {
-        let (i, x) = parsed!(tagged_at::<T>(whole, behind, i, tag));
+        let (i, x) = tagged_at::<T>(whole, behind, i, tag)?;
         return Ok((i, Some(x)));
     }
     Ok((i, None))

@@ -17,7 +17,7 @@ use crate::name::name_at;
 use crate::part::{Part, optional_at, tagged_at};
 use crate::value::{IntegerAt, ItemsAt};
 use der::{BitString, optional, tag, tagged};
-use layouts::{ErrorKind, IResult, InPlace, Items, Place, number1, parsed, refused};
+use layouts::{ErrorKind, IResult, InPlace, Items, Place, number1, refused};
 use x509::{
     AlgorithmIdentifier, Extensions, Name, SubjectPublicKeyInfo, TBSCertificate, Validity,
     parse_time,
@@ -37,7 +37,7 @@ impl<'a> InPlace<'a> for VersionContent {
 
     #[tactic(auto, using(layouts::proofs::OneAnswerLemmas::read_allowed), unfolding(x509::specs::Certificate::version_content))]
     fn read(i: &'a [u8]) -> IResult<&'a [u8], u8> {
-        let (i, n) = parsed!(number1(i));
+        let (i, n) = number1(i)?;
         if n >= 128 {
             return refused(i, ErrorKind::Verify);
         }
@@ -94,14 +94,14 @@ fn first_fields_at<'a>(
     ensures places { IsBefore whole.now behind i.now
         → IfOk result (λ x. Stands whole.now x.1.serial_place x.1.serial_number.now) }
 {
-    let (after_version, version) = parsed!(optional::<Version>(i, 0xa0));
-    let (after_serial, (serial_number, serial_place)) = parsed!(tagged_at::<IntegerAt>(
+    let (after_version, version) = optional::<Version>(i, 0xa0)?;
+    let (after_serial, (serial_number, serial_place)) = tagged_at::<IntegerAt>(
         whole,
         behind,
         after_version,
-        tag::INTEGER
-    ));
-    let (rest, (signature, _)) = parsed!(algorithm_at(whole, behind, after_serial));
+        tag::INTEGER,
+    )?;
+    let (rest, (signature, _)) = algorithm_at(whole, behind, after_serial)?;
     let fields = FirstFields {
         version: version_or_v1(version),
         serial_number,
@@ -127,8 +127,8 @@ impl<'a> InPlace<'a> for ValidityContent {
 
     #[tactic(auto, using(layouts::proofs::OneAnswerLemmas::read_allowed), unfolding(x509::specs::Certificate::validity_content))]
     fn read(i: &'a [u8]) -> IResult<&'a [u8], Validity> {
-        let (i, not_before) = parsed!(parse_time(i));
-        let (i, not_after) = parsed!(parse_time(i));
+        let (i, not_before) = parse_time(i)?;
+        let (i, not_after) = parse_time(i)?;
         let validity = Validity {
             not_before,
             not_after,
@@ -163,10 +163,10 @@ fn name_fields_at<'a>(whole: &[u8], behind: usize, i: &'a [u8]) -> IResult<&'a [
     ensures gives { Gives view_names name_fields i.now result }
     ensures places { IsBefore whole.now behind i.now → IfOk result (λ x. NamesStand whole.now x.1) }
 {
-    let (after_issuer, (issuer, issuer_place)) = parsed!(name_at(whole, behind, i));
-    let (after_validity, validity) = parsed!(read_validity(after_issuer));
-    let (after_subject, (subject, subject_place)) = parsed!(name_at(whole, behind, after_validity));
-    let (rest, (key, key_places)) = parsed!(key_at(whole, behind, after_subject));
+    let (after_issuer, (issuer, issuer_place)) = name_at(whole, behind, i)?;
+    let (after_validity, validity) = read_validity(after_issuer)?;
+    let (after_subject, (subject, subject_place)) = name_at(whole, behind, after_validity)?;
+    let (rest, (key, key_places)) = key_at(whole, behind, after_subject)?;
     let fields = NameFields {
         issuer,
         validity,
@@ -239,9 +239,9 @@ fn optional_fields_at<'a>(
     ensures places { IsBefore whole.now behind i.now
         → IfOk result (λ x. Stands whole.now x.1.extensions_place x.1.extensions.bytes.now) }
 {
-    let (after_issuer, issuer_unique_id) = parsed!(optional::<BitString>(i, 0x81));
-    let (after_subject, subject_unique_id) = parsed!(optional::<BitString>(after_issuer, 0x82));
-    let (rest, list) = parsed!(optional_at::<ExtensionListAt>(whole, behind, after_subject, 0xa3));
+    let (after_issuer, issuer_unique_id) = optional::<BitString>(i, 0x81)?;
+    let (after_subject, subject_unique_id) = optional::<BitString>(after_issuer, 0x82)?;
+    let (rest, list) = optional_at::<ExtensionListAt>(whole, behind, after_subject, 0xa3)?;
     let found = held_or_none(list);
     let fields = OptionalFields {
         issuer_unique_id,
@@ -284,9 +284,9 @@ impl<'a> Part<'a> for TBSCertificateAt {
 
     #[tactic(auto, using(layouts::proofs::OneAnswerLemmas::read_allowed), unfolding(x509::specs::Certificate::tbs_certificate))]
     fn read_at(whole: &[u8], behind: usize, i: &'a [u8]) -> IResult<&'a [u8], Self::Read> {
-        let (after_first, first) = parsed!(first_fields_at(whole, behind, i));
-        let (after_names, names) = parsed!(name_fields_at(whole, behind, after_first));
-        let (rest, others) = parsed!(optional_fields_at(whole, behind, after_names));
+        let (after_first, first) = first_fields_at(whole, behind, i)?;
+        let (after_names, names) = name_fields_at(whole, behind, after_first)?;
+        let (rest, others) = optional_fields_at(whole, behind, after_names)?;
         let certificate = TBSCertificate {
             version: first.version,
             serial_number: first.serial_number,

@@ -13,7 +13,7 @@ ghost use Rattle.x509_places.specs.Place.{Stands};
 use crate::part::Part;
 use crate::place::place_before;
 use der::{BitString, Integer, ObjectIdentifier};
-use layouts::{IResult, InPlace, Items, Place, parsed, rest};
+use layouts::{IResult, InPlace, Items, Place, rest};
 use std::marker::PhantomData;
 
 /// The content of an OBJECT IDENTIFIER.
@@ -31,7 +31,7 @@ impl<'a> Part<'a> for ObjectIdentifierAt {
     ghost stands = { λ b x. Stands b x.1 x.0.content.now };
 
     fn read_at(whole: &[u8], behind: usize, i: &'a [u8]) -> IResult<&'a [u8], Self::Read> {
-        let (rest, x) = parsed!(ObjectIdentifier::read(i));
+        let (rest, x) = ObjectIdentifier::read(i)?;
         let place = place_before(whole, behind, x.content, rest);
         Ok((rest, (x, place)))
     }
@@ -52,7 +52,7 @@ impl<'a> Part<'a> for IntegerAt {
     ghost stands = { λ b x. Stands b x.1 x.0.now };
 
     fn read_at(whole: &[u8], behind: usize, i: &'a [u8]) -> IResult<&'a [u8], Self::Read> {
-        let (rest, x) = parsed!(Integer::read(i));
+        let (rest, x) = Integer::read(i)?;
         let place = place_before(whole, behind, x, rest);
         Ok((rest, (x, place)))
     }
@@ -73,7 +73,7 @@ impl<'a> Part<'a> for BitStringAt {
     ghost stands = { λ b x. Stands b x.1 x.0.bytes.now };
 
     fn read_at(whole: &[u8], behind: usize, i: &'a [u8]) -> IResult<&'a [u8], Self::Read> {
-        let (rest, x) = parsed!(BitString::read(i));
+        let (rest, x) = BitString::read(i)?;
         let place = place_before(whole, behind, x.bytes, rest);
         Ok((rest, (x, place)))
     }
@@ -94,7 +94,7 @@ impl<'a> Part<'a> for AllBytesAt {
     ghost stands = { λ b x. Stands b x.1 x.0.now };
 
     fn read_at(whole: &[u8], behind: usize, i: &'a [u8]) -> IResult<&'a [u8], Self::Read> {
-        let (after, x) = parsed!(rest(i));
+        let (after, x) = rest(i)?;
         let place = place_before(whole, behind, x, after);
         Ok((after, (x, place)))
     }
@@ -117,7 +117,7 @@ impl<'a, T: InPlace<'a>> Part<'a> for ItemsAt<'a, T> {
     #[tactic(auto, using(layouts::proofs::OneAnswerLemmas::read_allowed), unfolding(der::specs::Element::items_of))]
     fn read_at(whole: &[u8], behind: usize, i: &'a [u8]) -> IResult<&'a [u8], Self::Read> {
         let items = Items::new(i);
-        let (after, _) = parsed!(rest(i));
+        let (after, _) = rest(i)?;
         let place = place_before(whole, behind, i, after);
         Ok((after, (items, place)))
     }
