@@ -10,7 +10,7 @@ ghost use Rattle.tls_hs.specs.Places.{BeginsAt, HelloStands, HelloStandsWithin, 
 
 use crate::client_hello_view::{ClientHelloView, client_hello_fields};
 use crate::hello_fields::held_bytes;
-use layouts::{IResult, Place, parsed};
+use layouts::{IResult, Place};
 
 /// The positions of the parts of a ClientHello within its body.
 #[derive(Clone, Copy, Debug, PartialEq)]
@@ -99,7 +99,7 @@ impl<'a> ClientHelloView<'a> {
         ensures places { IfOk result (λ x. HelloStands i.now x.1.0 x.1.1) }
         ensures within { IfOk result (λ x. HelloStandsWithin i.now x.1.0 x.1.1) }
     {
-        let (rest, (hello, cookie)) = parsed!(client_hello_fields(i, false));
+        let (rest, (hello, cookie)) = client_hello_fields(i, false)?;
         let (places, _) = client_hello_places_in(i, &hello, cookie);
         Ok((rest, (hello, places)))
     }
