@@ -19,6 +19,8 @@ from tests.support.packets import (
 )
 
 ACK, URG = 16, 32
+# DTLS: the length of a record's header, the type of handshake records, and all types.
+RECORD_HEADER, HANDSHAKE, RECORD_TYPES = 13, 22, (20, 21, 22, 23, 24, 26)
 TCP, TCP_HEADER = 6, 20
 ALL = 2**32
 QUARTER = 2**30
@@ -54,6 +56,7 @@ class Packet:
         self.front, self.is_v6 = frame[:begin], frame[LINK_HEADER] >> 4 == 6
         header = begin + (UDP_HEADER if self.is_udp else 4 * (frame[begin + 12] >> 4))
         self.transport, self.size = frame[begin:header], end - header
+        self.payload = frame[header:end] if self.is_udp else b""
         self.ports = frame[begin : begin + 4]
         addresses = (
             self.front[LINK_HEADER + 8 :]
@@ -132,6 +135,8 @@ class End:
     as they show."""
 
     packet: Packet = None  # Its last one, whose headers a forged one has.
+    # The numbers of its DTLS records in the clear, behind the first ClientHello.
+    numbers: tuple[int, ...] = ()
     first: int = None  # The number after its SYN.
     next: int = None  # The number after all that it sent, or that the other end acknowledged.
     reached: int = None  # The number after all that it sent in a row.
@@ -234,6 +239,24 @@ def expecting(end: End, other: End) -> End:
     return replace(end, acknowledged=other.first, edge=(other.first + end.edge) % ALL)
 
 
+def clear_records(datagram: bytes) -> Iterator[tuple[int, bytes]]:
+    """The number of each DTLS record of epoch 0 at the front of a datagram, and its content if it is
+    of the handshake (RFC 6347, section 4.1)."""
+    while len(datagram) >= RECORD_HEADER and datagram[0] in RECORD_TYPES and datagram[1] == 0xFE:
+        end = RECORD_HEADER + int.from_bytes(datagram[11:13], "big")
+        if end > len(datagram):
+            return
+        if not any(datagram[3:5]):
+            content = datagram[RECORD_HEADER:end] if datagram[0] == HANDSHAKE else b""
+            yield int.from_bytes(datagram[5:11], "big"), content
+        datagram = datagram[end:]
+
+
+def is_whole_hello(content: bytes) -> bool:
+    """Whether a record's content begins with a ClientHello in one fragment (section 4.2.2)."""
+    return content[:1] == b"\1" and content[1:4] == content[9:12]
+
+
 class Connection:
     """What was captured between two ends, up to a place. It is over where both said their last, or
     one broke it off."""
@@ -241,7 +264,7 @@ class Connection:
     def __init__(self, packet: Packet, is_first: bool) -> None:
         self.ends = {packet.source: End(), packet.destination: End()}
         self.is_first, self.is_over = is_first, False
-        self.time = packet.time
+        self.time, self.has_hello = packet.time, False
 
     def begins_anew(self, packet: Packet) -> bool:
         return (
@@ -255,12 +278,25 @@ class Connection:
         end, other = self.ends[packet.source], self.ends[packet.destination]
         if packet.is_udp:
             self.ends[packet.source] = replace(end, **checksums(end, packet))
+            if packet.sums != WRONG:
+                self.note_records(packet)
             return
         self.ends[packet.source] = sent(end, other, packet)
         self.ends[packet.destination] = heard(other, packet)
         self.is_over |= bool(packet.flags & RST) or all(
             end.fin is not None for end in self.ends.values()
         )
+
+    def note_records(self, packet: Packet) -> None:
+        """Notes the numbers of records in the clear. They begin with the first ClientHello, and again
+        with one of message 0 in a record of number 0."""
+        for number, content in clear_records(packet.payload):
+            if is_whole_hello(content) and not (self.has_hello and (number or any(content[4:6]))):
+                self.has_hello = True
+                self.ends = {source: replace(end, numbers=()) for source, end in self.ends.items()}
+            if self.has_hello:
+                end = self.ends[packet.source]
+                self.ends[packet.source] = replace(end, numbers=(*end.numbers, number))
 
     def note_sent(self, source: tuple[bytes, bytes], numbers: Iterable[int]) -> None:
         for number in numbers:
@@ -505,7 +541,8 @@ KINDS = {
     )
 }
 # Of UDP.
-UDP_KINDS = ("udp_checksum", "udp_checksum_none", "udp_header_checksum")
+REPEATED = "udp_repeated_record"
+UDP_KINDS = ("udp_checksum", "udp_checksum_none", "udp_header_checksum", REPEATED)
 
 
 def fitting(sender: End, receiver: End, is_opening: bool) -> tuple[str, ...]:
@@ -516,6 +553,7 @@ def fitting(sender: End, receiver: End, is_opening: bool) -> tuple[str, ...]:
             "udp_checksum_none": sender.has_right_sums and sender.packet.is_v6,
         }
         wrong["udp_header_checksum"] = sender.has_right_headers and not sender.packet.is_v6
+        wrong[REPEATED] = bool(sender.numbers)
         return tuple(kind for kind, fits in wrong.items() if fits)
     left_out = {
         "checksum": not sender.has_right_sums,
@@ -583,6 +621,16 @@ UDP_PAYLOADS = (
 )
 
 
+def repeated(chance: random.Random, sender: End) -> bytes:
+    """A DTLS record with a number that its sender already used: a hello that isn't the first message,
+    an alert or a ChangeCipherSpec."""
+    made = bytearray(chance.choice((*UDP_PAYLOADS[2:], b"\x14\xfe\xfd" + bytes(8) + b"\0\1\1")))
+    made[5:11] = chance.choice(sender.numbers).to_bytes(6, "big")
+    if made[0] == HANDSHAKE:
+        made[17:19] = chance.randrange(1, 4).to_bytes(2, "big")
+    return bytes(made)
+
+
 def front_of(sender: End, identifier: int, length: int, is_right: bool) -> bytes:
     """The headers of the link and of IP before this many bytes."""
     front, ip = sender.packet.front, LINK_HEADER
@@ -628,7 +676,7 @@ def segment(draft: Draft) -> bytes:
 
 def datagram(chance: random.Random, sender: End, kind: str) -> bytes:
     """The frame of a datagram of UDP."""
-    payload = chance.choice(UDP_PAYLOADS)
+    payload = repeated(chance, sender) if kind == REPEATED else chance.choice(UDP_PAYLOADS)
     length = UDP_HEADER + len(payload)
     head, pseudo = (
         sender.packet.ports + length.to_bytes(2, "big"),

@@ -1,5 +1,5 @@
 -- A flow that goes on from a state.
-use Rattle.std.proofs.Common.{◌≡◌, Bool, true, false, refl, ap}
+use Rattle.std.proofs.Common.{◌≡◌, Bool, true, false, refl}
 use Rattle.tls_flow.specs.Steps.{follow, silence}
 use Rattle.tls_flow.specs.Table.{is_waiting, outcome_at}
 use Rattle.tls_flow.specs.declared.event.FlowEvent.{FlowEvent}

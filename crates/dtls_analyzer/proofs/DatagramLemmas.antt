@@ -9,6 +9,8 @@ use Rattle.tls_flow.specs.declared.flow.Flow.{Flow}
 use Rattle.tls_flow.specs.declared.symbol.Direction.{Direction as Side}
 use Rattle.tls_flow.specs.declared.symbol.Direction.TheVariants.{ToServer, FromServer}
 use Rattle.tls_summary.specs.HandshakeSummary.{HandshakeSummary, view_summary}
+use Rattle.replay_window.specs.Replay.{RecordNumber, Remembers}
+use Rattle.replay_window.specs.declared.window.ReplayWindow.{ReplayWindow}
 use Rattle.dtls_analyzer.specs.Datagrams.{
   IsKnown,
   IsSameSide,
@@ -26,6 +28,7 @@ use Rattle.dtls_analyzer.specs.Datagrams.{
   observed_of,
   observed_by,
   with_side_progress,
+  with_numbers,
 }
 use Rattle.dtls_analyzer.specs.declared.account.Account.{Account}
 use Rattle.dtls_analyzer.specs.declared.datagram_side.DatagramSide.{DatagramSide}
@@ -80,6 +83,7 @@ client_reads k t b q r receives same is =
     record {
       client = record {
         stands = (receives k.client.received is.client.stands).stands;
+        window = subst (Remembers k.client.came) (sym same.2) is.client.window;
         is_begun = same.0 ∙ is.client.is_begun;
         lacks_front = same.1 ∙ is.client.lacks_front;
         has_changed = ap (λ (x : Observed). x.has_changed) emitted;
@@ -103,6 +107,7 @@ server_reads k t b q r receives same is =
       client = is.client;
       server = record {
         stands = (receives k.server.received is.server.stands).stands;
+        window = subst (Remembers k.server.came) (sym same.2) is.server.window;
         is_begun = same.0 ∙ is.server.is_begun;
         lacks_front = same.1 ∙ is.server.lacks_front;
         has_changed = ap (λ (x : Observed). x.has_changed) emitted;
@@ -193,6 +198,56 @@ server_begins k t s f q at begins is =
     (record {
       client = is.client;
       server = subst (λ s. IsSideProgress (begun s f k.server) q) at (begins k.server is.server);
+      flow = is.flow;
+      handshake = is.handshake;
+      history = is.history;
+      is_dtls = is.is_dtls;
+      longest = is.longest;
+    })
+
+pub client_numbers : (k : Analyzer) (t : DatagramAnalyzer) (s : Side) (came : List RecordNumber)
+    (w : ReplayWindow)
+    → s ≡ ToServer
+    → Remembers came w → IsKnown k t
+    → IsKnown (with_numbers k s came) (record t { client = record t.client { window = w } })
+client_numbers k t s came w at remembers is =
+    subst (λ s. IsKnown (with_numbers k s came) (record t { client = record t.client { window = w } }))
+    (sym at)
+    (record {
+      client = record {
+        stands = is.client.stands;
+        window = remembers;
+        is_begun = is.client.is_begun;
+        lacks_front = is.client.lacks_front;
+        has_changed = is.client.has_changed;
+        is_encrypted = is.client.is_encrypted;
+      };
+      server = is.server;
+      flow = is.flow;
+      handshake = is.handshake;
+      history = is.history;
+      is_dtls = is.is_dtls;
+      longest = is.longest;
+    })
+
+pub server_numbers : (k : Analyzer) (t : DatagramAnalyzer) (s : Side) (came : List RecordNumber)
+    (w : ReplayWindow)
+    → s ≡ FromServer
+    → Remembers came w → IsKnown k t
+    → IsKnown (with_numbers k s came) (record t { server = record t.server { window = w } })
+server_numbers k t s came w at remembers is =
+    subst (λ s. IsKnown (with_numbers k s came) (record t { server = record t.server { window = w } }))
+    (sym at)
+    (record {
+      client = is.client;
+      server = record {
+        stands = is.server.stands;
+        window = remembers;
+        is_begun = is.server.is_begun;
+        lacks_front = is.server.lacks_front;
+        has_changed = is.server.has_changed;
+        is_encrypted = is.server.is_encrypted;
+      };
       flow = is.flow;
       handshake = is.handshake;
       history = is.history;

@@ -1,5 +1,5 @@
 -- The state of a datagram analyzer, record by record of a datagram.
-use Rattle.std.proofs.Common.{◌≡◌, ℕ, zero, suc, Bool, true, false, Ok, Err, length, refl, sym, ◌∙◌, ap, subst}
+use Rattle.std.proofs.Common.{◌≡◌, ℕ, suc, true, false, Ok, Err, length, refl, sym, ◌∙◌, ap, subst}
 use Rattle.layouts.specs.Bytes.{Bytes}
 use Rattle.layouts.specs.Meaning.{Refusal}
 use Rattle.layouts.specs.Reading.{reading}

@@ -27,6 +27,7 @@ use Rattle.tls_observer.specs.Ends.{has_finished, is_13}
 use Rattle.tls_stream.specs.Events.{default_limit}
 use Rattle.tls_summary.specs.Fields.{client_session_id, connection_id_length, offers_ticket, server_session_id}
 use Rattle.dtls_analyzer.specs.DatagramRecords.{is_known}
+use Rattle.replay_window.specs.Replay.{RecordNumber, Remembers, is_new}
 use Rattle.tls_observer.specs.History.{letter_in_datagram, with_letter}
 use Rattle.dtls_analyzer.specs.declared.account.Account.{Account}
 use Rattle.dtls_analyzer.specs.declared.account.Progress.{Progress}
@@ -159,9 +160,11 @@ observed_all s t (e ∷ es) = observed_all s (observed s t e) es
 abbrev pub allowed : Limits
 allowed = record { message = default_limit; ahead = 16 }
 
--- The state of one side: its reassembly, and how far it has come.
+-- The state of one side: its reassembly, the numbers of its records, and how far it has come.
 pub record SideProgress : Type 0 where
   pub received : Received
+  -- the numbers of the accepted records
+  pub came : List RecordNumber
   -- whether a fragment of it was added, and whether the messages before it are missing
   pub is_begun : Bool
   pub lacks_front : Bool
@@ -184,6 +187,7 @@ abbrev pub no_side_progress : SideProgress
 no_side_progress =
     record {
       received = none_received;
+      came = [];
       is_begun = false;
       lacks_front = false;
       has_changed =
@@ -301,17 +305,48 @@ is_late (Some f) k s =
     is_some k.handshake.server && is_hello f
     && not (nat_lt f.message_seq (side_progress k s).received.next)
 
--- Whether a record of this side is read.
-abbrev pub takes : Analyzer → Side → RawRecord → Bool
-takes k s r =
+-- The beginning of a client's first message.
+abbrev pub is_opening : Option Fragment → Bool
+is_opening None = false
+is_opening (Some f) = f.msg_type == 1 && f.message_seq == 0 && f.fragment_offset == 0
+
+-- The client gave up behind its first hello, and numbers the records of another association from 0
+-- again. Before its ServerHello a server keeps no numbers (RFC 6347, section 4.2.1).
+abbrev pub renumbers : Analyzer → Side → RawRecord → Bool
+renumbers k s r =
+    is_client s && is_some k.handshake.client && not (is_some k.handshake.server)
+    && r.header.sequence_number == 0 && is_opening (first_fragment r)
+
+abbrev pub number_of : RawRecord → RecordNumber
+number_of r = record { epoch = r.header.epoch; sequence_number = r.header.sequence_number }
+
+-- The numbers of this side's records before this one.
+abbrev pub came_before : Analyzer → Side → RawRecord → List RecordNumber
+came_before k s r = if renumbers k s r then [] else (side_progress k s).came
+
+-- The peer accepts a record of this side: it is of the present epoch, and its number is new
+-- (RFC 6347, section 4.1.2.6).
+abbrev pub accepts : Analyzer → Side → RawRecord → Bool
+accepts k s r =
     k.is_dtls && not (is_over k s) && r.header.epoch == epoch_of (side_progress k s)
-    && not (is_late (first_fragment r) k s)
+    && is_new (came_before k s r) (number_of r)
+
+abbrev pub with_numbers : Analyzer → Side → List RecordNumber → Analyzer
+with_numbers k s came = with_side_progress k s (record (side_progress k s) { came = came })
+
+abbrev pub numbered : Analyzer → Side → RawRecord → Analyzer
+numbered k s r = with_numbers k s (number_of r ∷ came_before k s r)
 
 abbrev pub taken : Analyzer → Side → RawRecord → Analyzer
 taken k s r = stepped k s (record_step allowed (side_progress k s).received r)
 
+-- An accepted record is read, unless it is a late hello.
+abbrev pub accepted : Analyzer → Side → RawRecord → Analyzer
+accepted k s r =
+    if is_late (first_fragment r) k s then k else taken (begun_by (first_fragment r) k s) s r
+
 abbrev pub record_received_in : Analyzer → Side → RawRecord → Analyzer
-record_received_in k s r = if takes k s r then taken (begun_by (first_fragment r) k s) s r else k
+record_received_in k s r = if accepts k s r then accepted (numbered k s r) s r else k
 
 -- A record of this side. The first one of epoch 0 shows that it is DTLS.
 abbrev pub record_received : Analyzer → Side → RawRecord → Analyzer
@@ -380,6 +415,7 @@ received_all k (d ∷ ds) = received_all (received k d.0 d.1) ds
 -- The program's data of one side, and of the analyzer, agree with the state.
 pub record IsSideProgress (p : SideProgress) (t : DatagramSide) : Type 0 where
   pub stands : Stands allowed p.received t.messages
+  pub window : Remembers p.came t.window
   pub is_begun : t.is_begun ≡ p.is_begun
   pub lacks_front : t.lacks_front ≡ p.lacks_front
   pub has_changed : t.progress.has_changed ≡ p.has_changed
@@ -413,4 +449,5 @@ SideReads s h r a b t u =
 
 -- Another state of the same side, apart from its messages.
 abbrev pub IsSameSide : DatagramSide → DatagramSide → Type 0
-IsSameSide t u = (u.is_begun ≡ t.is_begun) × (u.lacks_front ≡ t.lacks_front)
+IsSameSide t u =
+    (u.is_begun ≡ t.is_begun) × (u.lacks_front ≡ t.lacks_front) × (u.window ≡ t.window)

@@ -8,17 +8,19 @@ ghost use Rattle.tls_stream.specs.Conversations.{views};
 ghost use Rattle.tls_summary.specs.HandshakeSummary.{view_summary};
 ghost use Rattle.tls_flow.specs.Table.{outcome_at};
 ghost use Rattle.dtls_analyzer.specs.Another.{begins_another as another_begins};
-ghost use Rattle.dtls_analyzer.specs.Datagrams.{IsKnown, Analyzer, begun, first_fragment as first, received, received_all, is_late as is_late_in, is_over as is_over_in, has_finished_by, longest_with as longest_by, sealed_next, record_received, sealed_by, datagram_side_of, side_progress, taken, takes as is_taken, nothing_observed, with_side_progress};
+ghost use Rattle.replay_window.specs.Replay.{Remembers, is_new as is_new_behind};
+ghost use Rattle.dtls_analyzer.specs.Datagrams.{IsKnown, Analyzer, begun, came_before, first_fragment as first, number_of, numbered, renumbers as renumbers_in, received, received_all, is_late as is_late_in, is_over as is_over_in, has_finished_by, longest_with as longest_by, sealed_next, record_received, sealed_by, datagram_side_of, side_progress, taken, accepted, accepts as is_accepted, nothing_observed, with_side_progress};
 ghost use Rattle.dtls_analyzer.specs.Senders.{deciding_direction as decided_by};
 ghost use Rattle.tls_observer.specs.Ends.{is_13 as is_13_by, is_established as established_by, is_resumed as resumed_by};
 
 use crate::account::Account;
 use crate::another::{has_ended, has_other_hello};
 use crate::datagram_records::is_known;
-use crate::datagram_side::{DatagramSide, first_fragment, is_hello};
+use crate::datagram_side::{DatagramSide, first_fragment, is_hello, is_opening};
 use crate::sender::{deciding, hello_direction};
 use dtls_stream::Fragment;
 use raw_records::{DTLSCiphertext, DTLSRawRecord, parse_dtls13_ciphertext, read_record};
+use replay_window::ReplayWindow;
 use std::alloc::{AllocError, Global};
 use tls_flow::{Direction, Flow, Outcome, Stop};
 use tls_observer::{NoObserver, Observer, ends, of_handshake};
@@ -200,15 +202,62 @@ impl DatagramAnalyzer {
         }
     }
 
-    /// Whether a record of this side is read.
-    fn takes(&self, side: Direction, record: &DTLSRawRecord<'_>) -> bool
+    /// Whether the client numbers the records of another association from 0 again, with this one.
+    /// Before its ServerHello a server keeps no numbers (RFC 6347, section 4.2.1).
+    fn renumbers(&self, side: Direction, record: &DTLSRawRecord<'_>) -> bool
         ensures { (k : Analyzer) → IsKnown k self.now
-            → result ≡ is_taken k side (view_raw_record record.now) }
+            → result ≡ renumbers_in k side (view_raw_record record.now) }
+    {
+        matches!(side, Direction::ToServer)
+            && self.account.handshake.client.is_some()
+            && !self.account.handshake.server.is_some()
+            && record.header.sequence_number == 0
+            && is_opening(record)
+    }
+
+    /// The numbers of this side's records before this one.
+    fn window_before(&self, side: Direction, record: &DTLSRawRecord<'_>) -> ReplayWindow
+        ensures { (k : Analyzer) → IsKnown k self.now
+            → Remembers (came_before k side (view_raw_record record.now)) result }
+    {
+        if self.renumbers(side, record) {
+            return ReplayWindow::new();
+        }
+        self.datagram_side(side).window
+    }
+
+    /// Whether a record's number is new.
+    fn is_new(&self, side: Direction, record: &DTLSRawRecord<'_>) -> bool
+        ensures { (k : Analyzer) → IsKnown k self.now
+            → result ≡ is_new_behind (came_before k side (view_raw_record record.now))
+            (number_of (view_raw_record record.now)) }
+    {
+        let window = self.window_before(side, record);
+        window.is_new(record.header.epoch, record.header.sequence_number)
+    }
+
+    /// Whether the peer accepts a record of this side, by its epoch and number.
+    fn accepts(&self, side: Direction, record: &DTLSRawRecord<'_>) -> bool
+        ensures { (k : Analyzer) → IsKnown k self.now
+            → result ≡ is_accepted k side (view_raw_record record.now) }
     {
         self.is_dtls
             && !self.is_over(side)
             && record.header.epoch == self.datagram_side(side).epoch()
-            && !self.is_late(side, record)
+            && self.is_new(side, record)
+    }
+
+    /// Adds a record's number to those of its side.
+    fn add_number(&mut self, side: Direction, record: &DTLSRawRecord<'_>)
+        ensures { (k : Analyzer) → IsKnown k self.old
+            → IsKnown (numbered k side (view_raw_record record.now)) self.new }
+    {
+        let mut window = self.window_before(side, record);
+        window.insert(record.header.epoch, record.header.sequence_number);
+        match side {
+            Direction::ToServer => self.client.window = window,
+            Direction::FromServer => self.server.window = window,
+        }
     }
 
     /// Begins a side with its first fragment.
@@ -245,6 +294,26 @@ impl DatagramAnalyzer {
         }
     }
 
+    /// Reads a record that the peer accepts, unless it begins with a late hello.
+    fn read_accepted<W: Observer>(
+        &mut self,
+        alloc: Global,
+        side: Direction,
+        record: DTLSRawRecord<'_>,
+        observer: &mut W,
+    ) -> Result<(), AllocError>
+        ensures { (k : Analyzer) → IsKnown k self.old
+            → OnOk result (IsKnown (accepted k side (view_raw_record record.entry)) self.new) }
+    {
+        if self.is_late(side, &record) {
+            return Ok(());
+        }
+        if let Some(fragment) = first_fragment(&record) {
+            self.begin(alloc, side, &fragment);
+        }
+        self.follow(alloc, side, record, observer)
+    }
+
     /// Reads a record of a side.
     fn read_record_events<W: Observer>(
         &mut self,
@@ -258,13 +327,11 @@ impl DatagramAnalyzer {
             (record_received k side (view_raw_record record.entry)) self.new) }
     {
         self.is_dtls = self.is_dtls || record.header.epoch == 0;
-        if !self.takes(side, &record) {
+        if !self.accepts(side, &record) {
             return Ok(());
         }
-        if let Some(fragment) = first_fragment(&record) {
-            self.begin(alloc, side, &fragment);
-        }
-        self.follow(alloc, side, record, observer)
+        self.add_number(side, &record);
+        self.read_accepted(alloc, side, record, observer)
     }
 
     /// Whether DTLS 1.3 was negotiated.
@@ -313,6 +380,8 @@ impl DatagramAnalyzer {
     ///   the same ports (RFC 7983). A record has [a version of DTLS](is_datagram_version);
     /// - a record of an epoch that hasn't begun or is over (section 4.1), and all records of a side
     ///   that is over;
+    /// - a record whose number came before, with whatever bytes, or is 64 or more below another
+    ///   one's (section 4.1.2.6);
     /// - a record whose content doesn't parse, such as an empty one;
     /// - a fragment that reaches past its message, gives another length for it, or belongs to a
     ///   message that was delivered or is too far ahead (sections 4.2.2 and 4.2.3). If bytes

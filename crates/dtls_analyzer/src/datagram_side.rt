@@ -4,11 +4,12 @@ ghost use Rattle.std.specs.Option.{option_map};
 ghost use Rattle.raw_records.specs.RawDtlsRecord.{view_raw_record};
 ghost use Rattle.dtls_stream.specs.Fragments.{view_fragment};
 ghost use Rattle.dtls_stream.specs.Messages.{Received, Stands};
-ghost use Rattle.dtls_analyzer.specs.Datagrams.{IsSameSide, IsSideProgress, SideReads, SideProgress, allowed, begun, epoch_of, first_fragment as first, is_behind_front as is_behind, is_hello as hello, no_side_progress};
+ghost use Rattle.dtls_analyzer.specs.Datagrams.{IsSameSide, IsSideProgress, SideReads, SideProgress, allowed, begun, epoch_of, first_fragment as first, is_behind_front as is_behind, is_hello as hello, is_opening as opening, no_side_progress};
 
 use crate::account::{Account, Progress};
 use dtls_stream::{DEFAULT_LIMITS, Fragment, Messages, parse_dtls_fragment, read_record_events};
 use raw_records::DTLSRawRecord;
+use replay_window::ReplayWindow;
 use std::alloc::{AllocError, Global};
 use tls_base::{TlsHandshakeType, TlsRecordType};
 use tls_flow::Direction;
@@ -18,6 +19,8 @@ use tls_observer::Observer;
 #[derive(Drop)]
 pub(crate) struct DatagramSide {
     pub(crate) messages: Messages,
+    // The numbers of the accepted records.
+    pub(crate) window: ReplayWindow,
     // Whether a fragment of it was added, and whether the messages before it are missing.
     pub(crate) is_begun: bool,
     pub(crate) lacks_front: bool,
@@ -46,6 +49,20 @@ pub(crate) fn is_hello(fragment: &Fragment<'_>) -> bool
         || fragment.msg_type.0 == TlsHandshakeType::HelloVerifyRequest.0
 }
 
+/// Whether a record begins with the first bytes of a client's first message.
+pub(crate) fn is_opening(record: &DTLSRawRecord<'_>) -> bool
+    ensures { result ≡ opening (first (view_raw_record record.now)) }
+{
+    match first_fragment(record) {
+        Some(fragment) => {
+            fragment.msg_type.0 == TlsHandshakeType::ClientHello.0
+                && fragment.message_seq == 0
+                && fragment.fragment_offset == 0
+        }
+        None => false,
+    }
+}
+
 /// Whether it belongs to a second ClientHello, or to the ServerHello after a HelloVerifyRequest
 /// (RFC 6347, section 4.2.2).
 fn is_behind_front(side: Direction, fragment: &Fragment<'_>) -> bool
@@ -65,6 +82,7 @@ impl DatagramSide {
     {
         DatagramSide {
             messages: Messages::new(alloc, DEFAULT_LIMITS),
+            window: ReplayWindow::new(),
             is_begun: false,
             lacks_front: false,
             progress: Progress {

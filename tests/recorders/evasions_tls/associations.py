@@ -3,8 +3,10 @@ same ports."""
 
 from __future__ import annotations
 
+import json
 import time
 from collections.abc import Callable, Collection
+from dataclasses import replace
 from pathlib import Path
 
 from tests.recorders import peers
@@ -25,6 +27,7 @@ PORT = SERVER_PORT.to_bytes(2, "big")
 # CAPWAP's header of 8 bytes, and a control header of a Discovery Response, 2, without elements (RFC
 # 5415, sections 4.3 and 4.5.1.1).
 DISCOVERY = bytes.fromhex("00 10 02 00 00 00 00 00  00 00 00 02 00 00 03 00")
+OTHER_SUITE = bytes.fromhex("c02b")  # TLS_ECDHE_ECDSA_WITH_AES_128_GCM_SHA256.
 
 
 class Identity:
@@ -122,7 +125,58 @@ def one_lost(folder: Path, stored: str, place: int) -> tuple[Path, list[Line], L
         raise ValueError(f"another beginning: {kinds}")
     segments = whole[:place] + whole[place + 1 :]
     # Without the hello the server is the originator. The other side then lacks its front.
-    return made(file, segments, whole, SERVER_PORT, {"gap": "resp"}, ["ssl_history"])
+    found = datagrams.line_of(whole, SERVER_PORT)
+    return made(file, segments, found, {"gap": "resp"}, ["ssl_history"])
+
+
+def replayed(folder: Path, stored: str, side: str) -> tuple[Path, list[Line], Line]:
+    """Adds a hello with another name or cipher suite in front of a stored handshake's second
+    ClientHello or its ServerHello, in a record with the number of its sender's first one."""
+    file = folder / f"dtls_{side}_replayed_record_{stored.partition('_')[0]}.pcap"
+    whole = packets.read((STORED / f"{stored}.pcap").read_bytes())
+    hello = (dtls.HELLO if side == CLIENT else dtls.SERVER_HELLO, 1)
+    [(at, record, message)] = [
+        (at, record, message)
+        for at, one in enumerate(whole)
+        for record, message in dtls.messages(one.payload)
+        if (message.kind, message.number) == hello
+    ]
+    body = message.body
+    if side == SERVER:
+        behind_id = 35 + body[34]
+        body = body[:behind_id] + OTHER_SUITE + body[behind_id + 2 :]
+    else:
+        body = dtls.renamed(body)
+    forged = replace(record, number=0).of(replace(message, body=body)).bytes()
+    segments = [*whole[:at], in_front_of(whole[at], 1, forged), *whole[at:]]
+    return made(file, segments, stored_line(whole), {}, [])
+
+
+def begun_again(folder: Path, stored: str) -> tuple[Path, list[Line], Line]:
+    """Adds the hello of an association that nobody answered in front of a stored handshake, twice:
+    its client gave up, and began another one on the same port."""
+    file = folder / f"dtls_client_begun_again_{stored.partition('_')[0]}.pcap"
+    whole = packets.read((STORED / f"{stored}.pcap").read_bytes())
+    [(record, message)] = dtls.messages(whole[0].payload)
+    unanswered = replace(message, body=message.body[:2] + bytes(32) + message.body[34:])
+    front = [
+        in_front_of(whole[0], before, replace(record, number=number).of(unanswered).bytes())
+        for number, before in ((0, 3_000_000), (1, 2_000_000))
+    ]
+    return made(file, [*front, *whole], stored_line(whole), {}, [])
+
+
+def in_front_of(one: packets.Segment, microseconds: int, payload: bytes) -> packets.Segment:
+    """Returns a datagram on the same ports, this long before."""
+    udp = one.tcp[:4] + (len(payload) + 8).to_bytes(2, "big") + bytes(2)
+    return packets.Segment(one.time - microseconds, one.front, udp, payload)
+
+
+def stored_line(segments: list[packets.Segment]) -> Line:
+    """Returns the line of a handshake in captures/dtls, which has tshark's fields."""
+    lines = [json.loads(line) for line in (STORED / "lines").read_text().splitlines()]
+    [found] = [line for line in lines if round(line["ts"] * 1_000_000) == segments[0].time]
+    return found
 
 
 def discovery_first(folder: Path) -> tuple[Path, list[Line], Line]:
@@ -131,7 +185,7 @@ def discovery_first(folder: Path) -> tuple[Path, list[Line], Line]:
     whole = packets.read((FRONTS / "capwap_openssl.pcap").read_bytes())
     segments = [reversed_with(whole[0], DISCOVERY), *whole]
     # tshark knows the port of CAPWAP.
-    return made(file, segments, whole, None, {}, [])
+    return made(file, segments, datagrams.line_of(whole, None), {}, [])
 
 
 def alert_first(folder: Path) -> tuple[Path, list[Line], Line]:
@@ -139,7 +193,8 @@ def alert_first(folder: Path) -> tuple[Path, list[Line], Line]:
     file = folder / "dtls_server_first_alert.pcap"
     whole = packets.read((folder / "dtls_second_association_broken_off.pcap").read_bytes())
     alert = max(at for at, one in enumerate(whole) if outputs.alerts([one]) and one.tcp[:2] == PORT)
-    return made(file, whole[alert:], whole[alert + 1 :], SERVER_PORT, {}, [])
+    found = datagrams.line_of(whole[alert + 1 :], SERVER_PORT)
+    return made(file, whole[alert:], found, {}, [])
 
 
 def reversed_with(one: packets.Segment, payload: bytes) -> packets.Segment:
@@ -167,15 +222,13 @@ def counted(segments: list[packets.Segment]) -> Line:
 def made(
     file: Path,
     segments: list[packets.Segment],
-    whole: list[packets.Segment],
-    port: int | None,
+    found: Line,
     more: Line,
     left: Collection[str],
 ) -> tuple[Path, list[Line], Line]:
     """Writes these segments, of a handshake that both sides completed. Its fields are tshark's, of
     the handshake's own datagrams."""
     file.write_bytes(packets.pcap([(one.time, one.frame()) for one in segments]))
-    found = datagrams.line_of(whole, port)
     if (found["outcome"], found["established"]) != ("full", True):
         raise ValueError(f"tshark has other fields: {found}")
     captured = ends_of(segments[0]) | counted(segments)
@@ -279,6 +332,13 @@ def captures() -> dict[str, Callable[[Path, Path], tuple[Path, list[Line], Line]
             found[f"dtls_{what}_lost_{stored.partition('_')[0]}"] = (
                 lambda work, folder, of=(stored, place): one_lost(folder, *of)
             )
+    for side in (CLIENT, SERVER):
+        found[f"dtls_{side}_replayed_record_openssl"] = (
+            lambda work, folder, side=side: replayed(folder, "openssl_dtls12_cookie", side)
+        )
+    found["dtls_client_begun_again_openssl"] = lambda work, folder: begun_again(
+        folder, "openssl_dtls12_cookie"
+    )
     found["dtls_server_first_capwap"] = lambda work, folder: discovery_first(folder)
     found["dtls_server_first_alert"] = lambda work, folder: alert_first(folder)
     for way in ("closed", "broken_off", "silent", "restarted", "closed_gnutls", "silent_gnutls"):

@@ -1,0 +1,2 @@
+mod ShiftLemmas
+mod WindowLemmas
