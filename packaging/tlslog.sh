@@ -13,7 +13,7 @@ reads_input() {
     while [ $# -gt 0 ]; do
         case "$1" in
             --checksums | --ciphers | --fields | --format | --memory | --part) [ $# -gt 1 ] && shift ;;
-            --by-network | --certificates | --csv-raw | --join | --messages | --numbers | --*=*) ;;
+            --by-network | --certificates | --csv-raw | --join | --merge-networks | --messages | --numbers | --*=*) ;;
             --)
                 shift
                 for word; do

@@ -270,9 +270,9 @@ ETHER = {4: b"\x08\x00", 6: b"\x86\xdd"}
 LINK = bytes.fromhex("020000000002" "020000000001")
 
 
-def ipv4(protocol: int, payload: bytes) -> bytes:
+def ipv4(protocol: int, payload: bytes, ends: bytes = ENDS_V4) -> bytes:
     header = struct.pack(">BBHHHBB", 0x45, 0, 20 + len(payload), 1, 0, 64, protocol)
-    return header + checksum(words(header + ENDS_V4)) + ENDS_V4 + payload
+    return header + checksum(words(header + ends)) + ends + payload
 
 
 def ipv6(protocol: int, payload: bytes) -> bytes:
@@ -469,9 +469,18 @@ Put = Callable[[bytes], bytes]
 InNetwork = tuple[Put, tuple[list[str], list[int]]]
 
 
-def networks() -> Iterator[tuple[str, InNetwork, InNetwork]]:
-    """Pairs of networks, by name: each puts an Ethernet frame into its network, where the
-    addresses are the same, and has the names and numbers of its tunnels."""
+def outer_ends(frame: bytes, ends: bytes) -> bytes:
+    """The ends of a tunnel around a frame, which its two directions swap."""
+    packet = frame[LINK_HEADER:]
+    first, size = (12, 4) if packet[0] >> 4 == 4 else (8, 16)
+    is_back = packet[first : first + size] > packet[first + size : first + 2 * size]
+    return ends[4:] + ends[:4] if is_back else ends
+
+
+def networks() -> Iterator[tuple[str, bool, InNetwork, InNetwork]]:
+    """Pairs of networks, by name, and whether they are apart by their tunnels alone: each puts an
+    Ethernet frame into its network, where the addresses are the same, and has the names and numbers
+    of its tunnels."""
 
     def tagged(*vlans: int) -> Put:
         """In VLANs, from outside in. A tag's priority (IEEE 802.1Q, section 9.6) is another from
@@ -483,12 +492,15 @@ def networks() -> Iterator[tuple[str, InNetwork, InNetwork]]:
 
         return put
 
-    def vxlan(number: int, outside: Put = tagged(), inside: Put = tagged()) -> Put:
+    def vxlan(
+        number: int, outside: Put = tagged(), inside: Put = tagged(), ends: bytes = ENDS_V4
+    ) -> Put:
         """In a VXLAN (RFC 7348, section 5), whose datagrams and frames may be in VLANs."""
 
         def put(frame: bytes) -> bytes:
             message = b"\x08\0\0\0" + number.to_bytes(3, "big") + b"\0" + inside(frame)
-            return outside(LINK + ETHER[4] + ipv4(UDP, udp(49152, 4789, message)))
+            datagram = udp(49152, 4789, message)
+            return outside(LINK + ETHER[4] + ipv4(UDP, datagram, outer_ends(frame, ends)))
 
         return put
 
@@ -505,23 +517,29 @@ def networks() -> Iterator[tuple[str, InNetwork, InNetwork]]:
                     + frame[LINK_HEADER - 2 : LINK_HEADER]
                     + struct.pack(">I", key)
                     + frame[LINK_HEADER:],
+                    outer_ends(frame, ENDS_V4),
                 )
             )
 
         return put
 
-    none, one, other, third = ([], []), (["vxlan"], [1]), (["vxlan"], [0x100001]), (["gre"], [1])
-    yield "two VLANs", (tagged(5), none), (tagged(0x805), none)
-    yield "a VLAN and none", (tagged(5), none), (tagged(), none)
-    yield "two VLANs in one", (tagged(5, 6), none), (tagged(5, 7), none)
-    yield "a VLAN in another and the other way", (tagged(5, 6), none), (tagged(6, 5), none)
-    yield "two VXLANs", (vxlan(1), one), (vxlan(0x100001), other)
-    yield "two VLANs in a VXLAN", (vxlan(1, inside=tagged(5)), one), (
+    none, one, other = ([], []), (["vxlan"], [1]), (["vxlan"], [0x100001])
+    third, fourth = (["gre"], [1]), (["gre"], [2])
+    yield "two VLANs", False, (tagged(5), none), (tagged(0x805), none)
+    yield "a VLAN and none", False, (tagged(5), none), (tagged(), none)
+    yield "two VLANs in one", False, (tagged(5, 6), none), (tagged(5, 7), none)
+    yield "a VLAN in another and the other way", False, (tagged(5, 6), none), (tagged(6, 5), none)
+    yield "two VXLANs", True, (vxlan(1), one), (vxlan(0x100001), other)
+    yield "two VLANs in a VXLAN", False, (vxlan(1, inside=tagged(5)), one), (
         vxlan(1, inside=tagged(6)),
         one,
     )
-    yield "a VXLAN in two VLANs", (vxlan(1, outside=tagged(5)), one), (
+    yield "a VXLAN in two VLANs", False, (vxlan(1, outside=tagged(5)), one), (
         vxlan(1, outside=tagged(6)),
         one,
     )
-    yield "a VXLAN and GRE of one number", (vxlan(1), one), (keyed(1), third)
+    yield "a VXLAN and GRE of one number", True, (vxlan(1), one), (keyed(1), third)
+    yield "a VXLAN and none", True, (vxlan(1), one), (tagged(), none)
+    third_end = ENDS_V4[:4] + bytes([192, 0, 2, 3])
+    yield "a VXLAN of two hosts", True, (vxlan(1), one), (vxlan(1, ends=third_end), one)
+    yield "two keys of GRE", False, (keyed(1), third), (keyed(2), fourth)

@@ -62,18 +62,20 @@ def parts(program: Program, captures: list[Stored]) -> None:
 
 def by_network(program: Program, captures: list[Stored]) -> None:
     """Each in two networks at once, whose packets alternate: by --by-network the stored lines for
-    each network. Without it the connections of two VLANs are one, with each packet twice."""
+    each network. Without it the connections of two VLANs are one, with each packet twice, and by
+    --merge-networks those of two tunnels."""
     count = 0
     for capture in filter(has_room, captures):
         pairs = list(packets.networks())
         made = []
-        for _, *both in pairs:
+        for _, _, *both in pairs:
             frames = [(s.time, put(s.frame())) for s in capture.segments for put, _ in both]
             made.append(packets.pcap(frames))
         apart = program.each(made, {0}, f"{capture.name}, by network", ["--by-network"])
         mixed = program.each(made, {0}, f"{capture.name}, in two networks")
+        merged = program.each(made, {0}, f"{capture.name}, merged", ["--merge-networks"])
         left_out = [*of_packets(capture.lines), "tunnels", "tunnel_ids"]
-        for (what, *both), lines, as_one in zip(pairs, apart, mixed):
+        for (what, is_apart, *both), lines, by_tunnels, as_one in zip(pairs, apart, mixed, merged):
             tunnels = [
                 {"tunnels": names, "tunnel_ids": numbers} if names else {}
                 for _, (names, numbers) in both
@@ -81,8 +83,12 @@ def by_network(program: Program, captures: list[Stored]) -> None:
             wanted = [{**line, **more} for line in capture.lines for more in tunnels]
             if sorted(map(sorted_text, lines)) != sorted(map(sorted_text, wanted)):
                 stop(f"{capture.name}, in {what}: other lines by network: {lines}")
-            if without(left_out, as_one) != without(left_out, capture.lines):
-                stop(f"{capture.name}, in {what}: other lines: {as_one}")
+            wanted_texts = sorted(map(sorted_text, wanted))
+            if is_apart and sorted(map(sorted_text, by_tunnels)) != wanted_texts:
+                stop(f"{capture.name}, in {what}: other lines by tunnels: {by_tunnels}")
+            for found in [as_one] if is_apart else [as_one, by_tunnels]:
+                if without(left_out, found) != without(left_out, capture.lines):
+                    stop(f"{capture.name}, in {what}: other lines: {found}")
         count += len(pairs)
     print(f"tlslog: {count} captures in two networks: the stored lines, twice by network")
 

@@ -5,6 +5,7 @@ from __future__ import annotations
 import ipaddress
 import json
 from collections.abc import Iterator
+from dataclasses import replace
 
 from tests.faults import breaking
 from tests.support import fragmenting, packets
@@ -16,6 +17,8 @@ from tests.tlslog.stored import TOP, Stored, counted, is_v6, of_packets
 RECORDED = TOP / "captures/tunnels"
 # Of these captures, packets with broken headers are made.
 BROKEN = ["mixed", "openssl_rsa", "openssl_tls13_resumed", "openssl_dtls12_client_certificate"]
+# The addresses of a third host's datagrams.
+THIRD_HOST = bytes([203, 0, 113, 9, 192, 0, 2, 1])
 # Longer frames have no room for the headers of a tunnel.
 LONGEST = 65_000
 
@@ -65,6 +68,54 @@ def in_tunnels(program: Program, captures: list[Stored]) -> None:
             stop(f"the recorded tunnel {name}: {status}, {report}{text}")
     of_both = f"{count} captures in tunnels, and {len(recorded)} recorded ones"
     print(f"tlslog: {of_both}: the lines, with the tunnels")
+
+
+def from_third_host(frame: bytes) -> bytes:
+    """A frame in a VXLAN (RFC 7348, section 5), which anyone can send from their own address."""
+    datagram = packets.udp(49152, 4789, b"\x08\0\0\0\0\0\1\0" + frame)
+    return packets.LINK + packets.ETHER[4] + packets.ipv4(packets.UDP, datagram, THIRD_HOST)
+
+
+def reset_behind(s: packets.Segment) -> packets.Segment:
+    """The RST that ends a connection after this segment (RFC 9293, section 3.10.7.4)."""
+    length = len(s.payload) + bool(s.flags & packets.SYN) + bool(s.flags & packets.FIN)
+    number = (s.sequence + length) % 2**32
+    front = s.tcp[:4] + number.to_bytes(4, "big") + s.tcp[8:12]
+    return replace(s, tcp=front + bytes([0x50, packets.RST]) + s.tcp[14:20], payload=b"")
+
+
+def other_data(s: packets.Segment) -> packets.Segment:
+    """The segment with other letters, such as those of a server's name."""
+    letters = bytes(byte ^ 1 if 97 < byte < 122 else byte for byte in s.payload)
+    return replace(s, payload=letters)
+
+
+def with_resets(segments: list[packets.Segment]) -> Iterator[packets.Timed]:
+    for s in segments:
+        yield s.time, s.frame()
+        if not s.is_udp:
+            yield s.time, from_third_host(reset_behind(s).frame())
+
+
+def with_other_data(segments: list[packets.Segment]) -> Iterator[packets.Timed]:
+    """Before all data of the side that speaks first, other data."""
+    first: dict[frozenset[packets.End], packets.End] = {}
+    for s in segments:
+        if s.payload and first.setdefault(s.ends, s.source) == s.source:
+            yield s.time, from_third_host(other_data(s).frame())
+        yield s.time, s.frame()
+
+
+def forged_in_tunnels(program: Program, captures: list[Stored]) -> None:
+    """Each with packets of its connections in a VXLAN from a third host: RSTs, or other data. The
+    stored lines, beside those of the VXLAN."""
+    some = list(filter(has_room, captures))
+    for capture in some:
+        made = [with_resets(capture.segments), with_other_data(capture.segments)]
+        for lines in program.each(list(map(packets.pcap, made)), {0}, capture.name):
+            if [line for line in lines if "tunnels" not in line] != capture.lines:
+                stop(f"{capture.name}, with forged packets in a tunnel: other lines: {lines}")
+    print(f"tlslog: {len(some)} captures with forged packets in tunnels: the stored lines")
 
 
 def in_gre(frame: bytes) -> bytes:

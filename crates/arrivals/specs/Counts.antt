@@ -1,5 +1,5 @@
 -- What is counted.
-use Rattle.std.specs.Prelude.{ℕ, ◌+◌, ◌-◌, ◌^◌, ◌==◌, ◌||◌, Bool, true, false, not, nat_lt, min, if◌then◌else◌, Option, Some, None, Ok, Err, [], get_or, replicate, set}
+use Rattle.std.specs.Prelude.{ℕ, ◌+◌, ◌-◌, ◌^◌, ◌==◌, ◌||◌, Bool, false, not, nat_lt, min, if◌then◌else◌, Option, Some, None, Ok, Err, [], get_or, replicate, set}
 use Rattle.std.specs.List.{position_from}
 use Rattle.layouts.specs.Meaning.{Answer, Broken, Lacks}
 use Rattle.layouts.specs.Reading.{reading}

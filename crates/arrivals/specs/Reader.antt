@@ -1,5 +1,5 @@
 -- What a packet brings to connections, and the reader behind it.
-use Rattle.std.specs.Prelude.{◌≡◌, ℕ, true, false, Option, Some, None, []}
+use Rattle.std.specs.Prelude.{◌≡◌, ℕ, ◌==◌, ◌||◌, not, Bool, true, false, length, Option, Some, None, []}
 use Rattle.capture.specs.Checksum.{checksum_of}
 use Rattle.capture.specs.Ip.{Address, Datagram}
 use Rattle.capture.specs.Transport.{Content, Segment as TcpHeader, UserDatagram}
@@ -10,7 +10,7 @@ use Rattle.connections.specs.declared.five_tuple.End.{End}
 use Rattle.connections.specs.declared.five_tuple.Protocol.{Protocol}
 use Rattle.connections.specs.declared.five_tuple.Protocol.TheVariants.{Tcp, Udp}
 use Rattle.connections.specs.declared.segment.Segment.{Segment}
-use Rattle.networks.specs.Networks.{Numbering, number_of, with_packet}
+use Rattle.networks.specs.Networks.{IsOfTunnels, Numbering, none_held, number_of, with_packet}
 use Rattle.networks.specs.declared.networks.Network.{Network}
 use Rattle.packets.specs.Section.{Packet}
 use Rattle.tunnels.specs.Tags.{vlans_of}
@@ -31,7 +31,8 @@ pub record IsNew (r : ArrivalReader) : Type 0 where
   pub cut : r.is_cut ≡ false
   pub checksums : r.checksums ≡ Auto
   pub part : r.part ≡ None
-  pub networks : r.networks ≡ None
+  pub networks : r.networks ≡ Some none_held
+  pub vlans : r.counts_vlans ≡ false
   pub tunnels : listed r.tunnels ≡ []
   pub counts : r.counts ≡ nothing_counted
 
@@ -64,27 +65,43 @@ pub record IsDatagram (checked : Checksums) (at : ℕ) (d : Datagram) (u : UserD
   pub checksum : g.checksum ≡ counted_as checked (checksum_of d)
   pub payload : g.payload.now ≡ u.payload
 
--- The number of a packet's network, by its VLANs and tunnels, and the networks behind it. It is 0
--- if networks aren't told apart.
-abbrev pub IsNumbered : Packet → Tunnels → Option Numbering → Option Numbering → ℕ → Type 0
-IsNumbered p tunnels None new n = (new ≡ None) × (n ≡ 0)
-IsNumbered p tunnels (Some t) new n =
-    (network : Network) × (found_in network.vlans ≡ vlans_of p.link_type p.bytes)
-    × (network.tunnels ≡ tunnels) × (new ≡ Some (with_packet network t)) × (n ≡ number_of network t)
+-- A packet's network. If VLANs count, it is the packet's VLANs and all of its tunnels.
+abbrev pub IsNetwork : Packet → Tunnels → Bool → Network → Type 0
+IsNetwork p tunnels false network = IsOfTunnels tunnels network
+IsNetwork p tunnels true network =
+    (found_in network.vlans ≡ vlans_of p.link_type p.bytes) × (network.tunnels ≡ tunnels)
+
+-- If VLANs don't count, a packet in no tunnel has no network.
+abbrev pub has_network : Tunnels → Bool → Bool
+has_network tunnels by_vlans = by_vlans || not (length (listed tunnels) == 0)
+
+-- The number of a packet's network, and the networks behind it.
+abbrev pub IsNumberedIf : Bool → Packet → Tunnels → Bool → Numbering → Option Numbering → ℕ
+    → Type 0
+IsNumberedIf false p tunnels by_vlans t new n = (new ≡ Some t) × (n ≡ 0)
+IsNumberedIf true p tunnels by_vlans t new n =
+    (network : Network) × IsNetwork p tunnels by_vlans network
+    × (new ≡ Some (with_packet network t)) × (n ≡ number_of network t)
+
+-- It is 0 if the packet has none, or networks aren't told apart.
+abbrev pub IsNumbered : Packet → Tunnels → Bool → Option Numbering → Option Numbering → ℕ → Type 0
+IsNumbered p tunnels by_vlans None new n = (new ≡ None) × (n ≡ 0)
+IsNumbered p tunnels by_vlans (Some t) new n =
+    IsNumberedIf (has_network tunnels by_vlans) p tunnels by_vlans t new n
 
 -- A packet with this segment or datagram is logged.
 pub record ReadsSegment (p : Packet) (d : Datagram) (t : TcpHeader) (old new : ArrivalReader)
     (s : Segment) : Type 0 where
   pub is : IsSegment old.checksums p.time d t s
   pub logged : is_logged old.part Tcp s.source s.destination ≡ true
-  pub network : IsNumbered p old.tunnels old.networks new.networks s.network
+  pub network : IsNumbered p old.tunnels old.counts_vlans old.networks new.networks s.network
   pub same : new ≡ record old { networks = new.networks }
 
 pub record ReadsDatagram (p : Packet) (d : Datagram) (u : UserDatagram) (old new : ArrivalReader)
     (g : UdpArrival) : Type 0 where
   pub is : IsDatagram old.checksums p.time d u g
   pub logged : is_logged old.part Udp g.source g.destination ≡ true
-  pub network : IsNumbered p old.tunnels old.networks new.networks g.network
+  pub network : IsNumbered p old.tunnels old.counts_vlans old.networks new.networks g.network
   pub same : new ≡ record old { networks = new.networks }
 
 -- One of connections that aren't logged is counted.

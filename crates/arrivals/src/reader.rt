@@ -1,14 +1,13 @@
 //! Finds the segment or datagram of each packet.
-ghost use Rattle.std.specs.Prelude.{◌≡◌, true, if◌then◌else◌, is_some, IfNone, IfOk, IfSome, OnErr, OnOk, Some};
+ghost use Rattle.std.specs.Prelude.{◌≡◌, true, if◌then◌else◌, is_some, IfNone, IfOk, IfSome, None, OnErr, Some};
 ghost use Rattle.capture.specs.Ip.{view_datagram};
 ghost use Rattle.capture.specs.Transport.{view_segment, view_datagram as view_user_datagram};
 ghost use Rattle.capture.specs.Transport as content;
-ghost use Rattle.networks.specs.Networks.{none_held};
 ghost use Rattle.packets.specs.Section.{view_packet};
 ghost use Rattle.tunnels.specs.Walk.{view_inside, Held};
 ghost use Rattle.arrivals.specs.Arrival.{is_logged, time_of};
 ghost use Rattle.arrivals.specs.Counts.{with_other_part, with_packet_counted};
-ghost use Rattle.arrivals.specs.Reader.{IsNew, IsNumbered, Reads, ReadsContent, ReadsInside};
+ghost use Rattle.arrivals.specs.Reader.{has_network as has_network_by, IsNetwork, IsNew, IsNumbered, Reads, ReadsContent, ReadsInside};
 
 use crate::arrival::{Arrival, Checksums, checksum_of, datagram_of, end, segment_of};
 use crate::counts::{Counts, add_one};
@@ -25,15 +24,15 @@ use tunnels::{Inside, Tunnels, innermost_into, plain_segment, vlan_tags};
 /// Finds the segment or datagram of each packet of a capture, and reassembles fragments.
 #[derive(Drop)]
 pub struct ArrivalReader {
-    alloc: Global,
     // The datagrams in reassembly, and whether the last packet held a fragment.
     pub(crate) fragments: FragmentTable,
     pub(crate) is_cut: bool,
     pub(crate) checksums: Checksums,
     // The part whose connections are logged, if not all are.
     part: Option<Part>,
-    // The numbers of networks, if these are told apart.
+    // The numbers of networks, if these are told apart, and whether VLANs count.
     networks: Option<Networks>,
+    counts_vlans: bool,
     /// The tunnels of the last packet.
     pub tunnels: Tunnels,
     /// Counts of what was read, and of what was left out.
@@ -41,17 +40,18 @@ pub struct ArrivalReader {
 }
 
 impl ArrivalReader {
-    /// Returns a reader for a new capture. `keys` keys the hashes of its table of fragments.
+    /// Returns a reader for a new capture. `keys` keys the hashes of its tables. Connections with
+    /// the same ends in different tunnels are separate.
     pub fn new(alloc: Global, keys: RandomState) -> Result<ArrivalReader, AllocError>
         ensures { IfOk result (λ reader. IsNew reader) }
     {
         Ok(ArrivalReader {
-            alloc,
             fragments: FragmentTable::new(alloc, keys)?,
             is_cut: false,
             checksums: Checksums::Auto,
             part: None,
-            networks: None,
+            networks: Some(Networks::new(alloc, keys)?),
+            counts_vlans: false,
             tunnels: Tunnels::new(),
             counts: Counts::new(),
         })
@@ -71,44 +71,71 @@ impl ArrivalReader {
         self.part = Some(part);
     }
 
-    /// Tells connections with the same ends in several networks apart. The default is not to.
-    /// `keys` keys the hashes of the table of networks.
-    pub fn separate_networks(&mut self, keys: RandomState) -> Result<(), AllocError>
-        ensures separated { OnOk result
-            (self.new ≡ record self.old { networks = Some none_held }) }
-        ensures err { OnErr result (self.new ≡ self.old) }
+    /// Separates connections with the same ends also by VLANs, and by each identifier of their
+    /// tunnels.
+    pub fn separate_by_vlans(&mut self)
+        ensures { self.new ≡ record self.old { counts_vlans = true } }
     {
-        self.networks = Some(Networks::new(self.alloc, keys)?);
-        Ok(())
+        self.counts_vlans = true;
     }
 
-    /// Returns the number of the last packet's network; 0 if networks aren't told apart.
+    /// Doesn't separate connections with the same ends by networks.
+    pub fn merge_networks(&mut self)
+        ensures { self.new ≡ record self.old { networks = None } }
+    {
+        self.networks = None;
+    }
+
+    /// Returns whether the last packet has a network.
+    #[inline(always)]
+    fn has_network(&self) -> bool
+        ensures { result ≡ has_network_by self.now.tunnels self.now.counts_vlans }
+    {
+        self.counts_vlans || !self.tunnels.is_empty()
+    }
+
+    /// Returns the last packet's network.
+    fn network_of(&self, packet: Packet<'_>) -> Network
+        ensures { IsNetwork (view_packet packet.entry) self.now.tunnels self.now.counts_vlans
+            result }
+    {
+        if !self.counts_vlans {
+            return Network::of_tunnels(&self.tunnels);
+        }
+        Network {
+            vlans: vlan_tags(packet.bytes, packet.link_type),
+            tunnels: self.tunnels,
+        }
+    }
+
+    /// Returns the number of the last packet's network; 0 if it has none, as most packets, or
+    /// networks aren't told apart.
+    #[tactic(auto, using(crate::proofs::NetworkLemmas::without))]
     #[inline(always)]
     fn network(&mut self, packet: Packet<'_>) -> Result<u64, AllocError>
         ensures number { IfOk result (IsNumbered (view_packet packet.entry) self.old.tunnels
-            self.old.networks self.new.networks) }
+            self.old.counts_vlans self.old.networks self.new.networks) }
         ensures same { self.new ≡ record self.old { networks = self.new.networks } }
         ensures err { OnErr result (self.new ≡ self.old) }
         ensures fails { OnErr result (is_some self.old.networks ≡ true) }
     {
-        if self.networks.is_none() {
+        if !self.has_network() || self.networks.is_none() {
             return Ok(0);
         }
         self.number_of_network(packet)
     }
 
-    /// Returns the number of the last packet's network, when networks are told apart.
+    /// Returns the number of the last packet's network, which it has.
+    #[tactic(auto, using(crate::proofs::NetworkLemmas::numbered))]
     fn number_of_network(&mut self, packet: Packet<'_>) -> Result<u64, AllocError>
+        requires { has_network_by self.old.tunnels self.old.counts_vlans ≡ true }
         ensures number { IfOk result (IsNumbered (view_packet packet.entry) self.old.tunnels
-            self.old.networks self.new.networks) }
+            self.old.counts_vlans self.old.networks self.new.networks) }
         ensures same { self.new ≡ record self.old { networks = self.new.networks } }
         ensures err { OnErr result (self.new ≡ self.old) }
         ensures fails { OnErr result (is_some self.old.networks ≡ true) }
     {
-        let network = Network {
-            vlans: vlan_tags(packet.bytes, packet.link_type),
-            tunnels: self.tunnels,
-        };
+        let network = self.network_of(packet);
         match &mut self.networks {
             Some(networks) => networks.number(network),
             None => Ok(0),
@@ -229,12 +256,19 @@ impl ArrivalReader {
         ensures fails { OnErr result (is_some self.old.networks ≡ true) }
     {
         add_one(&mut self.counts.packets);
+        // (the packets of a part go past the fast path of `plain_arrival`)
+        if self.part.is_some() {
+            let plain = plain_segment(packet.bytes, packet.link_type, &mut self.tunnels);
+            if let Some(datagram) = plain {
+                return self.arrival_of(packet, &datagram);
+            }
+        }
         let inside = innermost_into(packet.bytes, packet.link_type, &mut self.tunnels);
         self.arrival_inside(packet, &inside)
     }
 
     /// Returns the TCP segment of a packet by a fast path for most packets: in no tunnel, with all
-    /// connections logged and networks not told apart. For any other packet it returns `None` and
+    /// connections logged and VLANs not counted. For any other packet it returns `None` and
     /// counts nothing, and [`ArrivalReader::arrival`] has the answer.
     #[inline(always)]
     pub fn plain_arrival<'a>(&mut self, packet: Packet<'a>) -> Option<Arrival<'a>>
@@ -244,7 +278,7 @@ impl ArrivalReader {
         ensures none { IfNone result
             (self.new ≡ record self.old { tunnels = self.new.tunnels }) }
     {
-        if self.part.is_some() || self.networks.is_some() {
+        if self.part.is_some() || self.counts_vlans {
             return None;
         }
         let Some(datagram) = plain_segment(packet.bytes, packet.link_type, &mut self.tunnels) else {

@@ -11,5 +11,5 @@ mod options;
 mod printer;
 
 pub use inputs::{log_file, log_input, log_joined, log_standard_input};
-pub use options::RunOptions;
+pub use options::{RunOptions, Separation};
 pub use printer::LinePrinter;

@@ -1,7 +1,7 @@
 //! What a run logs, and the empty log that it begins with.
-ghost use Rattle.std.specs.Prelude.{◌≡◌, ◌||◌, IfOk, OnOk, is_some};
+ghost use Rattle.std.specs.Prelude.{◌≡◌, ◌&&◌, ◌||◌, is_some, IfOk};
 ghost use Rattle.std.specs.Option.{option_or};
-ghost use Rattle.log_captures.specs.Options.{IsLogBy};
+ghost use Rattle.log_captures.specs.Options.{IsLogBy, counts_vlans, tells_networks};
 ghost use Rattle.log_io.specs.Run.{HasFailed};
 
 use arrivals::{ArrivalReader, Checksums};
@@ -13,6 +13,17 @@ use std::hash::RandomState;
 use std::random::RandomSource;
 use std::rt::Runtime;
 
+/// What separates connections with the same addresses and ports.
+#[derive(Clone, Copy, Debug, PartialEq, Eq)]
+pub enum Separation {
+    /// Their tunnels.
+    Tunnels,
+    /// Their VLAN tags, their tunnels and all identifiers of these.
+    Networks,
+    /// Nothing.
+    Nothing,
+}
+
 /// What a run logs, and how much memory it takes.
 #[derive(Drop)]
 pub struct RunOptions {
@@ -22,8 +33,8 @@ pub struct RunOptions {
     pub checksums: Checksums,
     /// The part of the connections that is logged; all without one.
     pub part: Option<Part>,
-    /// Whether connections in different VLANs and tunnels are separate.
-    pub is_by_network: bool,
+    /// What separates connections with the same addresses and ports.
+    pub separation: Separation,
     /// How many bytes of memory connections may take.
     pub memory: usize,
 }
@@ -37,20 +48,22 @@ fn set_part(reader: &mut ArrivalReader, part: Option<Part>)
     }
 }
 
-/// Separates connections by network, if `--by-network` was given.
-fn set_networks(
-    reader: &mut ArrivalReader,
-    is_by_network: bool,
-    keys: RandomState,
-) -> Result<(), AllocError>
-    ensures separated { OnOk result (is_some reader.new.networks
-        ≡ (is_some reader.old.networks || is_by_network)) }
-    ensures same { reader.new ≡ record reader.old { networks = reader.new.networks } }
+/// Sets what separates connections. A new reader separates them by their tunnels.
+fn set_separation(reader: &mut ArrivalReader, separation: Separation)
+    ensures networks { is_some reader.new.networks
+        ≡ (is_some reader.old.networks && tells_networks separation) }
+    ensures vlans { reader.new.counts_vlans
+        ≡ (reader.old.counts_vlans || counts_vlans separation) }
+    ensures others { reader.new ≡ record reader.old {
+      networks = reader.new.networks;
+      counts_vlans = reader.new.counts_vlans;
+    } }
 {
-    if is_by_network {
-        reader.separate_networks(keys)?;
+    match separation {
+        Separation::Tunnels => {}
+        Separation::Networks => reader.separate_by_vlans(),
+        Separation::Nothing => reader.merge_networks(),
     }
-    Ok(())
 }
 
 /// Returns an empty log by the options, with these keys for the hashes of its tables.
@@ -65,7 +78,7 @@ fn log_of<K: PieceCollector>(
     log.set_memory(options.memory);
     log.arrivals.set_checksums(options.checksums);
     set_part(&mut log.arrivals, options.part);
-    set_networks(&mut log.arrivals, options.is_by_network, keys)?;
+    set_separation(&mut log.arrivals, options.separation);
     Ok(log)
 }
 

@@ -19,6 +19,8 @@ pub struct Choices<'a> {
 enum ValueKind {
     /// No value: the option is a flag.
     Flag,
+    /// A flag that can't be used with this option.
+    FlagWithout(&'static str),
     /// Any value.
     Any(&'static str),
     /// Any value, and the default.
@@ -30,7 +32,7 @@ enum ValueKind {
 }
 
 /// The options in the order of the help: the name, the kind of value, and the help.
-static OPTIONS: [(&str, ValueKind, &str); 12] = [
+static OPTIONS: [(&str, ValueKind, &str); 13] = [
     (
         "messages",
         ValueKind::Flag,
@@ -83,7 +85,12 @@ static OPTIONS: [(&str, ValueKind, &str); 12] = [
     (
         "by-network",
         ValueKind::Flag,
-        "Separate connections whose VLAN tags or tunnels differ",
+        "Separate connections whose VLAN tags or tunnels differ, by all their numbers",
+    ),
+    (
+        "merge-networks",
+        ValueKind::FlagWithout("by-network"),
+        "Don't separate connections whose tunnels differ",
     ),
     (
         "memory",
@@ -133,9 +140,10 @@ fn option<'a>(
     kind: &ValueKind,
     help: &'a str,
     choices: Choices<'a>,
-) -> Arg<'a> {
-    match kind {
+) -> Result<Arg<'a>, AllocError> {
+    let option = match kind {
         ValueKind::Flag => flag(alloc, name, help),
+        ValueKind::FlagWithout(other) => flag(alloc, name, help).conflicts_with(other)?,
         ValueKind::Any(value) => option_with_value(alloc, name, value, help),
         ValueKind::WithDefault(value, default) => {
             option_with_value(alloc, name, value, help).default_value(default)
@@ -149,7 +157,8 @@ fn option<'a>(
                 choices.checksums,
             )
         }
-    }
+    };
+    Ok(option)
 }
 
 /// The command with all its options.
@@ -160,7 +169,7 @@ fn command<'a>(alloc: Global, choices: Choices<'a>) -> Result<Command<'a>, Alloc
         .after_help(AFTER_OPTIONS)
         .arg(captures(alloc))?;
     for (name, kind, help) in &OPTIONS {
-        command = command.arg(option(alloc, name, kind, help, choices))?;
+        command = command.arg(option(alloc, name, kind, help, choices)?)?;
     }
     Ok(command)
 }

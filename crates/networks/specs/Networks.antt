@@ -1,12 +1,19 @@
 -- Networks and their numbers.
-use Rattle.std.specs.Prelude.{◌≡◌, ℕ, ◌+◌, Bool, List, [], ◌∷◌, take, if◌then◌else◌, is_some}
+use Rattle.std.specs.Prelude.{◌≡◌, ℕ, ◌+◌, Bool, List, [], ◌∷◌, map, take, if◌then◌else◌, is_some}
 use Rattle.std.specs.Option.{unwrap_or}
 use Rattle.std.specs.Map.{lookup}
 use Rattle.lru.specs.LruCache.{promoted}
 use Rattle.capture.specs.Vlan.{found_in}
-use Rattle.tunnels.specs.Tunnel.{listed}
+use Rattle.tunnels.specs.Tunnel.{listed, shared}
+use Rattle.tunnels.specs.declared.tunnel.Tunnels.{Tunnels}
 use Rattle.networks.specs.declared.networks.Network.{Network}
 use Rattle.networks.specs.contracts.networks.NetworkPartialEq.TheImpl as network_eq
+
+-- A network by tunnels alone has no VLANs, whose tags may differ by direction. Of a tunnel its kind
+-- and its endpoints count, in either order, and its identifier if both directions have it.
+pub record IsOfTunnels (ts : Tunnels) (n : Network) : Type 0 where
+  pub vlans : found_in n.vlans ≡ []
+  pub tunnels : listed n.tunnels ≡ map shared (listed ts)
 
 -- Two networks are the same if their lists of VLANs and of tunnels are.
 abbrev pub IsSame : Network → Network → Type 0

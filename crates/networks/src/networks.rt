@@ -1,6 +1,6 @@
 //! Networks and their numbers.
 ghost use Rattle.std.specs.Prelude.{◌≡◌, [], IfOk, OnErr, OnOk};
-ghost use Rattle.networks.specs.Networks.{number_of, with_packet};
+ghost use Rattle.networks.specs.Networks.{IsOfTunnels, number_of, with_packet};
 
 use capture::VlanTags;
 use lru::LruCache;
@@ -13,14 +13,27 @@ use tunnels::Tunnels;
 /// The most networks that are remembered. Beyond that the least recently used is forgotten.
 pub const MAX_NETWORKS: usize = 65_536;
 
-/// The network of a packet. Networks differ in their list of VLANs, or in the protocols or
-/// identifiers of their tunnels.
+/// The network of a packet. Networks differ in their list of VLANs, or in the protocols, endpoints
+/// or identifiers of their tunnels.
 #[derive(Clone, Copy, Debug, PartialEq, Eq, Hash)]
 pub struct Network {
     /// The VLAN identifiers, outermost first.
     pub vlans: VlanTags,
     /// The tunnels, outermost first.
     pub tunnels: Tunnels,
+}
+
+impl Network {
+    /// Returns the network of a packet by its tunnels alone: their protocols, their endpoints in
+    /// either order, and the identifiers that both directions of a conversation have.
+    pub fn of_tunnels(tunnels: &Tunnels) -> Network
+        ensures { IsOfTunnels tunnels.now result }
+    {
+        Network {
+            vlans: VlanTags::new(),
+            tunnels: tunnels.shared(),
+        }
+    }
 }
 
 /// The remembered networks and their numbers.

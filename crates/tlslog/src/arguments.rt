@@ -6,7 +6,7 @@ use crate::memory::{most_lines, part_of_connections};
 use crate::printer::{StylePrinter, piece_kind_of};
 use arrivals::Checksums;
 use clap::ArgMatches;
-use log_captures::RunOptions;
+use log_captures::{RunOptions, Separation};
 use log_lines::FORMAT_NAMES;
 use log_options::{Choices, memory_of, part_of};
 use log_writer::{ConfigurationError, style_of};
@@ -72,6 +72,17 @@ fn checksums_of(matches: &ArgMatches<'_>) -> Checksums {
     found.copied().unwrap_or(Checksums::Auto)
 }
 
+/// Returns what separates connections, by `--by-network` and `--merge-networks`.
+fn separation_of(matches: &ArgMatches<'_>) -> Separation {
+    if matches.get_flag("by-network") {
+        Separation::Networks
+    } else if matches.get_flag("merge-networks") {
+        Separation::Nothing
+    } else {
+        Separation::Tunnels
+    }
+}
+
 /// What the arguments ask for.
 #[derive(Drop)]
 pub struct Options {
@@ -95,7 +106,7 @@ pub fn options_of<'a, R: Runtime + AllocGlobal>(
         pieces: piece_kind_of(&style),
         checksums: checksums_of(matches),
         part,
-        is_by_network: matches.get_flag("by-network"),
+        separation: separation_of(matches),
         memory: part_of_connections(limit),
     };
     Ok(Options {

@@ -1,3 +1,4 @@
 mod PlainLemmas
 mod WalkLemmas
 mod TagLemmas
+mod DirectionLemmas

@@ -11,7 +11,7 @@ use Rattle.layouts.specs.Reading.{reading, ◌and_then◌}
 use Rattle.capture.specs.Transport.{Content, Tcp, Udp, Fragment, Other as OtherContent}
 use Rattle.capture.specs.Ip.{Datagram, ipv4, ipv6}
 use Rattle.capture.specs.Link.{IPV4, IPV6, carried, datagram, packet}
-use Rattle.tunnels.specs.Tunnel.{Header}
+use Rattle.tunnels.specs.Tunnel.{Header, carried_between}
 use Rattle.tunnels.specs.Labels.{mpls, backbone}
 use Rattle.tunnels.specs.Carriers.{by_ports, by_protocol}
 use Rattle.tunnels.specs.Walk.{Layer, Wraps, Holds, Unknown, Inside, Held, Unwrapped, by_layer, by_answer, followed, inner_layer, wrapped_or, content_layer, datagram_layer, layer_of_type, packet_layer, unwrapped}
@@ -69,7 +69,8 @@ is_held e r d p = ap (held e) p.holds
 
 kept_or : (e : Datagram) (a : Answer Header) (r : Bytes) (d : Datagram)
     → IsPlain (Ok (wrapped_or e a, r)) d → e ≡ d
-kept_or e (Ok x) r d p = absurd (not_wrapped x.0 r d p)
+kept_or e (Ok x) r d p =
+    absurd (not_wrapped (carried_between e.source e.destination x.0) r d p)
 kept_or e (Err y) r d p = is_held e r d p
 
 kept : (e : Datagram) (c : Content) (r : Bytes) (d : Datagram)

@@ -3,7 +3,7 @@ use Rattle.std.specs.Prelude.{ℕ, ◌==◌, ◌||◌, None}
 use Rattle.layouts.specs.Layout.{Layout, refuse, choose}
 use Rattle.layouts.specs.declared.result.ErrorKind.TheVariants.{Switch}
 use Rattle.capture.specs.Link.{IPV4, IPV6}
-use Rattle.tunnels.specs.Tunnel.{Header, carrying}
+use Rattle.tunnels.specs.Tunnel.{Header, carrying, tunnel_of}
 use Rattle.tunnels.specs.Gre.{gre}
 use Rattle.tunnels.specs.Labels.{mpls}
 use Rattle.tunnels.specs.Overlay.{vxlan, geneve}
@@ -15,8 +15,8 @@ use Rattle.tunnels.specs.declared.tunnel.TunnelKind.TheVariants.{Ipv4, Ipv6}
 -- 4213), 47 GRE (RFC 2784), 137 MPLS (RFC 4023). The first two have no tunnel header.
 unfoldable pub by_protocol : ℕ → Layout Header
 by_protocol protocol =
-    choose (protocol == 4) (carrying (record { kind = Ipv4; id = None }) IPV4) (
-    choose (protocol == 41) (carrying (record { kind = Ipv6; id = None }) IPV6) (
+    choose (protocol == 4) (carrying (tunnel_of Ipv4 None) IPV4) (
+    choose (protocol == 41) (carrying (tunnel_of Ipv6 None) IPV6) (
     choose (protocol == 47) gre (
     choose (protocol == 137) mpls (
     refuse Switch))))

@@ -3,7 +3,7 @@
 use Rattle.std.specs.Prelude.{ℕ, ◌/◌, ◌%◌, ◌==◌, ◌&&◌, Bool, Option, Some, None, if◌then◌else◌}
 use Rattle.layouts.specs.Layout.{Layout, done, number, block, test, choose, mapped, ◌>>=◌, ◌>>◌}
 use Rattle.layouts.specs.declared.result.ErrorKind.TheVariants.{Verify}
-use Rattle.tunnels.specs.Tunnel.{Header, ETHERNET, carrying, skipped_if, version_type}
+use Rattle.tunnels.specs.Tunnel.{Header, ETHERNET, carrying, skipped_if, version_type, tunnel_of}
 use Rattle.tunnels.specs.declared.tunnel.Tunnel.{Tunnel}
 use Rattle.tunnels.specs.declared.tunnel.TunnelKind.TheVariants.{Gre, Erspan}
 
@@ -24,7 +24,7 @@ unfoldable pub key_if : Bool → Layout (Option ℕ)
 key_if present = choose present (mapped Some (number 4)) (done None)
 
 abbrev pub erspan_tunnel : Option ℕ → Tunnel
-erspan_tunnel id = record { kind = Erspan; id = id }
+erspan_tunnel id = tunnel_of Erspan id
 
 -- Type II (section 4.2): version 1 and VLAN; class of service, encapsulation, truncated, session
 -- (10 bits); port.
@@ -65,7 +65,7 @@ unfoldable pub gre_payload : ℕ → Bool → Option ℕ → Layout Header
 gre_payload protocol is_numbered key =
     choose (protocol == 0x88be) (erspan is_numbered) (
     choose (protocol == 0x22eb) erspan3 (
-    carrying (record { kind = Gre; id = key }) protocol))
+    carrying (tunnel_of Gre key) protocol))
 
 -- Flags and version; protocol, an EtherType; checksum, key and sequence number, each if its flag is
 -- set.

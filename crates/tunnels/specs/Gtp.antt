@@ -2,7 +2,7 @@
 use Rattle.std.specs.Prelude.{ℕ, ◌-◌, ◌*◌, ◌/◌, ◌%◌, ◌==◌, ◌&&◌, not, nat_le, Bool, Some}
 use Rattle.layouts.specs.Layout.{Layout, done, number, block, window, list, complete, test, choose, ◌>>=◌, ◌>>◌}
 use Rattle.layouts.specs.declared.result.ErrorKind.TheVariants.{Tag, Verify, LengthValue}
-use Rattle.tunnels.specs.Tunnel.{Header, carrying, version_type}
+use Rattle.tunnels.specs.Tunnel.{Header, carrying, version_type, tunnel_of}
 use Rattle.tunnels.specs.declared.tunnel.TunnelKind.TheVariants.{GtpU}
 
 -- An extension header: its length in words of 4 bytes, its content, the type of the next one
@@ -40,7 +40,7 @@ unfoldable pub gtp_payload : ℕ → ℕ → Layout Header
 gtp_payload flags id = do
   optional_fields flags
   kind ← version_type
-  carrying (record { kind = GtpU; id = Some id }) kind
+  carrying (tunnel_of GtpU (Some id)) kind
 
 -- GTP version 1 and the flags; message type 255, user data; length of what follows these 8 bytes;
 -- tunnel endpoint (section 5.1).

@@ -2,7 +2,7 @@
 use Rattle.std.specs.Prelude.{ℕ, ◌/◌, ◌%◌, ◌^◌, ◌==◌, Some, if◌then◌else◌}
 use Rattle.layouts.specs.Layout.{Layout, number, list, look, test, ◌>>=◌, ◌>>◌}
 use Rattle.layouts.specs.declared.result.ErrorKind.TheVariants.{Tag}
-use Rattle.tunnels.specs.Tunnel.{Header, ETHERNET, carrying, skipped_if, type_of_version}
+use Rattle.tunnels.specs.Tunnel.{Header, ETHERNET, carrying, skipped_if, type_of_version, tunnel_of}
 use Rattle.tunnels.specs.declared.tunnel.TunnelKind.TheVariants.{Mpls, Backbone}
 
 -- A label with another behind it: label (20 bits), traffic class (3), bottom of stack (1), time to
@@ -25,11 +25,11 @@ mpls = do
   entry ← number 4
   first ← look (number 1)
   skipped_if (first / 16 == 0) 4
-  carrying (record { kind = Mpls; id = Some (entry / 4096) }) (type_behind_labels (first / 16))
+  carrying (tunnel_of Mpls (Some (entry / 4096))) (type_behind_labels (first / 16))
 
 -- An I-TAG behind its type: priority and others (8 bits), service (24 bits); and the customer's
 -- frame.
 unfoldable pub backbone : Layout Header
 backbone = do
   control ← number 4
-  carrying (record { kind = Backbone; id = Some (control % 2 ^ 24) }) ETHERNET
+  carrying (tunnel_of Backbone (Some (control % 2 ^ 24))) ETHERNET

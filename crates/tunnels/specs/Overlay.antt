@@ -3,7 +3,7 @@ use Rattle.std.specs.Prelude.{ℕ, ◌+◌, ◌*◌, ◌==◌, ◌||◌, nat_le,
 use Rattle.layouts.specs.Layout.{Layout, done, number, block, test, ◌>>=◌, ◌>>◌}
 use Rattle.layouts.specs.declared.result.ErrorKind.TheVariants.{Verify}
 use Rattle.capture.specs.Link.{IPV4, IPV6}
-use Rattle.tunnels.specs.Tunnel.{Header, ETHERNET, carrying}
+use Rattle.tunnels.specs.Tunnel.{Header, ETHERNET, carrying, tunnel_of}
 use Rattle.tunnels.specs.declared.tunnel.TunnelKind.TheVariants.{Vxlan, Geneve}
 
 -- The flags: I is set (RFC 7348, section 5), and G may be, for a group in the next 3 bytes
@@ -16,7 +16,7 @@ vxlan = do
   block 3
   network ← number 3
   block 1
-  carrying (record { kind = Vxlan; id = Some network }) ETHERNET
+  carrying (tunnel_of Vxlan (Some network)) ETHERNET
 
 abbrev pub is_overlaid : ℕ → Bool
 is_overlaid kind = (kind == ETHERNET) || ((kind == IPV4) || (kind == IPV6))
@@ -39,4 +39,4 @@ geneve = do
   front ← geneve_front
   network ← number 3
   block (front.0 * 4 + 1)
-  carrying (record { kind = Geneve; id = Some network }) front.1
+  carrying (tunnel_of Geneve (Some network)) front.1

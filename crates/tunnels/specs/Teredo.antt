@@ -3,7 +3,7 @@ use Rattle.std.specs.Prelude.{ℕ, ◌+◌, ◌/◌, ◌==◌, None}
 use Rattle.layouts.specs.Layout.{Layout, done, number, block, look, test, choose, mapped, ◌>>=◌, ◌>>◌}
 use Rattle.layouts.specs.declared.result.ErrorKind.TheVariants.{Verify}
 use Rattle.capture.specs.Link.{IPV6}
-use Rattle.tunnels.specs.Tunnel.{Header, carrying, skipped_if}
+use Rattle.tunnels.specs.Tunnel.{Header, carrying, skipped_if, tunnel_of}
 use Rattle.tunnels.specs.declared.tunnel.TunnelKind.TheVariants.{Teredo}
 
 -- Type 1; the lengths of the client identifier and of the authentication value; these two, a nonce
@@ -28,4 +28,4 @@ teredo = do
   skipped_if (behind == 0) 8
   first ← look (number 1)
   test (first / 16 == 6) Verify
-  carrying (record { kind = Teredo; id = None }) IPV6
+  carrying (tunnel_of Teredo None) IPV6

@@ -1,9 +1,13 @@
 -- Tunnels and the headers that begin them.
-use Rattle.std.specs.Prelude.{ℕ, ◌/◌, ◌==◌, List, take, Bool, if◌then◌else◌}
+use Rattle.std.specs.Prelude.{ℕ, ◌+◌, ◌*◌, ◌/◌, ◌^◌, ◌==◌, max, min, List, take, Bool, Option, None, if◌then◌else◌}
 use Rattle.layouts.specs.Bytes.{Bytes}
 use Rattle.layouts.specs.Layout.{Layout, done, number, block, rest, look, choose, mapped, ◌>>=◌}
+use Rattle.capture.specs.Ip.{Address, V4, V6}
 use Rattle.capture.specs.Link.{IPV4, IPV6}
+use Rattle.tunnels.specs.declared.tunnel.Endpoints.{Endpoints}
 use Rattle.tunnels.specs.declared.tunnel.Tunnel.{Tunnel}
+use Rattle.tunnels.specs.declared.tunnel.TunnelKind.{TunnelKind}
+use Rattle.tunnels.specs.declared.tunnel.TunnelKind.TheVariants.{Ipv4, Ipv6, Gre, Erspan, Mpls, Vxlan, Geneve, GtpU, Teredo, Backbone}
 use Rattle.tunnels.specs.declared.tunnel.Tunnels.{Tunnels}
 use Rattle.tunnels.specs.declared.tunnel.Header.{Header as LentHeader}
 
@@ -12,11 +16,56 @@ use Rattle.tunnels.specs.declared.tunnel.Header.{Header as LentHeader}
 abbrev pub ETHERNET : ℕ
 ETHERNET = 0x6558
 
+-- An address as one number. An IPv4 address is ::ffff:a.b.c.d (RFC 4291, section 2.5.5.2).
+abbrev pub address_number : Address → ℕ
+address_number (V4 n) = 0xffff00000000 + n
+address_number (V6 upper lower) = upper * 2 ^ 64 + lower
+
+-- The endpoints of a tunnel are the addresses of the datagram that carries it, the lower one first.
+abbrev pub endpoints_between : Address → Address → Endpoints
+endpoints_between a b = record {
+  lower = min (address_number a) (address_number b);
+  upper = max (address_number a) (address_number b);
+}
+
+-- Those of a tunnel that no datagram carries.
+abbrev pub no_endpoints : Endpoints
+no_endpoints = record { lower = 0; upper = 0 }
+
+-- A tunnel by its header alone.
+abbrev pub tunnel_of : TunnelKind → Option ℕ → Tunnel
+tunnel_of kind id = record { kind = kind; id = id; endpoints = no_endpoints }
+
+-- The identifier, if both directions of a conversation have it: the network of VXLAN (RFC 7348,
+-- section 4) and of GENEVE (RFC 8926, section 3.4), and a backbone's service (IEEE 802.1Q, section
+-- 9.7). The receiver chooses GTP-U's (3GPP TS 29.281, section 5.1) and a label (RFC 3031, section
+-- 3.4), the sender GRE's key (RFC 2890, section 2.1) and ERSPAN's session.
+abbrev pub shared_id : TunnelKind → Option ℕ → Option ℕ
+shared_id Vxlan id = id
+shared_id Geneve id = id
+shared_id Backbone id = id
+shared_id Gre id = None
+shared_id Erspan id = None
+shared_id Mpls id = None
+shared_id GtpU id = None
+shared_id Ipv4 id = None
+shared_id Ipv6 id = None
+shared_id Teredo id = None
+
+-- What both directions of a conversation have in common of a tunnel.
+abbrev pub shared : Tunnel → Tunnel
+shared t = record t { id = shared_id t.kind t.id }
+
 -- A tunnel header: the tunnel, the payload's EtherType, and the payload.
 pub record Header : Type 0 where
   pub tunnel : Tunnel
   pub kind : ℕ
   pub inside : Bytes
+
+-- A header that a datagram between these addresses carries.
+abbrev pub carried_between : Address → Address → Header → Header
+carried_between a b h =
+    record h { tunnel = record h.tunnel { endpoints = endpoints_between a b } }
 
 abbrev pub view_header : LentHeader → Header
 view_header h = record { tunnel = h.tunnel; kind = h.kind; inside = h.inside.now }

@@ -7,7 +7,7 @@ use Rattle.layouts.specs.Reading.{reading}
 use Rattle.capture.specs.Transport.{Content, Tcp, Udp, Fragment, Other as OtherContent}
 use Rattle.capture.specs.Ip.{Datagram, ipv4, ipv6, view_datagram}
 use Rattle.capture.specs.Link.{IPV4, IPV6, carried, packet}
-use Rattle.tunnels.specs.Tunnel.{Header, ETHERNET, listed, view_header}
+use Rattle.tunnels.specs.Tunnel.{Header, ETHERNET, carried_between, listed, view_header}
 use Rattle.tunnels.specs.Labels.{mpls, backbone}
 use Rattle.tunnels.specs.Carriers.{by_ports, by_protocol}
 use Rattle.tunnels.specs.declared.tunnel.Tunnel.{Tunnel}
@@ -31,9 +31,10 @@ view_layer (layer.Wraps h) = Wraps (view_header h)
 view_layer (layer.Holds d) = Holds (view_datagram d)
 view_layer layer.Unknown = Unknown
 
--- The tunnel header parsed in a datagram, or the datagram if there is none.
+-- The tunnel header parsed in a datagram, whose addresses are the tunnel's endpoints, or the
+-- datagram if there is none.
 abbrev pub wrapped_or : Datagram → Answer Header → Layer
-wrapped_or d (Ok x) = Wraps x.0
+wrapped_or d (Ok x) = Wraps (carried_between d.source d.destination x.0)
 wrapped_or d (Err e) = Holds d
 
 abbrev pub content_layer : Datagram → Content → Layer

@@ -1,7 +1,6 @@
 //! Tunnel headers, by IP protocol and UDP port.
 #![tactic(auto, using(layouts::proofs::OneAnswerLemmas::read_allowed), unfolding(crate::specs::Carriers::by_protocol, crate::specs::Carriers::by_ports))]
 
-ghost use Rattle.std.specs.Prelude.{◌≡◌, None};
 ghost use Rattle.layouts.specs.Answers.{Gives};
 ghost use Rattle.tunnels.specs.Tunnel.{view_header};
 ghost use Rattle.tunnels.specs.Carriers.{by_protocol as by_protocol_layout, by_ports as by_ports_layout};
@@ -17,21 +16,13 @@ use layouts::{ErrorKind, IResult, refused};
 /// The UDP port of Teredo.
 const TEREDO: u16 = 3544;
 
-/// Returns a tunnel of IPv4 or IPv6 in IP, which has no identifier.
-fn of_version(kind: TunnelKind) -> Tunnel
-    ensures kind { result.kind ≡ kind }
-    ensures id { result.id ≡ None }
-{
-    Tunnel { kind, id: None }
-}
-
 /// Parses the tunnel header that an IP protocol carries.
 pub(crate) fn by_protocol(i: &[u8], protocol: u8) -> IResult<&[u8], Header>
     ensures { Gives view_header (by_protocol_layout protocol) i.now result }
 {
     match protocol {
-        4 => carrying(i, of_version(TunnelKind::Ipv4), IPV4),
-        41 => carrying(i, of_version(TunnelKind::Ipv6), IPV6),
+        4 => carrying(i, Tunnel::new(TunnelKind::Ipv4, None), IPV4),
+        41 => carrying(i, Tunnel::new(TunnelKind::Ipv6, None), IPV6),
         47 => parse_gre(i),
         137 => parse_mpls(i),
         _ => refused(i, ErrorKind::Switch),

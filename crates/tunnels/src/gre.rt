@@ -38,10 +38,7 @@ fn key_if(i: &[u8], present: bool) -> IResult<&[u8], Option<u32>>
 fn erspan_tunnel(id: Option<u32>) -> Tunnel
     ensures { result ≡ erspan_tunnel_of id }
 {
-    Tunnel {
-        kind: TunnelKind::Erspan,
-        id,
-    }
+    Tunnel::new(TunnelKind::Erspan, id)
 }
 
 /// Parses an ERSPAN type II header.
@@ -108,10 +105,7 @@ fn gre_payload(
         ERSPAN => erspan(i, is_numbered),
         ERSPAN3 => erspan3(i),
         _ => {
-            let tunnel = Tunnel {
-                kind: TunnelKind::Gre,
-                id: key,
-            };
+            let tunnel = Tunnel::new(TunnelKind::Gre, key);
             carrying(i, tunnel, protocol)
         }
     }

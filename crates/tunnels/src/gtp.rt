@@ -85,10 +85,7 @@ fn gtp_payload(i: &[u8], flags: u8, id: u32) -> IResult<&[u8], Header>
 {
     let (i, _) = parsed!(optional_fields(i, flags));
     let (i, kind) = parsed!(version_type(i));
-    let tunnel = Tunnel {
-        kind: TunnelKind::GtpU,
-        id: Some(id),
-    };
+    let tunnel = Tunnel::new(TunnelKind::GtpU, Some(id));
     carrying(i, tunnel, kind)
 }
 

@@ -53,10 +53,7 @@ pub fn parse_mpls(i: &[u8]) -> IResult<&[u8], Header>
     let (i, entry) = parsed!(number4(Items::<UpperLabel>::new(i).rest()));
     let (_, first) = parsed!(number1(i));
     let (i, _) = parsed!(skipped_if(i, first / 16 == 0, 4));
-    let tunnel = Tunnel {
-        kind: TunnelKind::Mpls,
-        id: Some(entry / 4096),
-    };
+    let tunnel = Tunnel::new(TunnelKind::Mpls, Some(entry / 4096));
     carrying(i, tunnel, type_behind_labels(first / 16))
 }
 
@@ -69,9 +66,6 @@ pub fn parse_backbone(i: &[u8]) -> IResult<&[u8], Header>
     ensures { Gives view_header backbone i.now result }
 {
     let (i, control) = parsed!(number4(i));
-    let tunnel = Tunnel {
-        kind: TunnelKind::Backbone,
-        id: Some(control % 0x0100_0000),
-    };
+    let tunnel = Tunnel::new(TunnelKind::Backbone, Some(control % 0x0100_0000));
     carrying(i, tunnel, ETHERNET)
 }

@@ -30,5 +30,5 @@ pub use labels::{parse_backbone, parse_mpls};
 pub use overlay::{parse_geneve, parse_vxlan};
 pub use tags::vlan_tags;
 pub use teredo::parse_teredo;
-pub use tunnel::{ETHERNET, Header, MAX_TUNNELS, Tunnel, TunnelKind, Tunnels};
+pub use tunnel::{ETHERNET, Endpoints, Header, MAX_TUNNELS, Tunnel, TunnelKind, Tunnels};
 pub use walk::{Inside, Unwrapped, innermost, innermost_into, plain_segment};

@@ -23,10 +23,7 @@ pub fn parse_vxlan(i: &[u8]) -> IResult<&[u8], Header>
     let (i, _) = parsed!(block(i, 3));
     let (i, network) = parsed!(number3(i));
     let (i, _) = parsed!(block(i, 1));
-    let tunnel = Tunnel {
-        kind: TunnelKind::Vxlan,
-        id: Some(network),
-    };
+    let tunnel = Tunnel::new(TunnelKind::Vxlan, Some(network));
     carrying(i, tunnel, ETHERNET)
 }
 
@@ -67,9 +64,6 @@ pub fn parse_geneve(i: &[u8]) -> IResult<&[u8], Header>
     let (i, (words, kind)) = parsed!(geneve_front(i));
     let (i, network) = parsed!(number3(i));
     let (i, _) = parsed!(block(i, words as usize * 4 + 1));
-    let tunnel = Tunnel {
-        kind: TunnelKind::Geneve,
-        id: Some(network),
-    };
+    let tunnel = Tunnel::new(TunnelKind::Geneve, Some(network));
     carrying(i, tunnel, kind)
 }

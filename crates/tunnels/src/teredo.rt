@@ -46,9 +46,6 @@ pub fn parse_teredo(i: &[u8]) -> IResult<&[u8], Header>
     if first / 16 != 6 {
         return refused(i, ErrorKind::Verify);
     }
-    let tunnel = Tunnel {
-        kind: TunnelKind::Teredo,
-        id: None,
-    };
+    let tunnel = Tunnel::new(TunnelKind::Teredo, None);
     carrying(i, tunnel, IPV6)
 }

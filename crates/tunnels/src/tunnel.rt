@@ -1,10 +1,12 @@
 //! Tunnels and the headers that begin them.
 #![tactic(auto, using(layouts::proofs::OneAnswerLemmas::read_allowed), unfolding(crate::specs::Tunnel::carrying, crate::specs::Tunnel::skipped_if, crate::specs::Tunnel::version_type))]
 
-ghost use Rattle.std.specs.Prelude.{◌≡◌, ◌≤◌, ◌<◌, ◌+◌, ◌++◌, ◌∷◌, ◌==◌, [], length};
+ghost use Rattle.std.specs.Prelude.{◌≡◌, ◌≤◌, ◌<◌, ◌+◌, ◌++◌, ◌∷◌, ◌==◌, [], length, map};
 ghost use Rattle.layouts.specs.Answers.{Gives};
-ghost use Rattle.tunnels.specs.Tunnel.{carrying as carrying_layout, listed, skipped_if as skipped_if_layout, version_type as version_type_layout, type_of_version as type_of_version_number, view_header};
+ghost use Rattle.capture.specs.Ip.{view_address};
+ghost use Rattle.tunnels.specs.Tunnel.{address_number as number_of_address, carried_between, carrying as carrying_layout, endpoints_between, listed, no_endpoints, shared as shared_of, shared_id as shared_id_of, skipped_if as skipped_if_layout, tunnel_of, version_type as version_type_layout, type_of_version as type_of_version_number, view_header};
 
+use capture::Address;
 use layouts::{IResult, block, number1, parsed, rest};
 
 /// The most nested tunnels that are followed.
@@ -45,6 +47,53 @@ pub enum TunnelKind {
     Backbone,
 }
 
+/// The endpoints of a tunnel: the addresses of the datagram that carries it, as numbers of 128
+/// bits, in which an IPv4 address is `::ffff:a.b.c.d`. Both are 0 if no datagram carries the
+/// tunnel.
+#[derive(Clone, Copy, Debug, PartialEq, Eq, Hash)]
+pub struct Endpoints {
+    /// The lower address.
+    pub lower: u128,
+    /// The upper address.
+    pub upper: u128,
+}
+
+/// Returns an address as a number.
+fn address_number(address: Address) -> u128
+    ensures { result ≡ number_of_address (view_address address) }
+{
+    match address {
+        Address::V4(n) => 0xffff_0000_0000 + u128::from(n),
+        Address::V6(upper, lower) => {
+            u128::from(upper) * 0x1_0000_0000_0000_0000 + u128::from(lower)
+        }
+    }
+}
+
+impl Endpoints {
+    /// Returns the endpoints of a tunnel in a datagram between these addresses, in either
+    /// direction.
+    pub fn between(source: Address, destination: Address) -> Endpoints
+        ensures is { result ≡ endpoints_between (view_address source)
+            (view_address destination) }
+        ensures swapped { result ≡ endpoints_between (view_address destination)
+            (view_address source) }
+    {
+        let source = address_number(source);
+        let destination = address_number(destination);
+        if source <= destination {
+            return Endpoints {
+                lower: source,
+                upper: destination,
+            };
+        }
+        Endpoints {
+            lower: destination,
+            upper: source,
+        }
+    }
+}
+
 /// A tunnel.
 #[derive(Clone, Copy, Debug, PartialEq, Eq, Hash)]
 pub struct Tunnel {
@@ -52,6 +101,43 @@ pub struct Tunnel {
     pub kind: TunnelKind,
     /// The tunnel's identifier, if its header has one.
     pub id: Option<u32>,
+    /// Its endpoints.
+    pub endpoints: Endpoints,
+}
+
+/// Returns the identifier of a tunnel of this kind, if both directions of a conversation have it.
+fn shared_id(kind: TunnelKind, id: Option<u32>) -> Option<u32>
+    ensures { result ≡ shared_id_of kind id }
+{
+    match kind {
+        TunnelKind::Vxlan | TunnelKind::Geneve | TunnelKind::Backbone => id,
+        _ => None,
+    }
+}
+
+impl Tunnel {
+    /// Returns a tunnel by its header, which doesn't have the endpoints.
+    pub fn new(kind: TunnelKind, id: Option<u32>) -> Tunnel
+        ensures { result ≡ tunnel_of kind id }
+    {
+        let endpoints = Endpoints { lower: 0, upper: 0 };
+        Tunnel {
+            kind,
+            id,
+            endpoints,
+        }
+    }
+
+    /// Returns what both directions of a conversation have in common of the tunnel. That is the
+    /// same for both directions: `endpoints` are in no order.
+    pub fn shared(self) -> Tunnel
+        ensures { result ≡ shared_of self }
+    {
+        Tunnel {
+            id: shared_id(self.kind, self.id),
+            ..self
+        }
+    }
 }
 
 /// A tunnel header and its payload.
@@ -64,6 +150,23 @@ pub struct Header<'a> {
     pub kind: u16,
     /// The payload.
     pub inside: &'a [u8],
+}
+
+impl<'a> Header<'a> {
+    /// Returns the header as a datagram between these addresses carries it.
+    pub(crate) fn carried_between(self, source: Address, destination: Address) -> Header<'a>
+        ensures { view_header result ≡ carried_between (view_address source)
+            (view_address destination) (view_header self.entry) }
+    {
+        let endpoints = Endpoints::between(source, destination);
+        Header {
+            tunnel: Tunnel {
+                endpoints,
+                ..self.tunnel
+            },
+            ..self
+        }
+    }
 }
 
 /// The tunnels of a packet, outermost first, at most [`MAX_TUNNELS`].
@@ -79,10 +182,7 @@ impl Tunnels {
         ensures listed { listed result ≡ [] }
         ensures count { result.count ≡ 0 }
     {
-        let none = Tunnel {
-            kind: TunnelKind::Ipv4,
-            id: None,
-        };
+        let none = Tunnel::new(TunnelKind::Ipv4, None);
         Tunnels {
             slots: [none; MAX_TUNNELS],
             count: 0,
@@ -109,6 +209,18 @@ impl Tunnels {
         self.count += 1;
     }
 
+    /// Returns what both directions of a conversation have in common of each tunnel.
+    pub fn shared(&self) -> Tunnels
+        ensures { listed result ≡ map shared_of (listed self.now) }
+    {
+        let tunnels = self.as_slice();
+        let mut shared = Tunnels::new();
+        for tunnel in tunnels {
+            shared.push(tunnel.shared());
+        }
+        shared
+    }
+
     /// Returns whether there are no tunnels.
     pub fn is_empty(&self) -> bool
         ensures { result ≡ (length (listed self.now) == 0) }
@@ -118,7 +230,8 @@ impl Tunnels {
 
     /// Returns the tunnels, outermost first.
     pub fn as_slice(&self) -> &[Tunnel]
-        ensures { result.now ≡ listed self.now }
+        ensures tunnels { result.now ≡ listed self.now }
+        ensures count { length result.now ≤ 8 }
     {
         match self.slots.get(..self.count) {
             Some(tunnels) => tunnels,

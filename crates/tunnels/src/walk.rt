@@ -72,7 +72,9 @@ fn wrapped_or<'a>(datagram: IpDatagram<'a>, header: IResult<&'a [u8], Header<'a>
         (answer_of view_header header.entry) }
 {
     match header {
-        Ok((_, header)) => Layer::Wraps(header),
+        Ok((_, header)) => {
+            Layer::Wraps(header.carried_between(datagram.source, datagram.destination))
+        }
         Err(_) => Layer::Holds(datagram),
     }
 }
@@ -263,9 +265,10 @@ pub fn plain_segment<'a>(
     link_type: u16,
     tunnels: &mut Tunnels,
 ) -> Option<IpDatagram<'a>>
-    ensures { IfSome result
+    ensures datagram { IfSome result
         (λ datagram. unwrapped link_type i.now
-        ≡ record { tunnels = listed tunnels.new; inside = Held (view_datagram datagram) }) }
+        ≡ record { tunnels = []; inside = Held (view_datagram datagram) }) }
+    ensures tunnels { listed tunnels.new ≡ [] }
 {
     tunnels.clear();
     if link_type != LINK_ETHERNET {
