@@ -1,13 +1,13 @@
 -- The memory accounted for a table's connections after a step.
 use Rattle.std.proofs.Common.{◌≡◌, ℕ, zero, suc, ◌+◌, ◌-◌, ◌≤◌, ◌<◌, ◌^◌, Bool, true, false, cond, Option, Some, None, List, [], ◌∷◌, ◌++◌, length}
-use Rattle.std.proofs.Common.{take, drop, refl, sym, ap, ◌∙◌, subst, arith, append-nil, append_assoc}
+use Rattle.std.proofs.Common.{take, refl, sym, ap, ◌∙◌, subst, arith}
 use Rattle.std.specs.Prelude.{IfSome}
 use Rattle.std.specs.Map.{lookup_entry, set_value}
 use Rattle.std.specs.Option.{option_map_or}
 use Rattle.lru.specs.LruCache.{last_entry, promoted}
 use Rattle.connections.specs.FiveTuple.{is_five_tuple}
 use Rattle.connections.specs.Table.{at, others, promoting, with_other, Table, WasLast}
-use Rattle.connections.specs.Memory.{most_weight, total, IsAccounted, IsFront, IsSettled, IsTakenOut}
+use Rattle.connections.specs.Memory.{most_weight, total, IsAccounted, IsSettled, IsTakenOut}
 use Rattle.connections.specs.Connection.{held_by}
 use Rattle.connections.specs.declared.five_tuple.FiveTuple.{FiveTuple}
 use Rattle.connections.specs.declared.connection.Side.{Side}
@@ -180,21 +180,14 @@ module _ {T : Type 0} where
       let m = total_with e t.live c w (sym h) in let k = total_others e t.live c (sym h) in
       omega (arith, m, k, more, was)
 
-split : {A : Type 0} → (n : ℕ) (xs : List A) → xs ≡ take n xs ++ drop n xs
-split zero xs = refl
-split (suc n) [] = refl
-split (suc n) (x ∷ xs) = ap (λ l. x ∷ l) (split n xs)
-
--- A front of a front is a front.
-pub all_is_front : (xs : List (FiveTuple × ℕ)) → IsFront xs xs
-all_is_front xs = record { rest = []; stood = sym (append-nil xs) }
-
-pub front_shorter : (n : ℕ) (xs ys : List (FiveTuple × ℕ)) → IsFront xs ys → IsFront xs (take n ys)
-front_shorter n xs ys f = record {
-  rest = drop n ys ++ f.rest;
-  stood = f.stood ∙ ap (λ l. l ++ f.rest) (split n ys)
-      ∙ append_assoc (take n ys) (drop n ys) f.rest;
-}
+-- The front of a longer front.
+pub front_of_front : {A : Type 0} → (n m : ℕ) (xs : List A) → n ≤ m
+    → take n (take m xs) ≡ take n xs
+front_of_front zero m xs h = refl
+front_of_front (suc n) zero xs h = absurd (omega (arith, h))
+front_of_front (suc n) (suc m) [] h = refl
+front_of_front (suc n) (suc m) (x ∷ xs) h =
+    let less : n ≤ m = omega (arith, h) in ap (λ l. x ∷ l) (front_of_front n m xs less)
 
 module _ {T : Type 0} where
   pub settled_at : (M : T → ℕ) (e : FiveTuple) (t : Table T) (c w : Connection T) (n : ℕ)

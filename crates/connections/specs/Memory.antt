@@ -1,5 +1,5 @@
 -- The memory accounted for the connections of a table, in bytes.
-use Rattle.std.specs.Prelude.{◌≡◌, ℕ, ◌+◌, ◌-◌, ◌*◌, ◌/◌, ◌≤◌, ◌<◌, ◌^◌, max, Bool, nat_lt, ◌||◌, Option, Some, None, List, [], ◌∷◌, ◌++◌, length}
+use Rattle.std.specs.Prelude.{◌≡◌, ℕ, ◌+◌, ◌-◌, ◌*◌, ◌/◌, ◌≤◌, ◌<◌, ◌^◌, max, Bool, nat_lt, ◌||◌, Option, Some, None, List, [], ◌∷◌, length, take}
 use Rattle.connections.specs.Connection.{held_by}
 use Rattle.connections.specs.Stream.{held_in}
 use Rattle.connections.specs.Traffic.{plus, times}
@@ -24,14 +24,9 @@ open_part limit = limit - closed_part limit
 abbrev pub closed_count : ℕ → ℕ
 closed_count limit = closed_part limit / CLOSED_COST
 
--- The closed connections that fit are remembered, latest first.
-pub record IsFront (xs ys : List (FiveTuple × ℕ)) : Type 0 where
-  pub rest : List (FiveTuple × ℕ)
-  pub stood : xs ≡ ys ++ rest
-
-pub record FitsClosed (limit : ℕ) (xs ys : List (FiveTuple × ℕ)) : Type 0 where
-  pub latest : IsFront xs ys
-  pub fits : length ys ≤ closed_count limit
+-- Of the closed connections, latest first, as many are remembered as fit.
+abbrev pub FitsClosed : ℕ → List (FiveTuple × ℕ) → List (FiveTuple × ℕ) → Type 0
+FitsClosed limit xs ys = ys ≡ take (closed_count limit) xs
 
 -- An upper bound for the memory of a stream, by what was captured of it.
 abbrev pub most_of : Traffic → ℕ

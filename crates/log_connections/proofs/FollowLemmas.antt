@@ -1,5 +1,5 @@
 -- Following the dialogue in front of TLS leaves the connection's ends as they are.
-use Rattle.std.proofs.Common.{◌≡◌, ◌∙◌, ℕ, Bool, true, false, refl, sym, ap, subst}
+use Rattle.std.proofs.Common.{◌≡◌, ◌∙◌, ℕ, Option, Bool, true, false, refl, sym, ap, subst}
 use Rattle.std.specs.Prelude.{◌&&◌}
 use Rattle.connections.specs.Connection.{has_opening, side_of}
 use Rattle.connections.specs.Segment.{has_data}
@@ -10,11 +10,13 @@ use Rattle.connections.specs.declared.connection.Side.TheVariants.{Originator, R
 use Rattle.connections.specs.declared.five_tuple.End.{End}
 use Rattle.connections.specs.declared.segment.Segment.{Segment}
 use Rattle.connections.specs.declared.stream.Stream.{Stream}
+use Rattle.tunnels.specs.declared.tunnel.Tunnels.{Tunnels}
 use Rattle.dtls_analyzer.specs.declared.datagram_analyzer.DatagramAnalyzer.{DatagramAnalyzer}
 use Rattle.tls_analyzer.specs.declared.analyzer.Analyzer.{Analyzer}
-use Rattle.log_connections.specs.Analysis.{FollowsOnce, FollowsOnceIn, is_followed_in}
+use Rattle.log_connections.specs.Analysis.{FollowsOnce, FollowsOnceIn, IsPrepared, is_followed_in}
 use Rattle.log_connections.specs.Fronts.{IsFollowedBy}
-use Rattle.log_connections.specs.Log.{AnalyzesSender, AnalyzesSide, AnalyzesWaiting, FollowsIf, FollowsOpened}
+use Rattle.log_connections.specs.declared.analysis.PieceKind.{PieceKind}
+use Rattle.log_connections.specs.Log.{AnalyzesSender, AnalyzesSide, AnalyzesWaiting, FollowsIf, FollowsOpened, IsReady}
 use Rattle.log_connections.specs.declared.analysis.TlsAnalysis.{TlsAnalysis}
 use Rattle.log_connections.specs.declared.analysis.TransportAnalyzer.TheVariants as transport
 use Rattle.log_connections.specs.declared.fronts.Preambles.{Preambles}
@@ -40,18 +42,32 @@ module _ {K : Type 0} where
       ap {A = Connection (TlsAnalysis K)} (λ x. side_of x e) h
 
   -- The dialogue was followed, and then the sender's bytes were analyzed.
-  pub analyzed_behind : (s : Segment) (c d c' : Connection (TlsAnalysis K))
+  pub analyzed_behind : (Prepares : TlsAnalysis K → TlsAnalysis K → Type 0) (s : Segment)
+      (c d c' : Connection (TlsAnalysis K))
       → FollowsIf (has_data s && is_followed_in c.attachment.transport) (side_of c s.source) c d
-      → AnalyzesSender s (side_of d s.source) d c'
-      → AnalyzesSide s (side_of c s.source) c c'
-  analyzed_behind s c d c' follows analyzes = (
+      → AnalyzesSender Prepares s (side_of d s.source) d c'
+      → AnalyzesSide Prepares s (side_of c s.source) c c'
+  analyzed_behind Prepares s c d c' follows analyzes = (
     d,
     follows,
-    subst (λ z. AnalyzesSender s z d c')
+    subst (λ z. AnalyzesSender Prepares s z d c')
         (followed_side s.source (has_data s && is_followed_in c.attachment.transport)
         (side_of c s.source) c d follows)
         analyzes,
   )
+
+  -- It was prepared for some packet.
+  sender_prepared : (ts : Tunnels) (kept : Option PieceKind) (s : Segment) (side : Side)
+      (c c' : Connection (TlsAnalysis K)) → AnalyzesSender (IsPrepared ts kept) s side c c'
+      → AnalyzesSender IsReady s side c c'
+  sender_prepared ts kept s Originator c c' h = (h.0, (ts, kept, h.1), h.2, h.3)
+  sender_prepared ts kept s Responder c c' h = (h.0, (ts, kept, h.1), h.2, h.3)
+
+  pub side_prepared : (ts : Tunnels) (kept : Option PieceKind) (s : Segment) (side : Side)
+      (c c' : Connection (TlsAnalysis K)) → AnalyzesSide (IsPrepared ts kept) s side c c'
+      → AnalyzesSide IsReady s side c c'
+  side_prepared ts kept s side c c' h =
+      (h.0, h.1, sender_prepared ts kept s side h.0 c' h.2)
 
   pub follows_when : (a b : Bool) (side : Side) (c d : Connection (TlsAnalysis K)) → a ≡ true
       → b ≡ true → FollowsOpened (has_opening c) side c d → FollowsIf (a && b) side c d

@@ -3,6 +3,7 @@ mod DatagramLemmas
 mod DialogueLemmas
 mod EndingLemmas
 mod FollowLemmas
+mod FoundLemmas
 mod FrontLemmas
 mod LogLemmas
 mod OtherLemmas

@@ -25,7 +25,7 @@ use Rattle.connections.specs.declared.segment.Segment.{Segment}
 use Rattle.tls_detection.specs.Front.{held_datagram}
 use Rattle.log_connections.specs.Accessors.{BeginsAnother}
 use Rattle.log_connections.specs.Analysis.{IsBegun, direction_of}
-use Rattle.log_connections.specs.Log.{IsBegunBy, AcceptsAt, AcceptsIf, AcceptsSegment, BeginsAnotherIn, EndsAfter, EndsClosed, AnalyzesFrom, AnalyzesKept, AnalyzesPending, AnalyzesSegment, AnalyzesSide, Logs, LogsDatagram, RefusesAt, RefusesIf, RefusesSegment, TakesIf, TakesIn, is_closed_in, is_damaged_in, verdict_in}
+use Rattle.log_connections.specs.Log.{IsBegunBy, AcceptsAt, AcceptsIf, AcceptsSegment, BeginsAnotherIn, EndsAfter, EndsClosed, AnalyzesFrom, AnalyzesKept, AnalyzesPending, AnalyzesSegment, AnalyzesSide, IsReady, Logs, LogsDatagram, RefusesAt, RefusesIf, RefusesSegment, TakesIf, TakesIn, is_closed_in, is_damaged_in, verdict_in}
 use Rattle.log_connections.specs.Sink.{EndsAs}
 use Rattle.log_connections.specs.declared.analysis.TlsAnalysis.{TlsAnalysis}
 
@@ -77,16 +77,16 @@ module _ {K : Type 0} where
   put_where_true true s old mid is put = put
   put_where_true false s old mid is put = cc
 
-  pub segment_received : (b : Bool) (s : Segment) (old mid : Table (TlsAnalysis K))
+  pub segment_received : (Prepares : TlsAnalysis K → TlsAnalysis K → Type 0) (b : Bool) (s : Segment) (old mid : Table (TlsAnalysis K))
       (c d : Connection (TlsAnalysis K)) → b ≡ true
       → Puts b s old mid → mid.closed ≡ closed_behind b s old
       → (at (five_tuple_of s) old.live ≡ None
       → HasBegun IsBegun Tcp (five_tuple_of s) mid.live)
       → Some c ≡ at (five_tuple_of s) mid.live
-      → AnalyzesSide s (side_of c s.source) c d
-      → AnalyzesSegment s old
+      → AnalyzesSide Prepares s (side_of c s.source) c d
+      → AnalyzesSegment Prepares s old
       (record mid { live = set_value (is_five_tuple (five_tuple_of s)) mid.live d })
-  segment_received b s old mid c d is puts closed attached found receives =
+  segment_received Prepares b s old mid c d is puts closed attached found receives =
       let put = put_where_true b s old mid is puts in
       let same = lent (five_tuple_of s) (TakesSegment s) old.live mid.live put c found in record {
         put = put.its;
@@ -94,18 +94,18 @@ module _ {K : Type 0} where
         takes = put.takes;
         begun = λ none. begun_lent Tcp (five_tuple_of s) mid.live c put.its found same (attached none);
         receives =
-            subst (λ z. AnalyzesSide s (side_of z s.source) z d) same receives;
+            subst (λ z. AnalyzesSide Prepares s (side_of z s.source) z d) same receives;
         stands = written_first (five_tuple_of s) (TakesSegment s) old.live mid.live put d;
         closed = closed ∙ ap (λ x. closed_behind x s old) is;
       }
 
   -- The open connection takes it.
-  pub received_by_open : (s : Segment) (old : Table (TlsAnalysis K))
+  pub received_by_open : (Prepares : TlsAnalysis K → TlsAnalysis K → Type 0) (s : Segment) (old : Table (TlsAnalysis K))
       (c put its : Connection (TlsAnalysis K))
       → Some c ≡ at (five_tuple_of s) old.live → Accepts s c put
-      → AnalyzesSide s (side_of put s.source) put its
-      → AnalyzesSegment s old (with_first (five_tuple_of s) its old)
-  received_by_open s old c put its found accepts receives = record {
+      → AnalyzesSide Prepares s (side_of put s.source) put its
+      → AnalyzesSegment Prepares s old (with_first (five_tuple_of s) its old)
+  received_by_open Prepares s old c put its found accepts receives = record {
     put = put;
     its = its;
     takes = subst (λ o. TakesSegment s o put) found accepts;
@@ -117,13 +117,13 @@ module _ {K : Type 0} where
   }
 
   -- The open connection takes it in place, and comes first then.
-  pub received_in_place : (s : Segment) (old : Table (TlsAnalysis K))
+  pub received_in_place : (Prepares : TlsAnalysis K → TlsAnalysis K → Type 0) (s : Segment) (old : Table (TlsAnalysis K))
       (c put its : Connection (TlsAnalysis K))
       → Some c ≡ at (five_tuple_of s) old.live → Accepts s c put
-      → AnalyzesSide s (side_of put s.source) put its
-      → AnalyzesSegment s old
+      → AnalyzesSide Prepares s (side_of put s.source) put its
+      → AnalyzesSegment Prepares s old
       (promoting (five_tuple_of s) (with_other (five_tuple_of s) its old))
-  received_in_place s old c put its found accepts receives = record {
+  received_in_place Prepares s old c put its found accepts receives = record {
     put = put;
     its = its;
     takes = subst (λ o. TakesSegment s o put) found accepts;
@@ -134,14 +134,14 @@ module _ {K : Type 0} where
         found refl;
   }
 
-  pub exchange_received : (d : Datagram) (old : Table (TlsAnalysis K))
+  pub exchange_received : (Prepares : TlsAnalysis K → TlsAnalysis K → Type 0) (d : Datagram) (old : Table (TlsAnalysis K))
       (c put its : Connection (TlsAnalysis K))
       → Some c ≡ at (five_tuple_of_datagram d) old.live → TakesDatagramIn d c put
       → (shows_damage (side_of c d.source) d.checksum c ≡ true → IsBegun c.protocol put.attachment)
-      → AnalyzesFrom d put its
-      → LogsDatagram d old
+      → AnalyzesFrom Prepares d put its
+      → LogsDatagram Prepares d old
       (promoting (five_tuple_of_datagram d) (with_other (five_tuple_of_datagram d) its old))
-  exchange_received d old c put its found takes begun receives = record {
+  exchange_received Prepares d old c put its found takes begun receives = record {
     put = put;
     its = its;
     takes = subst (λ o. TakesDatagram d o put) found takes;
@@ -176,22 +176,22 @@ module _ {K : Type 0} where
   begun_by g (Some b) xs c d found same begun =
       λ shows. begun_lent b.protocol (five_tuple_of_datagram g) xs c d found same (begun shows)
 
-  pub datagram_received : (g : Datagram) (old mid : Table (TlsAnalysis K))
+  pub datagram_received : (Prepares : TlsAnalysis K → TlsAnalysis K → Type 0) (g : Datagram) (old mid : Table (TlsAnalysis K))
       (c d : Connection (TlsAnalysis K))
       → IsPut (five_tuple_of_datagram g) (TakesDatagram g) old.live mid.live
       → mid.closed ≡ old.closed
       → HasBegunBy IsBegun g (at (five_tuple_of_datagram g) old.live) mid.live
-      → Some c ≡ at (five_tuple_of_datagram g) mid.live → AnalyzesFrom g c d
-      → LogsDatagram g old
+      → Some c ≡ at (five_tuple_of_datagram g) mid.live → AnalyzesFrom Prepares g c d
+      → LogsDatagram Prepares g old
       (record mid { live = set_value (is_five_tuple (five_tuple_of_datagram g)) mid.live d })
-  datagram_received g old mid c d put closed attached found receives = record {
+  datagram_received Prepares g old mid c d put closed attached found receives = record {
     put = put.its;
     its = d;
     takes = put.takes;
     begun = begun_by g (at (five_tuple_of_datagram g) old.live) mid.live c put.its found
         (lent (five_tuple_of_datagram g) (TakesDatagram g) old.live mid.live put c found) attached;
     receives =
-        subst (λ z. AnalyzesFrom g z d)
+        subst (λ z. AnalyzesFrom Prepares g z d)
         (lent (five_tuple_of_datagram g) (TakesDatagram g) old.live mid.live put c found) receives;
     stands = written_first (five_tuple_of_datagram g) (TakesDatagram g) old.live mid.live put d;
     closed = closed;
@@ -286,8 +286,8 @@ module _ {K : Type 0} where
       (over : Option (Connection (TlsAnalysis K))) → is_closed_in s mid ≡ false → new ≡ mid
       → over ≡ None → EndsClosed s mid new over
   stays_open s mid new over is same none = record {
-    ends = subst (λ o. EndsAs o over) (sym (none_of (ended (five_tuple_of s) mid) is))
-        (subst (λ (o : Option (Connection (TlsAnalysis K))). EndsAs None o) (sym none) tt);
+    ends = subst (λ o. EndsAs false o over) (sym (none_of (ended (five_tuple_of s) mid) is))
+        (subst (λ (o : Option (Connection (TlsAnalysis K))). EndsAs false None o) (sym none) tt);
     left = same ∙ sym (ap (λ b. if b then record {
       live = others (five_tuple_of s) mid.live;
       closed = (five_tuple_of s, s.time) ∷ others (five_tuple_of s) mid.closed;
@@ -335,7 +335,7 @@ module _ {K : Type 0} where
 
   pub accepts_open : (s : Segment) (old mid new : Table (TlsAnalysis K))
       (over : Option (Connection (TlsAnalysis K)))
-      → option_map lets_in (verdict_in s old) ≡ Some true → AnalyzesSegment s old mid
+      → option_map lets_in (verdict_in s old) ≡ Some true → AnalyzesSegment IsReady s old mid
       → EndsClosed s mid new over → AcceptsSegment s old new over
   accepts_open s old mid new over is receives ends =
       accepts_in (verdict_in s old) s old new over is
@@ -382,13 +382,13 @@ module _ {K : Type 0} where
       (subst (λ t. RefusesAt v s t new over) same refuses)
 
   -- A pending segment is analyzed.
-  pub pending_received : (e : FiveTuple) (k : Kept) (old : Table (TlsAnalysis K))
+  pub pending_received : (Prepares : TlsAnalysis K → TlsAnalysis K → Type 0) (e : FiveTuple) (k : Kept) (old : Table (TlsAnalysis K))
       (c put its : Connection (TlsAnalysis K)) (s : Segment) → Some c ≡ at e old.live
       → AcceptsKept k c put → header_of s ≡ k.header → s.payload.now ≡ k.bytes
-      → AnalyzesSide s (side_of put s.source) put its
-      → AnalyzesPending e k old (with_first e its old)
-  pending_received e k old c put its s found accepts header payload receives =
-      comes_in e (AnalyzesKept k) old c its found (record {
+      → AnalyzesSide Prepares s (side_of put s.source) put its
+      → AnalyzesPending Prepares e k old (with_first e its old)
+  pending_received Prepares e k old c put its s found accepts header payload receives =
+      comes_in e (AnalyzesKept Prepares k) old c its found (record {
         put = put;
         segment = s;
         header = header;

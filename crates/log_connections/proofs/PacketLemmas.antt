@@ -1,5 +1,5 @@
 -- What a packet does to a log.
-use Rattle.std.proofs.Common.{◌≡◌, ◌⊎◌, inl, inr, refl, sym, ap, subst, Option, Some, None, List, [], Bool, true, false, ℕ}
+use Rattle.std.proofs.Common.{◌≡◌, ◌⊎◌, inl, inr, refl, sym, ap, subst, Option, Some, None, List, [], ◌∷◌, Bool, true, false, ℕ}
 use Rattle.std.specs.Prelude.{Result, Ok, Err, IfErr, IsErrAnd, OnErr, OnOk, is_some, not, ◌&&◌, ◌||◌}
 use Rattle.packets.specs.Section.{Packet}
 use Rattle.tunnels.specs.Walk.{unwrapped}
@@ -15,9 +15,9 @@ use Rattle.connections.specs.declared.connection.Connection.{Connection}
 use Rattle.connections.specs.declared.five_tuple.FiveTuple.{FiveTuple}
 use Rattle.log_connections.proofs.LogLemmas.{lent_unchanged}
 use Rattle.log_connections.proofs.SinkLemmas.{adds_none, adds_still, adds_then}
-use Rattle.log_connections.specs.Packet.{HandlesBy, IsLent, StopsBy, at_content, at_reader}
+use Rattle.log_connections.specs.Packet.{HandlesBy, IsLent, StopsBy, at_content, at_reader, lent_if}
 use Rattle.log_connections.specs.Reading.{Content, Holds, NeedsMemory, Nothing, joined, one}
-use Rattle.log_connections.specs.Sink.{Adds, AreEarly, EndsAs, EndsLast, EndsRefused, IsOfSink, Receives, StaysSound, StopsRefused, TakesPieces, as_list, at_oldest, at_own}
+use Rattle.log_connections.specs.Sink.{Adds, EndsAs, EndsLast, EndsRefused, IsOfSink, Receives, StaysSound, StopsRefused, TakesPieces, as_list, at_oldest, at_own}
 use Rattle.log_connections.specs.declared.analysis.TlsAnalysis.{TlsAnalysis}
 use Rattle.log_connections.specs.declared.sink.LogError.{LogError}
 use Rattle.log_connections.specs.declared.sink.LogError.TheVariants.{OutOfMemory, Sink}
@@ -39,6 +39,22 @@ module _ {K : Type 0} (e : FiveTuple) where
       → IsLent e (at e old.live) old new
   lent_none old new found same = subst (λ o. IsLent e o old new) found same
 
+-- What a sink is lent.
+module _ {X : Type 0} where
+  pub lends_none : (b : Bool) (o : Option X) (r : Option (List X)) → b ≡ false
+      → Adds r r (lent_if b o)
+  lends_none b o r is = subst (λ c. Adds r r (lent_if c o)) (sym is) (adds_none r)
+
+  pub lends_missing : (b : Bool) (o : Option X) (r : Option (List X)) → None ≡ o
+      → Adds r r (lent_if b o)
+  lends_missing true o r missed = subst (λ p. Adds r r (as_list p)) missed (adds_none r)
+  lends_missing false o r missed = adds_none r
+
+  pub lends_one : (b : Bool) (o : Option X) (x : X) (r s : Option (List X)) → b ≡ true
+      → Some x ≡ o → Adds r s (x ∷ []) → Adds r s (lent_if b o)
+  lends_one b o x r s is found adds =
+      subst (λ c. Adds r s (lent_if c o)) (sym is) (subst (λ p. Adds r s (as_list p)) found adds)
+
 module _ {K B : Type 0} (value : B → Connection (TlsAnalysis K)) where
   some_ended : (own oldest : Option B) (a b : Bool) → a ≡ is_some own → b ≡ is_some oldest
       → (not a && not b) ≡ false
@@ -49,21 +65,18 @@ module _ {K B : Type 0} (value : B → Connection (TlsAnalysis K)) where
 
   pub refused_ends : (e : FiveTuple) (t u w : Table (TlsAnalysis K)) (own oldest : Option B)
       (has_own has_oldest : Bool) (r s q : Option (List (Connection (TlsAnalysis K))))
-      → EndsAs (at e t.live) (option_map value own) → u.live ≡ others e t.live
-      → EndsLast u.live w.live (option_map value oldest)
-      → AreEarly (option_map value own) → AreEarly (option_map value oldest)
+      → EndsAs true (at e t.live) (option_map value own) → u.live ≡ others e t.live
+      → EndsLast true u.live w.live (option_map value oldest)
       → has_own ≡ is_some own → has_oldest ≡ is_some oldest
       → (not has_own && not has_oldest) ≡ false
       → Adds r s (as_list (option_map value own)) → Adds s q (as_list (option_map value oldest))
       → EndsRefused e t.live w.live r q
-  refused_ends e t u w own oldest has_own has_oldest r s q ends same last early early_too p o h
+  refused_ends e t u w own oldest has_own has_oldest r s q ends same last p o h
       received received_too = record {
         own = option_map value own;
         oldest = option_map value oldest;
         own_ends = ends;
-        oldest_ends = subst (λ l. EndsLast l w.live (option_map value oldest)) same last;
-        own_is_early = early;
-        oldest_is_early = early_too;
+        oldest_ends = subst (λ l. EndsLast true l w.live (option_map value oldest)) same last;
         are_some = some_ended own oldest has_own has_oldest p o h;
         received = adds_then r s q (as_list (option_map value own)) (as_list (option_map value oldest))
             received received_too;
@@ -74,24 +87,23 @@ module _ {K B E : Type 0} (value : B → Connection (TlsAnalysis K)) (e : FiveTu
     (error : LogError E) where
   pub stops_own : (t u : Table (TlsAnalysis K)) (own : Option B)
       (r q : Option (List (Connection (TlsAnalysis K))))
-      → EndsAs (at e t.live) (option_map value own) → u.live ≡ others e t.live
-      → AreEarly (option_map value own) → is_some own ≡ true → Adds r q [] → IsOfSink error
+      → EndsAs true (at e t.live) (option_map value own) → u.live ≡ others e t.live
+      → is_some own ≡ true → Adds r q [] → IsOfSink error
       → StopsRefused e t.live u.live r q error
-  stops_own t u None r q ends same early is received of_sink = cc
-  stops_own t u (Some b) r q ends same early is received of_sink =
-      at_own (value b) of_sink ends early same received
+  stops_own t u None r q ends same is received of_sink = cc
+  stops_own t u (Some b) r q ends same is received of_sink =
+      at_own (value b) of_sink ends same received
 
   pub stops_oldest : (t u w : Table (TlsAnalysis K)) (own oldest : Option B)
       (r s q : Option (List (Connection (TlsAnalysis K))))
-      → EndsAs (at e t.live) (option_map value own) → u.live ≡ others e t.live
-      → EndsLast u.live w.live (option_map value oldest) → AreEarly (option_map value own)
-      → AreEarly (option_map value oldest) → is_some oldest ≡ true
+      → EndsAs true (at e t.live) (option_map value own) → u.live ≡ others e t.live
+      → EndsLast true u.live w.live (option_map value oldest) → is_some oldest ≡ true
       → Adds r s (as_list (option_map value own)) → Adds s q [] → IsOfSink error
       → StopsRefused e t.live w.live r q error
-  stops_oldest t u w own None r s q ends same last early early_too is received none of_sink = cc
-  stops_oldest t u w own (Some b) r s q ends same last early early_too is received none of_sink =
-      at_oldest (option_map value own) (value b) of_sink ends early
-      (subst (λ l. EndsLast l w.live (Some (value b))) same last) early_too
+  stops_oldest t u w own None r s q ends same last is received none of_sink = cc
+  stops_oldest t u w own (Some b) r s q ends same last is received none of_sink =
+      at_oldest (option_map value own) (value b) of_sink ends
+      (subst (λ l. EndsLast true l w.live (Some (value b))) same last)
       (adds_still r s q (as_list (option_map value own)) received none)
 
 -- What holds whether a call fails or not.

@@ -1,5 +1,5 @@
 -- What a sink received of the connections that ended.
-use Rattle.std.proofs.Common.{◌≡◌, List, [], ◌∷◌, ◌++◌, Option, Some, None, Bool, true, sym, subst, ◌∙◌, ap, append_assoc}
+use Rattle.std.proofs.Common.{◌≡◌, List, [], ◌∷◌, ◌++◌, Option, Some, None, Bool, true, false, sym, subst, ◌∙◌, ap, append_assoc}
 use Rattle.std.proofs.lemmas.List.{append-nil}
 use Rattle.std.specs.Prelude.{IfSome, IfNone, OnOk, Result, Ok, Err, ℕ, ◌<◌, ◌≤◌}
 use Rattle.std.specs.Option.{option_map}
@@ -7,7 +7,7 @@ use Rattle.connections.specs.Memory.{IsAccounted, IsTakenOut, open_part, total}
 use Rattle.connections.specs.Table.{IsOver, NoneIsOver, Table, WasLast}
 use Rattle.connections.specs.declared.five_tuple.FiveTuple.{FiveTuple}
 use Rattle.connections.specs.declared.connection.Connection.{Connection}
-use Rattle.log_connections.specs.Sink.{Adds, EndsAs, Evicts, EndsIdle, EndsLast, AnalyzesLast, IsOverLimit, IsEnded, IsLastEnded, PassesAllButLast, PassesEnded, Receives, cut_off, marked_early, none, one, wholly}
+use Rattle.log_connections.specs.Sink.{Adds, EndsAs, Evicts, EndsIdle, EndsLast, IsOverLimit, IsEnded, IsLastEnded, PassesAllButLast, PassesEnded, Receives, cut_off, marked, none, one, wholly}
 use Rattle.log_connections.specs.declared.analysis.TlsAnalysis.{TlsAnalysis}
 
 module _ {X : Type 0} where
@@ -34,16 +34,16 @@ module _ {X : Type 0} where
   received_then (Ok u) a b x f h = f h
   received_then (Err e) a b x f h = tt
 
-module _ {K : Type 0}
+module _ {K : Type 0} (early : Bool)
     (Is : List (FiveTuple × Connection (TlsAnalysis K)) → Connection (TlsAnalysis K) → Type 0) where
   pub none_ended : (xs : List (FiveTuple × Connection (TlsAnalysis K)))
-      (r : Option (List (Connection (TlsAnalysis K)))) → PassesEnded Is xs xs r r
+      (r : Option (List (Connection (TlsAnalysis K)))) → PassesEnded early Is xs xs r r
   none_ended xs r = record { outs = []; ended = none; received = adds_none r }
 
   pub one_more_ended : (xs ys zs : List (FiveTuple × Connection (TlsAnalysis K)))
       (c c' : Connection (TlsAnalysis K)) (r s t : Option (List (Connection (TlsAnalysis K))))
-      → PassesEnded Is xs ys r s → Is ys c → IsLastEnded ys zs c c' → Adds s t (c' ∷ [])
-      → PassesEnded Is xs zs r t
+      → PassesEnded early Is xs ys r s → Is ys c → IsLastEnded early ys zs c c' → Adds s t (c' ∷ [])
+      → PassesEnded early Is xs zs r t
   one_more_ended xs ys zs c c' r s t before is last received = record {
     outs = before.outs ++ c' ∷ [];
     ended = one ys zs before.outs c c' before.ended is last;
@@ -52,8 +52,8 @@ module _ {K : Type 0}
 
   pub all_but_last : (xs ys zs : List (FiveTuple × Connection (TlsAnalysis K)))
       (c c' : Connection (TlsAnalysis K)) (r s t : Option (List (Connection (TlsAnalysis K))))
-      → PassesEnded Is xs ys r s → Is ys c → IsLastEnded ys zs c c' → Adds s t []
-      → PassesAllButLast Is xs zs r t
+      → PassesEnded early Is xs ys r s → Is ys c → IsLastEnded early ys zs c c' → Adds s t []
+      → PassesAllButLast early Is xs zs r t
   all_but_last xs ys zs c c' r s t before is last received = record {
     outs = before.outs;
     refused = c';
@@ -64,39 +64,28 @@ module _ {K : Type 0}
 -- A connection that ended, and is marked.
 module _ {K : Type 0} where
   pub is_marked : (c : Connection (TlsAnalysis K)) → c.attachment.is_ended_early ≡ true
-      → c ≡ marked_early c
-  is_marked c is = ap {A = Bool} (λ b. record c {
-    attachment = record c.attachment { is_ended_early = b };
-  }) is
+      → c ≡ marked true c
+  is_marked c is = ap {A = Bool} (λ b. marked b c) is
 
-  received_marked : (c d e : Connection (TlsAnalysis K)) → AnalyzesLast c d → e ≡ marked_early d
-      → AnalyzesLast c e
-  received_marked c d e receives is = subst (AnalyzesLast c) (sym is) (record {
-    between = receives.between;
-    last = receives.last;
-    originator = receives.originator;
-    responder = receives.responder;
-    same = ap {A = Connection (TlsAnalysis K)} marked_early receives.same;
-  })
+  pub ended_early : (c d e : Connection (TlsAnalysis K)) → IsEnded false c d → e ≡ marked true d
+      → IsEnded true c e
+  ended_early c d e (wholly last rest was) is =
+      wholly last rest (is ∙ ap {A = Connection (TlsAnalysis K)} (marked true) was)
+  ended_early c d e (cut_off last cut was) is =
+      cut_off last cut (is ∙ ap {A = Connection (TlsAnalysis K)} (marked true) was)
 
-  pub marked : (c d e : Connection (TlsAnalysis K)) → IsEnded c d → e ≡ marked_early d
-      → IsEnded c e
-  marked c d e (wholly rest) is = wholly (rest.0, rest.1, received_marked rest.0 d e rest.2 is)
-  marked c d e (cut_off before cut early) is =
-      cut_off before cut (is ∙ ap {A = Connection (TlsAnalysis K)} marked_early early)
-
-  pub marked_as : {B : Type 0} (value : B → Connection (TlsAnalysis K)) (taken : Option B)
-      (d e : Connection (TlsAnalysis K)) → EndsAs (option_map value taken) (Some d)
-      → e ≡ marked_early d → EndsAs (option_map value taken) (Some e)
-  marked_as value None d e ends is = ends
-  marked_as value (Some b) d e ends is = marked (value b) d e ends is
+  pub ended_early_as : {B : Type 0} (value : B → Connection (TlsAnalysis K)) (taken : Option B)
+      (d e : Connection (TlsAnalysis K)) → EndsAs false (option_map value taken) (Some d)
+      → e ≡ marked true d → EndsAs true (option_map value taken) (Some e)
+  ended_early_as value None d e ends is = ends
+  ended_early_as value (Some b) d e ends is = ended_early (value b) d e ends is
 
 -- What a call took out, as the analysis of its last bytes left it.
 module _ {K B : Type 0} (value : B → Connection (TlsAnalysis K)) (t u : Table (TlsAnalysis K)) where
   pub ends_idle : (time : ℕ) (taken ended : Option B)
       → IfSome taken (λ b. WasLast t.live u.live (value b) × IsOver time t.live (value b).last_time)
       → IfNone taken ((u.live ≡ t.live) × NoneIsOver time t.live)
-      → EndsAs (option_map value taken) (option_map value ended)
+      → EndsAs false (option_map value taken) (option_map value ended)
       → EndsIdle time t.live u.live (option_map value ended)
   ends_idle time None None some unless ends = unless
   ends_idle time None (Some d) some unless ends = absurd ends
@@ -111,15 +100,15 @@ module _ {K B : Type 0} (value : B → Connection (TlsAnalysis K)) (t u : Table 
     some.1,
   )
 
-  pub ends_last : (taken ended : Option B)
+  pub ends_last : (early : Bool) (taken ended : Option B)
       → IfSome taken (λ b. WasLast t.live u.live (value b))
       → IfNone taken (t.live ≡ []) → IfNone taken (u ≡ t)
-      → EndsAs (option_map value taken) (option_map value ended)
-      → EndsLast t.live u.live (option_map value ended)
-  ends_last None None some empty same ends = (empty, ap (λ x. x.live) same ∙ empty)
-  ends_last None (Some d) some empty same ends = absurd ends
-  ends_last (Some b) None some empty same ends = absurd ends
-  ends_last (Some b) (Some d) some empty same ends = (
+      → EndsAs early (option_map value taken) (option_map value ended)
+      → EndsLast early t.live u.live (option_map value ended)
+  ends_last early None None some empty same ends = (empty, ap (λ x. x.live) same ∙ empty)
+  ends_last early None (Some d) some empty same ends = absurd ends
+  ends_last early (Some b) None some empty same ends = absurd ends
+  ends_last early (Some b) (Some d) some empty same ends = (
     value b,
     record {
       five_tuple = some.five_tuple;
@@ -132,7 +121,7 @@ module _ {K B : Type 0} (value : B → Connection (TlsAnalysis K)) (t u : Table 
       → IfSome taken (λ b. IsTakenOut t u (value b)) → IfSome taken (λ b. open_part limit < t.held)
       → IfNone taken ((u.live ≡ t.live) × (u.held ≡ t.held))
       → IfNone taken (IsAccounted t → total u.live ≤ open_part limit)
-      → EndsAs (option_map value taken) (option_map value ended)
+      → EndsAs true (option_map value taken) (option_map value ended)
       → Evicts limit t u (option_map value ended)
   ends_evicted limit None None some evicted same within ends = (same.0, within)
   ends_evicted limit None (Some d) some evicted same within ends = absurd ends

@@ -1,13 +1,15 @@
 -- Which memory is accounted for the connections after a step, and which closed ones are forgotten.
-use Rattle.std.proofs.Common.{◌≡◌, refl, sym, ap, ◌∙◌, subst, Option, Some, None, List, [], ◌∷◌, ◌++◌, length, append-nil, append_assoc, Bool, true, false, ℕ, ◌+◌, ◌-◌, ◌<◌, ◌≤◌, ◌^◌, arith}
+use Rattle.std.proofs.Common.{◌≡◌, refl, sym, ap, ◌∙◌, subst, Option, Some, None, List, [], ◌∷◌, length, take, Bool, true, false, ℕ, ◌+◌, ◌-◌, ◌<◌, ◌≤◌, ◌^◌, arith}
 use Rattle.std.proofs.lemmas.Bool.{ltb-false}
+use Rattle.std.proofs.lemmas.List.{take_all}
 use Rattle.std.specs.Prelude.{nat_lt, IfNone, IfSome, OnOk, Result, Ok, Err, is_some, not, ◌&&◌, ◌||◌}
 use Rattle.std.specs.Map.{set_value}
 use Rattle.std.specs.Option.{option_map}
+use Rattle.connections.proofs.MemoryLemmas.{front_of_front}
 use Rattle.connections.proofs.TableLemmas.{is_five_tuple-refl}
 use Rattle.connections.specs.Connection.{dropped_from, held_by, is_datagram_damaged, lets_in}
 use Rattle.connections.specs.FiveTuple.{is_five_tuple}
-use Rattle.connections.specs.Memory.{FitsClosed, IsFront, IsSettled, closed_count, is_over_limit, most_weight, open_part}
+use Rattle.connections.specs.Memory.{FitsClosed, IsSettled, closed_count, is_over_limit, most_weight, open_part}
 use Rattle.connections.specs.Segment.{begins, begins_one, five_tuple_of, has_data}
 use Rattle.connections.specs.Table.{IsForgotten, Puts, Table, at, belongs, ended}
 use Rattle.connections.specs.Table.IsForgotten.{none, one}
@@ -115,7 +117,7 @@ module _ {K : Type 0} where
   none_open f (Some c) h = cc
 
   -- What holds of a table holds after a connection that isn't over was left in it.
-  ended_as : (o over : Option (Connection (TlsAnalysis K))) → EndsAs o over → over ≡ None
+  ended_as : (o over : Option (Connection (TlsAnalysis K))) → EndsAs false o over → over ≡ None
       → is_some o ≡ false
   ended_as None over ends missed = refl
   ended_as (Some c) None ends missed = absurd ends
@@ -192,6 +194,36 @@ datagram_more W V f None w = f w
 datagram_more W V f (Some true) w = tt
 datagram_more W V f (Some false) w = f w
 
+-- Only a segment that isn't let in is counted.
+pub let_in_counts : (o : Option Verdict) (P : Verdict → Type 0)
+    → option_map lets_in o ≡ Some true → IfSome o (λ v. lets_in v ≡ false → P v)
+let_in_counts None P h = tt
+let_in_counts (Some v) P h = λ missed. cc
+
+pub none_counts : (o : Option Verdict) (P : Verdict → Type 0) → o ≡ None
+    → IfSome o (λ v. lets_in v ≡ false → P v)
+none_counts None P h = tt
+none_counts (Some v) P h = cc
+
+pub judged_counts : (o : Option Verdict) (v : Verdict) (P : Verdict → Type 0) → o ≡ Some v → P v
+    → IfSome o (λ w. lets_in w ≡ false → P w)
+judged_counts o v P is p =
+    subst (λ q. IfSome q (λ w. lets_in w ≡ false → P w)) (sym is) (λ missed. p)
+
+-- One that is let in, or judged, has an open connection.
+pub let_in_open : {W : Type 0} (o : Option Verdict) → option_map lets_in o ≡ Some true → o ≡ None
+    → W
+let_in_open None h missed = cc
+let_in_open (Some v) h missed = cc
+
+-- What holds if there is none.
+pub given_none : {A : Type 0} (o : Option A) (W : Type 0) → IfNone o W → is_some o ≡ false → W
+given_none None W h is = h
+given_none (Some x) W h is = cc
+
+pub judged_open : {W : Type 0} (o : Option Verdict) (v : Verdict) → o ≡ Some v → o ≡ None → W
+judged_open o v is missed = cc
+
 pub datagram_weighs : (W : Type 0) (o : Option Bool) → W → WhereDatagram o W
 datagram_weighs W None w = w
 datagram_weighs W (Some true) w = tt
@@ -220,31 +252,31 @@ module _ (time : ℕ) where
   forgotten_then h none = h
   forgotten_then h (one ws zs e before is over) = one ws zs e (forgotten_then h before) is over
 
-pub front_then : (xs ys zs : List (FiveTuple × ℕ)) → IsFront xs ys → IsFront ys zs → IsFront xs zs
-front_then xs ys zs f k = record {
-  rest = k.rest ++ f.rest;
-  stood = f.stood ∙ ap (λ l. l ++ f.rest) k.stood ∙ append_assoc zs k.rest f.rest;
-}
-
 no_other : (a b : Bool) → (a || b) ≡ false → b ≡ false
 no_other false b h = h
 no_other true b h = cc
 
 pub fits_still : {K : Type 0} (limit : ℕ) (t : Table (TlsAnalysis K)) (b : Bool) → b ≡ false
     → b ≡ is_over_limit limit t → FitsClosed limit t.closed t.closed
-fits_still limit t b is same = record {
-  latest = record { rest = []; stood = sym (append-nil t.closed) };
-  fits = ltb-false (closed_count limit) (length t.closed)
-      (no_other (nat_lt (open_part limit) t.held) (nat_lt (closed_count limit) (length t.closed))
-      (sym same ∙ is));
-}
+fits_still limit t b is same =
+    sym (take_all (closed_count limit) t.closed
+    (ltb-false (closed_count limit) (length t.closed)
+    (no_other (nat_lt (open_part limit) t.held) (nat_lt (closed_count limit) (length t.closed))
+    (sym same ∙ is))))
 
-pub fits_then : (n m : ℕ) (xs ys zs : List (FiveTuple × ℕ)) → m ≡ n → IsFront xs ys
-    → FitsClosed m ys zs → FitsClosed n xs zs
-fits_then n m xs ys zs same f fits = record {
-  latest = front_then xs ys zs f fits.latest;
-  fits = subst (λ l. length zs ≤ closed_count l) same fits.fits;
-}
+-- As many are left as before of those that fit.
+pub fits_same : (n m : ℕ) (xs ys zs : List (FiveTuple × ℕ)) → m ≡ n
+    → take (closed_count n) ys ≡ take (closed_count n) xs → FitsClosed m ys zs
+    → zs ≡ take (closed_count n) xs
+fits_same n m xs ys zs same front fits =
+    fits ∙ ap (λ l. take (closed_count l) ys) same ∙ front
+
+pub fits_again : (n m : ℕ) (xs ys zs : List (FiveTuple × ℕ)) → m ≡ n
+    → take (closed_count n) ys ≡ take (closed_count n) xs → FitsClosed m ys zs
+    → take (closed_count n) zs ≡ take (closed_count n) xs
+fits_again n m xs ys zs same front fits =
+    ap (take (closed_count n)) (fits_same n m xs ys zs same front fits)
+    ∙ front_of_front (closed_count n) (closed_count n) xs (omega arith)
 
 -- Three clauses about one result.
 pub three_ok : {A E : Type 0} (r : Result A E) (P Q R S : Type 0) → (P → Q → R → S) → OnOk r P

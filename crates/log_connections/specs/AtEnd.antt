@@ -6,7 +6,7 @@ use Rattle.connections.specs.Waiting.{Kept}
 use Rattle.connections.specs.declared.connection.Connection.{Connection}
 use Rattle.connections.specs.declared.pending.PendingOutcome.TheVariants as outcome
 use Rattle.connections.specs.declared.pending.TheConstants.{MAX_PENDING}
-use Rattle.log_connections.specs.Sides.{AnalyzesKept, ChangesAnalysis}
+use Rattle.log_connections.specs.Sides.{AnalyzesKept, ChangesAnalysis, IsOnItsOwn}
 use Rattle.log_connections.specs.declared.analysis.TlsAnalysis.{TlsAnalysis}
 
 module _ {K : Type 0} where
@@ -17,7 +17,7 @@ module _ {K : Type 0} where
     had : outcome_at_end c ≡ Some outcome.Had → c' ≡ left_at_end c → AnalyzesOneAtEnd c c' true
     taken :
         (k : Kept) → outcome_at_end c ≡ Some (outcome.Taken k)
-        → AnalyzesKept k (left_at_end c) c' → AnalyzesOneAtEnd c c' true
+        → AnalyzesKept IsOnItsOwn k (left_at_end c) c' → AnalyzesOneAtEnd c c' true
 
   -- Those that count as taken are analyzed one by one, at most this many.
   pub data AnalyzesAtEnd

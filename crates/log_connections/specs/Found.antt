@@ -1,7 +1,8 @@
 -- How a connection that is over counts.
-use Rattle.std.specs.Prelude.{◌≡◌, Bool, true, false, ◌||◌}
+use Rattle.std.specs.Prelude.{◌≡◌, Bool, true, false, ◌||◌, length}
 use Rattle.arrivals.specs.Counts.{one_more}
 use Rattle.arrivals.specs.declared.counts.Counts.{Counts}
+use Rattle.arrivals.specs.declared.reader.ArrivalReader.{ArrivalReader}
 use Rattle.connections.specs.Stream.{lacks}
 use Rattle.connections.specs.declared.connection.Connection.{Connection}
 use Rattle.connections.specs.declared.connection.Side.TheVariants.{Originator, Responder}
@@ -28,6 +29,16 @@ with_outcome _ c = c
 abbrev pub with_gap : Bool → Counts → Counts
 with_gap true c = record c { gaps = one_more c.gaps }
 with_gap false c = c
+
+-- Only connections that ended early may be counted.
+abbrev pub MayCountEarly : Counts → Counts → Type 0
+MayCountEarly old new = new ≡ record old { ended_early = new.ended_early }
+
+-- The datagrams that were dropped or cut short in reassembly are counted, as the reader has them.
+abbrev pub HasCut : ArrivalReader → Counts → Type 0
+HasCut r c =
+    (c.late ≡ r.fragments.late) × (c.evicted ≡ r.fragments.evicted)
+    × (c.cut_short ≡ length r.fragments.waiting)
 
 module _ {K : Type 0} where
   -- Bytes of one of its streams are missing, or the first messages of a side.

@@ -88,11 +88,12 @@ beginning_by_search answers last skipped b =
     else beginning_behind answers last skipped b
 
 -- Where TLS begins on a side. Behind a known dialogue it begins with the next byte, whatever that
--- is, or nowhere if the dialogue goes on without TLS. While the dialogue is followed, both sides
--- wait. Where none is known, TLS is searched for.
+-- is, once 6 bytes show whether the side is the client or the server; or nowhere if the dialogue
+-- goes on without TLS. While the dialogue is followed, both sides wait. Where none is known, TLS is
+-- searched for.
 abbrev pub beginning_in : State → Bool → Bool → ℕ → Bytes → Start
 beginning_in (GoesOn tunnel p i j) answers last skipped b = Waits
-beginning_in (Tls p) answers last skipped b = Next
+beginning_in (Tls p) answers last skipped b = if nat_lt 5 (length b) || last then Next else Waits
 beginning_in Plain answers last skipped b = Nowhere
 beginning_in Unknown answers last skipped b = beginning_by_search answers last skipped b
 

@@ -8,7 +8,7 @@ use Rattle.arrivals.specs.declared.arrival.Arrival.{Arrival}
 use Rattle.arrivals.specs.declared.arrival.Arrival.TheVariants as arrival
 use Rattle.arrivals.specs.declared.counts.Counts.{Counts}
 use Rattle.arrivals.specs.declared.reader.ArrivalReader.{ArrivalReader}
-use Rattle.connections.specs.Connection.{is_datagram_damaged, lets_in, shows_damage, side_of, verdict_of}
+use Rattle.connections.specs.Connection.{is_datagram_damaged, is_for_checksum, lets_in, shows_damage, side_of, verdict_of}
 use Rattle.connections.specs.Datagram.{five_tuple_of_datagram}
 use Rattle.connections.specs.Memory.{IsSettled}
 use Rattle.connections.specs.Segment.{begins, five_tuple_of, has_data, is_refused}
@@ -24,6 +24,7 @@ use Rattle.connections.specs.declared.five_tuple.FiveTuple.{FiveTuple}
 use Rattle.connections.specs.declared.five_tuple.Protocol.TheVariants.{Tcp, Udp}
 use Rattle.connections.specs.declared.pending.PendingOutcome.TheVariants as outcome
 use Rattle.connections.specs.declared.pending.TheConstants.{MAX_PENDING}
+use Rattle.connections.specs.declared.receiver.DropReason.{DropReason}
 use Rattle.connections.specs.declared.receiver.Judgement.{Judgement}
 use Rattle.connections.specs.declared.receiver.Judgement.TheVariants as judgement
 use Rattle.connections.specs.declared.segment.Segment.{Segment}
@@ -55,6 +56,11 @@ IsReceived (reception.Received closed) v = option_map lets_in v ≡ Some true
 IsReceived (reception.Judged verdict) v = (v ≡ Some verdict) × (lets_in verdict ≡ false)
 IsReceived reception.NoneOpen v = v ≡ None
 
+abbrev pub is_received : Reception → Bool
+is_received (reception.Received closed) = true
+is_received (reception.Judged verdict) = false
+is_received reception.NoneOpen = false
+
 -- Whether both sides closed its connection then.
 abbrev pub IsClosedAs : Reception → Bool → Type 0
 IsClosedAs (reception.Received closed) is_closed = closed ≡ is_closed
@@ -67,6 +73,10 @@ abbrev pub damaged_if : Bool → Counts → Counts
 damaged_if true c = record c { damaged = one_more c.damaged }
 damaged_if false c = c
 
+abbrev pub counting_dropped : DropReason → ArrivalReader → ArrivalReader
+counting_dropped reason r =
+    record r { counts = damaged_if (is_for_checksum reason) r.counts }
+
 abbrev pub stray_if : Bool → Counts → Counts
 stray_if true c = record c { stray_segments = one_more c.stray_segments }
 stray_if false c = c
@@ -75,22 +85,54 @@ abbrev pub with_stray : Segment → Counts → Counts
 with_stray s c =
     if is_refused s.checksum then damaged_if true c else stray_if (has_data s) c
 
+abbrev pub counting_stray : Segment → ArrivalReader → ArrivalReader
+counting_stray s r = record r { counts = with_stray s r.counts }
+
+-- A connection that ended early is counted, unless it was before.
+abbrev pub counting_early : Bool → ArrivalReader → ArrivalReader
+counting_early true r = r
+counting_early false r =
+    record r { counts = record r.counts { ended_early = one_more r.counts.ended_early } }
+
+-- A segment that its open connection's receiver drops, or that waits, is counted by the reason
+-- against it.
+abbrev pub CountsJudged : Judgement → ArrivalReader → ArrivalReader → Type 0
+CountsJudged judgement.Taken r r' = ⊤
+CountsJudged judgement.Again r r' = ⊤
+CountsJudged (judgement.Waiting reason) r r' = r' ≡ counting_dropped reason r
+CountsJudged (judgement.Dropped reason) r r' = r' ≡ counting_dropped reason r
+
+abbrev pub CountsIf : Bool → Bool → Judgement → ArrivalReader → ArrivalReader → Type 0
+CountsIf true begins_another j r r' = ⊤
+CountsIf false true j r r' = ⊤
+CountsIf false false j r r' = CountsJudged j r r'
+
+abbrev pub CountsBy : Verdict → ArrivalReader → ArrivalReader → Type 0
+CountsBy v r r' = CountsIf v.shows_damage v.begins_another v.judgement r r'
+
 module _ {K : Type 0} where
   -- The segment's connection takes it, and the next bytes of its sender's stream are analyzed. One
   -- that begins has analyzed nothing before. All other connections stay.
-  pub record AnalyzesSegment (s : Segment) (old new : Table (TlsAnalysis K)) : Type 0 where
+  pub record AnalyzesSegment (Prepares : TlsAnalysis K → TlsAnalysis K → Type 0) (s : Segment)
+      (old new : Table (TlsAnalysis K)) : Type 0 where
     pub put : Connection (TlsAnalysis K)
     pub its : Connection (TlsAnalysis K)
     pub takes : TakesSegment s (at (five_tuple_of s) old.live) put
     pub begun : at (five_tuple_of s) old.live ≡ None → IsBegun Tcp put.attachment
-    pub receives : AnalyzesSide s (side_of put s.source) put its
+    pub receives : AnalyzesSide Prepares s (side_of put s.source) put its
     pub stands : new.live ≡ (five_tuple_of s, its) ∷ others (five_tuple_of s) old.live
     pub closed : new.closed ≡ closed_behind true s old
 
   -- A segment without a connection changes none.
   abbrev pub Logs : Bool → Segment → Table (TlsAnalysis K) → Table (TlsAnalysis K) → Type 0
-  Logs true s old new = AnalyzesSegment s old new
+  Logs true s old new = AnalyzesSegment IsReady s old new
   Logs false s old new = new ≡ old
+
+  -- The connection of a segment that is analyzed was prepared in this way for its packet.
+  abbrev pub IsPreparedIf : Bool → (TlsAnalysis K → TlsAnalysis K → Type 0) → Segment
+      → Table (TlsAnalysis K) → Table (TlsAnalysis K) → Type 0
+  IsPreparedIf true Prepares s old new = AnalyzesSegment Prepares s old new
+  IsPreparedIf false Prepares s old new = ⊤
 
   -- What its open connection's receiver does with a segment; and whether both sides closed it.
   abbrev pub verdict_in : Segment → Table (TlsAnalysis K) → Option Verdict
@@ -101,14 +143,14 @@ module _ {K : Type 0} where
 
   -- A segment that its open connection analyzed is logged. For any other nothing changes.
   abbrev pub LogsOpen : Reception → Segment → Table (TlsAnalysis K) → Table (TlsAnalysis K) → Type 0
-  LogsOpen (reception.Received closed) s old new = AnalyzesSegment s old new
+  LogsOpen (reception.Received closed) s old new = AnalyzesSegment IsReady s old new
   LogsOpen (reception.Judged verdict) s old new = new ≡ old
   LogsOpen reception.NoneOpen s old new = new ≡ old
 
   -- A closed connection ends, and counts as closed from then on. Any other stays.
   pub record EndsClosed (s : Segment) (old new : Table (TlsAnalysis K))
       (over : Option (Connection (TlsAnalysis K))) : Type 0 where
-    pub ends : EndsAs (ended (five_tuple_of s) old) over
+    pub ends : EndsAs false (ended (five_tuple_of s) old) over
     pub left : new ≡ without_ended (five_tuple_of s) s.time old
 
   -- The connection of an analyzed segment ends if it is closed.
@@ -123,7 +165,7 @@ module _ {K : Type 0} where
   abbrev pub TakesIf : Bool → Segment → Table (TlsAnalysis K) → Table (TlsAnalysis K)
       → Option (Connection (TlsAnalysis K)) → Type 0
   TakesIf true s old new over =
-      (mid : Table (TlsAnalysis K)) × AnalyzesSegment s old mid × EndsClosed s mid new over
+      (mid : Table (TlsAnalysis K)) × AnalyzesSegment IsReady s old mid × EndsClosed s mid new over
   TakesIf false s old new over = (new ≡ old) × (over ≡ None)
 
   abbrev pub TakesIn : Segment → Table (TlsAnalysis K) → Table (TlsAnalysis K)
@@ -131,9 +173,10 @@ module _ {K : Type 0} where
   TakesIn s old new over = TakesIf (belongs s old) s old new over
 
   -- A pending segment is analyzed. Its connection comes first then, and all others stay.
-  abbrev pub AnalyzesPending : FiveTuple → Kept → Table (TlsAnalysis K) → Table (TlsAnalysis K)
-      → Type 0
-  AnalyzesPending e k old new = ComesFirst e (AnalyzesKept k) (at e old.live) old new
+  abbrev pub AnalyzesPending : (TlsAnalysis K → TlsAnalysis K → Type 0) → FiveTuple → Kept
+      → Table (TlsAnalysis K) → Table (TlsAnalysis K) → Type 0
+  AnalyzesPending Prepares e k old new =
+      ComesFirst e (AnalyzesKept Prepares k) (at e old.live) old new
 
   -- A pending segment that a segment acknowledges is taken out, and analyzed if bytes of it are
   -- missing; or there is none.
@@ -144,7 +187,7 @@ module _ {K : Type 0} where
         → AnalyzesOne s old new true
     taken :
         (k : Kept) → pending_outcome_in s old ≡ Some (outcome.Taken k)
-        → AnalyzesPending (five_tuple_of s) k (without_pending_segment s old) new
+        → AnalyzesPending IsReady (five_tuple_of s) k (without_pending_segment s old) new
         → AnalyzesOne s old new true
 
   -- The pending segments that a segment acknowledges are analyzed one by one, at most this many.
@@ -188,7 +231,7 @@ module _ {K : Type 0} where
     pub replaced : Replaced s old mid was
     pub begun : IfSome was (λ _. HasBegun IsBegun Tcp (five_tuple_of s) mid.live)
     pub logs : Logs (belongs s mid) s mid new
-    pub ends : EndsAs was over
+    pub ends : EndsAs false was over
 
   -- Memory was refused for a segment that begins another connection, before or behind the moment
   -- when that took the place of the open one, which ended then.
@@ -197,7 +240,7 @@ module _ {K : Type 0} where
     before_another : new ≡ old → RefusesInAnother s old new None
     behind_another :
         (was over : Option (Connection (TlsAnalysis K))) (mid : Table (TlsAnalysis K))
-        → Replaced s old mid was → EndsAs was over
+        → Replaced s old mid was → EndsAs false was over
         → KeepsOthers (five_tuple_of s) mid.live new.live → RefusesInAnother s old new over
 
   abbrev pub AcceptsJudged : Judgement → Bool → Segment → Table (TlsAnalysis K)
@@ -251,10 +294,10 @@ module _ {K : Type 0} where
   RefusesSegment s old new over = RefusesAt (verdict_in s old) s old new over
 
   -- A datagram, or the DTLS datagram inside it, is analyzed. Everything else in the exchange stays.
-  abbrev pub AnalyzesFrom : Datagram → Connection (TlsAnalysis K) → Connection (TlsAnalysis K)
-      → Type 0
-  AnalyzesFrom d c c' =
-      (a : TlsAnalysis K) × IsReady c.attachment a
+  abbrev pub AnalyzesFrom : (TlsAnalysis K → TlsAnalysis K → Type 0) → Datagram
+      → Connection (TlsAnalysis K) → Connection (TlsAnalysis K) → Type 0
+  AnalyzesFrom Prepares d c c' =
+      (a : TlsAnalysis K) × Prepares c.attachment a
       × AnalyzesDatagram (side_of c d.source) (held_datagram d.payload.now) a c'.attachment
       × (c' ≡ record c { attachment = c'.attachment })
 
@@ -267,12 +310,13 @@ module _ {K : Type 0} where
       shows_damage (side_of c d.source) d.checksum c ≡ true → IsBegun c.protocol put.attachment
 
   -- The datagram's exchange takes and analyzes it. All others stay.
-  pub record LogsDatagram (d : Datagram) (old new : Table (TlsAnalysis K)) : Type 0 where
+  pub record LogsDatagram (Prepares : TlsAnalysis K → TlsAnalysis K → Type 0) (d : Datagram)
+      (old new : Table (TlsAnalysis K)) : Type 0 where
     pub put : Connection (TlsAnalysis K)
     pub its : Connection (TlsAnalysis K)
     pub takes : TakesDatagram d (at (five_tuple_of_datagram d) old.live) put
     pub begun : IsBegunBy d (at (five_tuple_of_datagram d) old.live) put
-    pub receives : AnalyzesFrom d put its
+    pub receives : AnalyzesFrom Prepares d put its
     pub stands : new.live ≡ (five_tuple_of_datagram d, its) ∷ others
         (five_tuple_of_datagram d) old.live
     pub closed : new.closed ≡ old.closed
@@ -302,15 +346,23 @@ module _ {K : Type 0} where
   -- nothing changes.
   abbrev pub LogsExchange : Delivery → Datagram → Table (TlsAnalysis K)
       → Table (TlsAnalysis K) → Type 0
-  LogsExchange delivery.Received d old new = LogsDatagram d old new
+  LogsExchange delivery.Received d old new = LogsDatagram IsReady d old new
   LogsExchange delivery.Damaged d old new = DropsDatagram d true old new
   LogsExchange delivery.BeginsAnother d old new = new ≡ old
   LogsExchange delivery.NoneOpen d old new = new ≡ old
 
+  -- The exchange of one that is analyzed was prepared in this way for its packet.
+  abbrev pub IsPreparedAt : Delivery → (TlsAnalysis K → TlsAnalysis K → Type 0) → Datagram
+      → Table (TlsAnalysis K) → Table (TlsAnalysis K) → Type 0
+  IsPreparedAt delivery.Received Prepares d old new = LogsDatagram Prepares d old new
+  IsPreparedAt delivery.Damaged Prepares d old new = ⊤
+  IsPreparedAt delivery.BeginsAnother Prepares d old new = ⊤
+  IsPreparedAt delivery.NoneOpen Prepares d old new = ⊤
+
   -- A datagram begins an exchange, unless no receiver takes it.
   abbrev pub BeginsUnless : Bool → Datagram → Table (TlsAnalysis K) → Table (TlsAnalysis K) → Type 0
   BeginsUnless true d old new = new ≡ old
-  BeginsUnless false d old new = LogsDatagram d old new
+  BeginsUnless false d old new = LogsDatagram IsReady d old new
 
   -- Another exchange begins with the datagram in place of the open one.
   pub record LogsInAnother (d : Datagram) (old new : Table (TlsAnalysis K))
@@ -318,12 +370,12 @@ module _ {K : Type 0} where
     pub mid : Table (TlsAnalysis K)
     pub begins : BeginsAfter d (at (five_tuple_of_datagram d) old.live) old mid
     pub begun : HasBegun IsBegun Udp (five_tuple_of_datagram d) mid.live
-    pub logs : LogsDatagram d mid new
+    pub logs : LogsDatagram IsReady d mid new
     pub was : over ≡ at (five_tuple_of_datagram d) old.live
 
   abbrev pub AcceptsDelivered : Delivery → Datagram → Table (TlsAnalysis K) → Table (TlsAnalysis K)
       → Option (Connection (TlsAnalysis K)) → Type 0
-  AcceptsDelivered delivery.Received d old new over = LogsDatagram d old new × (over ≡ None)
+  AcceptsDelivered delivery.Received d old new over = LogsDatagram IsReady d old new × (over ≡ None)
   AcceptsDelivered delivery.Damaged d old new over = DropsDatagram d true old new × (over ≡ None)
   AcceptsDelivered delivery.BeginsAnother d old new over = LogsInAnother d old new over
   AcceptsDelivered delivery.NoneOpen d old new over =

@@ -13,7 +13,7 @@ use Rattle.packets.specs.Section.{Packet}
 use Rattle.log_connections.specs.Analysis.{are_passed}
 use Rattle.log_connections.specs.Log.{Accepts, KeepsOthers, Refuses, uncounted, with_disagreeing}
 use Rattle.log_connections.specs.Reading.{Content, Holds, HoldsInside, InFragments, NeedsMemory, Nothing, Whole}
-use Rattle.log_connections.specs.Sink.{Adds, EndsAfterRefusal, IsOverLimit, IsIdle, IsOfMemory, IsOfSink, PassesAllButLast, PassesEnded, StopsAfterRefusal, TakesPieces}
+use Rattle.log_connections.specs.Sink.{Adds, EndsAfterRefusal, IsOverLimit, IsIdle, IsOfMemory, IsOfSink, PassesAllButLast, PassesEnded, StopsAfterRefusal, TakesPieces, as_list}
 use Rattle.log_connections.specs.declared.analysis.PieceKind.{PieceKind}
 use Rattle.log_connections.specs.declared.analysis.TlsAnalysis.{TlsAnalysis}
 use Rattle.log_connections.specs.declared.sink.LogError.{LogError}
@@ -22,6 +22,11 @@ use Rattle.log_connections.specs.declared.sink.LogError.{LogError}
 abbrev pub passes_on : Option PieceKind → Bool
 passes_on None = false
 passes_on (Some kind) = are_passed kind
+
+-- The sink is lent an open connection, if pieces are passed on.
+abbrev pub lent_if : {X : Type 0} → Bool → Option X → List X
+lent_if true o = as_list o
+lent_if false o = []
 
 module _ {K : Type 0} where
   -- The sink was lent an open connection, to take its pieces. All others stay.
@@ -62,6 +67,21 @@ module _ {K : Type 0} (M : K → ℕ) where
         → EndsAfterRefusal (five_tuple_in a) over mid.live new.live before after
         → Arrives a old new before after
 
+  -- The sink is lent the connection of an arrival, if pieces are passed on, unless a connection is
+  -- over by the arrival, or memory was refused for it.
+  pub data Lends (passes : Bool) (a : Arrival) (old : Table (TlsAnalysis K))
+      (before after : Option (List (Connection (TlsAnalysis K)))) : Type 0 where
+    open_one :
+        (mid : Table (TlsAnalysis K)) → Accepts M a old mid None
+        → Adds before after (lent_if passes (at (five_tuple_in a) mid.live))
+        → Lends passes a old before after
+    over_one :
+        (new : Table (TlsAnalysis K)) (over : Connection (TlsAnalysis K))
+        → Accepts M a old new (Some over) → Adds before after [] → Lends passes a old before after
+    refused_one :
+        (mid : Table (TlsAnalysis K)) (over : Option (Connection (TlsAnalysis K)))
+        → Refuses a old mid over → Lends passes a old before after
+
   -- The sink refused the connection that is over by an arrival, its pieces, or one of those that
   -- end without memory for the arrival; or there was none to end. All others stay.
   pub data StopsArriving {E : Type 0} (a : Arrival) (error : LogError E)
@@ -89,12 +109,12 @@ module _ {K : Type 0} (M : K → ℕ) where
     pub full : Table (TlsAnalysis K)
     pub first : Option (List (Connection (TlsAnalysis K)))
     pub second : Option (List (Connection (TlsAnalysis K)))
-    pub idle : PassesEnded (IsIdle (time_of a)) old.live awake.live before first
+    pub idle : PassesEnded false (IsIdle (time_of a)) old.live awake.live before first
     pub none_idle : NoneIsOver (time_of a) awake.live
     pub forgotten : IsForgotten (time_of a) old.closed awake.closed
     pub none_to_forget : NoneToForget (time_of a) awake.closed
     pub arrives : Arrives a awake full first second
-    pub evicted : PassesEnded (IsOverLimit full limit) full.live new.live second after
+    pub evicted : PassesEnded true (IsOverLimit full limit) full.live new.live second after
     pub within : IsAccounted old → total new.live ≤ open_part limit
     pub closed : FitsClosed limit full.closed new.closed
 
@@ -103,19 +123,21 @@ module _ {K : Type 0} (M : K → ℕ) where
   pub data Stops {E : Type 0} (a : Arrival) (limit : ℕ) (error : LogError E)
       (old new : Table (TlsAnalysis K))
       (before after : Option (List (Connection (TlsAnalysis K)))) : Type 0 where
-    at_idle : IsOfSink error → PassesAllButLast (IsIdle (time_of a)) old.live new.live before after
+    at_idle :
+        IsOfSink error
+        → PassesAllButLast false (IsIdle (time_of a)) old.live new.live before after
         → Stops a limit error old new before after
     at_arrival :
         (awake : Table (TlsAnalysis K)) (first : Option (List (Connection (TlsAnalysis K))))
-        → PassesEnded (IsIdle (time_of a)) old.live awake.live before first
+        → PassesEnded false (IsIdle (time_of a)) old.live awake.live before first
         → NoneIsOver (time_of a) awake.live → StopsArriving a error awake new first after
         → Stops a limit error old new before after
     at_eviction :
         (awake full : Table (TlsAnalysis K))
         (first second : Option (List (Connection (TlsAnalysis K))))
-        → PassesEnded (IsIdle (time_of a)) old.live awake.live before first
+        → PassesEnded false (IsIdle (time_of a)) old.live awake.live before first
         → NoneIsOver (time_of a) awake.live → Arrives a awake full first second → IsOfSink error
-        → PassesAllButLast (IsOverLimit full limit) full.live new.live second after
+        → PassesAllButLast true (IsOverLimit full limit) full.live new.live second after
         → Stops a limit error old new before after
 
   -- An arrival in a reassembled datagram is processed. Bytes that differed in its fragments are

@@ -1,5 +1,5 @@
 -- What a segment does to its connection's analysis.
-use Rattle.std.specs.Prelude.{◌≡◌, Bool, true, false, ◌&&◌}
+use Rattle.std.specs.Prelude.{◌≡◌, Bool, true, false, ◌&&◌, Option}
 use Rattle.connections.specs.Connection.{AcceptsKept, has_opening, side_of}
 use Rattle.connections.specs.Segment.{has_data, header_of}
 use Rattle.connections.specs.Stream.{is_cut_short}
@@ -8,7 +8,9 @@ use Rattle.connections.specs.declared.connection.Connection.{Connection}
 use Rattle.connections.specs.declared.connection.Side.{Side}
 use Rattle.connections.specs.declared.connection.Side.TheVariants.{Originator, Responder}
 use Rattle.connections.specs.declared.segment.Segment.{Segment}
-use Rattle.log_connections.specs.Analysis.{AnalyzesOn, AnalyzesStream, FollowsOnce, is_followed_in, undialogued}
+use Rattle.tunnels.specs.declared.tunnel.Tunnels.{Tunnels}
+use Rattle.log_connections.specs.Analysis.{AnalyzesOn, AnalyzesStream, FollowsOnce, IsPrepared, is_followed_in, undialogued}
+use Rattle.log_connections.specs.declared.analysis.PieceKind.{PieceKind}
 use Rattle.log_connections.specs.declared.analysis.TlsAnalysis.{TlsAnalysis}
 
 module _ {K : Type 0} where
@@ -20,20 +22,26 @@ module _ {K : Type 0} where
     attachment = d.attachment;
   }
 
-  -- A packet's tunnels are noted, and its pieces kept. Nothing else in the analysis changes.
+  -- A packet's tunnels are noted, and its pieces kept if any are. Nothing else in the analysis
+  -- changes.
   abbrev pub IsReady : TlsAnalysis K → TlsAnalysis K → Type 0
-  IsReady a b = b ≡ record a { tunnels = b.tunnels; collector = b.collector }
+  IsReady a b = (ts : Tunnels) × (kept : Option PieceKind) × IsPrepared ts kept a b
+
+  -- Once the connection is over, there is no packet to prepare for.
+  abbrev pub IsOnItsOwn : TlsAnalysis K → TlsAnalysis K → Type 0
+  IsOnItsOwn a b = b ≡ a
 
   -- The next bytes of a side's stream are analyzed. Everything else in the connection stays, the
   -- other side's stream included.
-  abbrev pub AnalyzesSender : Segment → Side → Connection (TlsAnalysis K)
-      → Connection (TlsAnalysis K) → Type 0
-  AnalyzesSender s Originator c c' =
-      (a : TlsAnalysis K) × IsReady c.attachment a
+  -- It was prepared for the segment's packet before.
+  abbrev pub AnalyzesSender : (TlsAnalysis K → TlsAnalysis K → Type 0) → Segment → Side
+      → Connection (TlsAnalysis K) → Connection (TlsAnalysis K) → Type 0
+  AnalyzesSender Prepares s Originator c c' =
+      (a : TlsAnalysis K) × Prepares c.attachment a
       × AnalyzesOn Originator (has_opening c) s c.from_originator c'.from_originator a c'.attachment
       × (c' ≡ record c { from_originator = c'.from_originator; attachment = c'.attachment })
-  AnalyzesSender s Responder c c' =
-      (a : TlsAnalysis K) × IsReady c.attachment a
+  AnalyzesSender Prepares s Responder c c' =
+      (a : TlsAnalysis K) × Prepares c.attachment a
       × AnalyzesOn Responder (has_opening c) s c.from_responder c'.from_responder a c'.attachment
       × (c' ≡ record c { from_responder = c'.from_responder; attachment = c'.attachment })
 
@@ -83,17 +91,18 @@ module _ {K : Type 0} where
 
   -- A segment's data leads the dialogue in front of TLS on, if one is followed. Then the next bytes
   -- of its sender are analyzed.
-  abbrev pub AnalyzesSide : Segment → Side → Connection (TlsAnalysis K) → Connection (TlsAnalysis K)
-      → Type 0
-  AnalyzesSide s side c c' = (d : Connection (TlsAnalysis K))
+  abbrev pub AnalyzesSide : (TlsAnalysis K → TlsAnalysis K → Type 0) → Segment → Side
+      → Connection (TlsAnalysis K) → Connection (TlsAnalysis K) → Type 0
+  AnalyzesSide Prepares s side c c' = (d : Connection (TlsAnalysis K))
       × FollowsIf (has_data s && is_followed_in c.attachment.transport) side c d
-      × AnalyzesSender s side d c'
+      × AnalyzesSender Prepares s side d c'
 
   -- A pending segment is added to its sender's stream, whose next bytes are analyzed.
-  pub record AnalyzesKept (k : Kept) (c c' : Connection (TlsAnalysis K)) : Type 0 where
+  pub record AnalyzesKept (Prepares : TlsAnalysis K → TlsAnalysis K → Type 0) (k : Kept)
+      (c c' : Connection (TlsAnalysis K)) : Type 0 where
     pub put : Connection (TlsAnalysis K)
     pub segment : Segment
     pub header : header_of segment ≡ k.header
     pub payload : segment.payload.now ≡ k.bytes
     pub accepts : AcceptsKept k c put
-    pub receives : AnalyzesSide segment (side_of put segment.source) put c'
+    pub receives : AnalyzesSide Prepares segment (side_of put segment.source) put c'

@@ -1,5 +1,5 @@
 -- The connections that a log passes to its sink.
-use Rattle.std.specs.Prelude.{◌≡◌, ⊤, ℕ, ◌<◌, ◌≤◌, IfSome, Bool, true, false, ◌||◌, is_some, Result, Ok, Err, List, [], ◌∷◌, ◌++◌, Option, Some, None}
+use Rattle.std.specs.Prelude.{◌≡◌, ⊤, ℕ, ◌<◌, ◌≤◌, Bool, true, false, ◌||◌, is_some, Result, Ok, Err, List, [], ◌∷◌, ◌++◌, Option, Some, None}
 use Rattle.connections.specs.Connection.{has_opening}
 use Rattle.connections.specs.Memory.{IsAccounted, open_part, total}
 use Rattle.connections.specs.Table.{IsOver, NoneIsOver, Table, at, others}
@@ -47,21 +47,20 @@ module _ {X : Type 0} where
 
 module _ {K : Type 0} where
   -- The dialogue in front of TLS is over. The last bytes of both streams, held back before, were
-  -- analyzed, and it may be marked as ended early. All else stays.
+  -- analyzed. All else stays.
   pub record AnalyzesLast (c c' : Connection (TlsAnalysis K)) : Type 0 where
     pub between : TlsAnalysis K
-    pub last : TlsAnalysis K
     pub originator :
         AnalyzesStream Originator (has_opening c) true c.from_originator c'.from_originator
         (undialogued c.attachment) between
     pub responder :
         AnalyzesStream Responder
-        (has_opening c) true c.from_responder c'.from_responder between last
+        (has_opening c) true c.from_responder c'.from_responder between c'.attachment
     pub same :
         c' ≡ record c {
           from_originator = c'.from_originator;
           from_responder = c'.from_responder;
-          attachment = record last { is_ended_early = c'.attachment.is_ended_early };
+          attachment = c'.attachment;
         }
 
   -- Memory was refused for the last bytes of one of its streams, which weren't all analyzed before.
@@ -70,25 +69,19 @@ module _ {K : Type 0} where
     at_originator :
         (last : TlsAnalysis K)
         → is_done Originator c.from_originator (undialogued c.attachment) ≡ false
-        → IsCutIn (undialogued c.attachment) last
-        → c' ≡ record c {
-          attachment = record last { is_ended_early = c'.attachment.is_ended_early };
-        }
+        → IsCutIn (undialogued c.attachment) last → c' ≡ record c { attachment = last }
         → IsCutOff c c'
     at_responder :
         (between last : TlsAnalysis K)
         → AnalyzesStream Originator (has_opening c) true c.from_originator c'.from_originator
         (undialogued c.attachment) between
         → is_done Responder c.from_responder between ≡ false → IsCutIn between last
-        → c' ≡ record c {
-          from_originator = c'.from_originator;
-          attachment = record last { is_ended_early = c'.attachment.is_ended_early };
-        }
+        → c' ≡ record c { from_originator = c'.from_originator; attachment = last }
         → IsCutOff c c'
 
-  -- It is marked as ended early.
-  abbrev pub marked_early : Connection (TlsAnalysis K) → Connection (TlsAnalysis K)
-  marked_early c = record c { attachment = record c.attachment { is_ended_early = true } }
+  -- It is marked as ended early, or not.
+  abbrev pub marked : Bool → Connection (TlsAnalysis K) → Connection (TlsAnalysis K)
+  marked early c = record c { attachment = record c.attachment { is_ended_early = early } }
 
   -- The pending segments that count as taken at the end were analyzed, and then the last bytes.
   abbrev pub AnalyzesRest : Connection (TlsAnalysis K) → Connection (TlsAnalysis K) → Type 0
@@ -100,47 +93,52 @@ module _ {K : Type 0} where
     at_last :
         (d : Connection (TlsAnalysis K)) → AnalyzesAllAtEnd c d → IsCutOff d c' → IsCutShort c c'
 
-  -- A connection ended: the rest was analyzed; or memory was refused for that, and it ended early.
-  pub data IsEnded (c c' : Connection (TlsAnalysis K)) : Type 0 where
-    wholly : AnalyzesRest c c' → IsEnded c c'
+  -- A connection ended, and its rest was analyzed. It is marked if it ended early, for lack of
+  -- memory. It did too if memory was refused for its rest.
+  pub data IsEnded (early : Bool) (c c' : Connection (TlsAnalysis K)) : Type 0 where
+    wholly :
+        (d : Connection (TlsAnalysis K)) → AnalyzesRest c d → c' ≡ marked early d
+        → IsEnded early c c'
     cut_off :
-        (d : Connection (TlsAnalysis K)) → IsCutShort c d → c' ≡ marked_early d → IsEnded c c'
+        (d : Connection (TlsAnalysis K)) → IsCutShort c d → c' ≡ marked true d
+        → IsEnded early c c'
 
-  abbrev pub EndsAs : Option (Connection (TlsAnalysis K)) → Option (Connection (TlsAnalysis K))
-      → Type 0
-  EndsAs None None = ⊤
-  EndsAs (Some c) (Some c') = IsEnded c c'
-  EndsAs c c' = ⊥
+  abbrev pub EndsAs : Bool → Option (Connection (TlsAnalysis K))
+      → Option (Connection (TlsAnalysis K)) → Type 0
+  EndsAs early None None = ⊤
+  EndsAs early (Some c) (Some c') = IsEnded early c c'
+  EndsAs early c c' = ⊥
 
   -- The longest-idle of these connections ended.
-  pub record IsLastEnded (xs ys : List (FiveTuple × Connection (TlsAnalysis K)))
+  pub record IsLastEnded (early : Bool) (xs ys : List (FiveTuple × Connection (TlsAnalysis K)))
       (c c' : Connection (TlsAnalysis K)) : Type 0 where
     pub five_tuple : FiveTuple
     pub stood : xs ≡ ys ++ (five_tuple, c) ∷ []
-    pub ended : IsEnded c c'
+    pub ended : IsEnded early c c'
 
   -- The longest-idle one ended, or there is none.
-  abbrev pub EndsLast : List (FiveTuple × Connection (TlsAnalysis K))
+  abbrev pub EndsLast : Bool → List (FiveTuple × Connection (TlsAnalysis K))
       → List (FiveTuple × Connection (TlsAnalysis K)) → Option (Connection (TlsAnalysis K)) → Type 0
-  EndsLast xs ys None = (xs ≡ []) × (ys ≡ [])
-  EndsLast xs ys (Some c') = (c : Connection (TlsAnalysis K)) × IsLastEnded xs ys c c'
+  EndsLast early xs ys None = (xs ≡ []) × (ys ≡ [])
+  EndsLast early xs ys (Some c') =
+      (c : Connection (TlsAnalysis K)) × IsLastEnded early xs ys c c'
 
   -- The longest-idle connection ended if it was idle for longer than the limit, or there are too
   -- many; else none ended.
   abbrev pub EndsIdle : ℕ → List (FiveTuple × Connection (TlsAnalysis K))
       → List (FiveTuple × Connection (TlsAnalysis K)) → Option (Connection (TlsAnalysis K)) → Type 0
   EndsIdle time xs ys None = (ys ≡ xs) × NoneIsOver time xs
-  EndsIdle time xs ys (Some c') = (c : Connection (TlsAnalysis K)) × IsLastEnded xs ys c c'
+  EndsIdle time xs ys (Some c') = (c : Connection (TlsAnalysis K)) × IsLastEnded false xs ys c c'
       × IsOver time xs c.last_time
 
-  -- The longest-idle connection ended if the open ones exceed their part of the memory limit; else
+  -- The longest-idle connection ended early if the open ones exceed their part of the limit; else
   -- none ended, and they are within it.
   abbrev pub Evicts : ℕ → Table (TlsAnalysis K) → Table (TlsAnalysis K)
       → Option (Connection (TlsAnalysis K)) → Type 0
   Evicts limit t u None = (u.live ≡ t.live)
       × (IsAccounted t → total u.live ≤ open_part limit)
   Evicts limit t u (Some c') =
-      (c : Connection (TlsAnalysis K)) × IsLastEnded t.live u.live c c'
+      (c : Connection (TlsAnalysis K)) × IsLastEnded true t.live u.live c c'
       × (open_part limit < t.held)
 
   -- A sink that is lent a connection changes nothing but its collector.
@@ -149,40 +147,37 @@ module _ {K : Type 0} where
     attachment = record c.attachment { collector = c'.attachment.collector };
   }
 
-  -- A connection that was closed for lack of memory is marked as ended early.
-  abbrev pub AreEarly : Option (Connection (TlsAnalysis K)) → Type 0
-  AreEarly o = IfSome o (λ c. c.attachment.is_ended_early ≡ true)
-
-  -- Connections ended one after the other, each the longest-idle one and for this reason.
-  pub data EndInTurn
+  -- Connections ended one after the other, each the longest-idle one and for this reason, early or
+  -- not.
+  pub data EndInTurn (early : Bool)
       (Is : List (FiveTuple × Connection (TlsAnalysis K)) → Connection (TlsAnalysis K) → Type 0)
       (xs : List (FiveTuple × Connection (TlsAnalysis K)))
       : List (FiveTuple × Connection (TlsAnalysis K)) → List (Connection (TlsAnalysis K))
       → Type 0 where
-    none : EndInTurn Is xs xs []
+    none : EndInTurn early Is xs xs []
     one :
         (ys zs : List (FiveTuple × Connection (TlsAnalysis K)))
         (outs : List (Connection (TlsAnalysis K))) (c c' : Connection (TlsAnalysis K))
-        → EndInTurn Is xs ys outs → Is ys c → IsLastEnded ys zs c c'
-        → EndInTurn Is xs zs (outs ++ c' ∷ [])
+        → EndInTurn early Is xs ys outs → Is ys c → IsLastEnded early ys zs c c'
+        → EndInTurn early Is xs zs (outs ++ c' ∷ [])
 
   -- The sink received those that ended.
-  pub record PassesEnded
+  pub record PassesEnded (early : Bool)
       (Is : List (FiveTuple × Connection (TlsAnalysis K)) → Connection (TlsAnalysis K) → Type 0)
       (xs ys : List (FiveTuple × Connection (TlsAnalysis K)))
       (old new : Option (List (Connection (TlsAnalysis K)))) : Type 0 where
     pub outs : List (Connection (TlsAnalysis K))
-    pub ended : EndInTurn Is xs ys outs
+    pub ended : EndInTurn early Is xs ys outs
     pub received : Adds old new outs
 
   -- The sink received those that ended, but for the last one, which it refused. All others stay.
-  pub record PassesAllButLast
+  pub record PassesAllButLast (early : Bool)
       (Is : List (FiveTuple × Connection (TlsAnalysis K)) → Connection (TlsAnalysis K) → Type 0)
       (xs ys : List (FiveTuple × Connection (TlsAnalysis K)))
       (old new : Option (List (Connection (TlsAnalysis K)))) : Type 0 where
     pub outs : List (Connection (TlsAnalysis K))
     pub refused : Connection (TlsAnalysis K)
-    pub ended : EndInTurn Is xs ys (outs ++ refused ∷ [])
+    pub ended : EndInTurn early Is xs ys (outs ++ refused ∷ [])
     pub received : Adds old new outs
 
   -- All connections end with the capture.
@@ -207,10 +202,8 @@ module _ {K : Type 0} where
       (old new : Option (List (Connection (TlsAnalysis K)))) : Type 0 where
     pub own : Option (Connection (TlsAnalysis K))
     pub oldest : Option (Connection (TlsAnalysis K))
-    pub own_ends : EndsAs (at e xs) own
-    pub oldest_ends : EndsLast (others e xs) ys oldest
-    pub own_is_early : AreEarly own
-    pub oldest_is_early : AreEarly oldest
+    pub own_ends : EndsAs true (at e xs) own
+    pub oldest_ends : EndsLast true (others e xs) ys oldest
     pub are_some : (is_some own || is_some oldest) ≡ true
     pub received : Adds old new (as_list own ++ as_list oldest)
 
@@ -220,14 +213,13 @@ module _ {K : Type 0} where
       (xs ys : List (FiveTuple × Connection (TlsAnalysis K)))
       (old new : Option (List (Connection (TlsAnalysis K)))) (error : LogError E) : Type 0 where
     at_own :
-        (own : Connection (TlsAnalysis K)) → IsOfSink error → EndsAs (at e xs) (Some own)
-        → AreEarly (Some own) → ys ≡ others e xs → Adds old new []
-        → StopsRefused e xs ys old new error
+        (own : Connection (TlsAnalysis K)) → IsOfSink error → EndsAs true (at e xs) (Some own)
+        → ys ≡ others e xs → Adds old new [] → StopsRefused e xs ys old new error
     at_oldest :
         (own : Option (Connection (TlsAnalysis K))) (oldest : Connection (TlsAnalysis K))
-        → IsOfSink error → EndsAs (at e xs) own → AreEarly own
-        → EndsLast (others e xs) ys (Some oldest) → AreEarly (Some oldest)
-        → Adds old new (as_list own) → StopsRefused e xs ys old new error
+        → IsOfSink error → EndsAs true (at e xs) own
+        → EndsLast true (others e xs) ys (Some oldest) → Adds old new (as_list own)
+        → StopsRefused e xs ys old new error
     without_any :
         IsOfMemory error → at e xs ≡ None → others e xs ≡ [] → ys ≡ [] → Adds old new []
         → StopsRefused e xs ys old new error

@@ -1,5 +1,5 @@
 //! The TLS or DTLS analysis of a connection.
-ghost use Rattle.std.specs.Prelude.{◌≡◌, ◌≤◌, ◌||◌, ◌^◌, ℕ, IfOk, OnErr, OnOk, Some, drop, false};
+ghost use Rattle.std.specs.Prelude.{◌≡◌, ◌≤◌, ◌||◌, ◌^◌, ℕ, ⊤, IfOk, IfSome, OnErr, OnOk, Some, drop, false, is_some};
 ghost use Rattle.std.specs.Option.{option_copied_mut, option_map};
 ghost use Rattle.std.specs.Borrow.{sem};
 ghost use Rattle.tls_detection.specs.Front.{held_datagram as held_datagram_of};
@@ -68,8 +68,14 @@ impl PieceKind {
 
 /// Keeps the pieces of a connection until they are taken. It gets each event that counts.
 pub trait PieceCollector: Drop + Observer {
+    ghost use Rattle.log_connections.specs.declared.analysis.PieceKind.{PieceKind};
+
+    // What holds of a collector that begins with these pieces, if a contract needs that.
+    ghost IsOf: { PieceKind → Self → Type 0 } = { λ _ _. ⊤ };
+
     /// Returns the collector for a new connection.
-    fn begin(alloc: Global, pieces: PieceKind) -> Self;
+    fn begin(alloc: Global, pieces: PieceKind) -> Self
+        ensures { IsOf pieces result };
 
     /// The most bytes of memory that it may take for what it keeps beyond a packet.
     ghost most_bytes: { Self → ℕ } = { λ _. 2 ^ 64 };
@@ -367,6 +373,8 @@ impl<K: PieceCollector> TlsAnalysis<K> {
     /// Keeps the pieces that come from here on.
     fn keep(&mut self, pieces: PieceKind) -> Result<(), AllocError>
         ensures kept { OnOk result (Keeps self.old self.new) }
+        ensures begun { OnOk result (is_some self.old.collector ≡ false
+            → IfSome self.new.collector (λ b. K.IsOf pieces b.value)) }
         ensures err { OnErr result (self.new ≡ self.old) }
     {
         if self.collector.is_some() {
@@ -400,7 +408,9 @@ impl<K: PieceCollector> TlsAnalysis<K> {
         tunnels: &Tunnels,
         kept: Option<PieceKind>,
     ) -> Result<(), AllocError>
-        ensures { OnOk result (IsPrepared tunnels.now kept self.old self.new) }
+        ensures prepared { OnOk result (IsPrepared tunnels.now kept self.old self.new) }
+        ensures begun { OnOk result (IfSome kept (λ pieces. is_some self.old.collector ≡ false
+            → IfSome self.new.collector (λ b. K.IsOf pieces b.value))) }
     {
         self.note_tunnels(tunnels)?;
         match kept {

@@ -1,14 +1,14 @@
 //! What drives a log: [`Log::packet`] for each packet, and [`Log::finish`] at the end.
-ghost use Rattle.std.specs.Prelude.{◌≡◌, ◌≤◌, ⊤, true, [], IfErr, IfOk, OnErr, OnOk, is_some};
+ghost use Rattle.std.specs.Prelude.{◌≡◌, ◌≤◌, ⊤, false, true, [], IfErr, IfOk, OnErr, OnOk, is_some};
 ghost use Rattle.std.specs.Option.{option_map};
 ghost use Rattle.packets.specs.Section.{view_packet};
 ghost use Rattle.arrivals.specs.Arrival.{five_tuple_in};
 ghost use Rattle.arrivals.specs.Fragments.{fragment_in};
 ghost use Rattle.connections.specs.Memory.{FitsClosed, IsAccounted, open_part, total};
 ghost use Rattle.connections.specs.Table.{IsForgotten, NoneIsOver, NoneToForget, at};
-ghost use Rattle.log_connections.specs.Found.{IsCounted};
+ghost use Rattle.log_connections.specs.Found.{HasCut, IsCounted};
 ghost use Rattle.log_connections.specs.Log.{uncounted};
-ghost use Rattle.log_connections.specs.Packet.{Arrives, Handles, HandlesBy, HandlesInside, IsLent, Processes, Stops, StopsArriving, StopsBy, StopsHandling, noted_if};
+ghost use Rattle.log_connections.specs.Packet.{Arrives, Handles, HandlesBy, HandlesInside, IsLent, Lends, Processes, Stops, StopsArriving, StopsBy, StopsHandling, lent_if, noted_if, passes_on};
 ghost use Rattle.log_connections.specs.Reading.{HoldsFragment, HoldsInside, HoldsWhole};
 ghost use Rattle.log_connections.specs.Sink.{Adds, EndsAfterRefusal, EndsRefused, IsOverLimit, IsIdle, IsOfSink, IsOpen, PassesAllButLast, PassesEnded, Receives, StaysSound, StopsAfterRefusal, StopsRefused, as_list};
 
@@ -44,6 +44,7 @@ impl<K: PieceCollector> Log<K> {
         ensures accounted { IsAccounted self.old.connections
             → IsAccounted self.new.connections }
         ensures memory { self.new.memory ≡ self.old.memory }
+        ensures kept { self.new.kept ≡ self.old.kept }
         ensures sound { StaysSound (S.is_sound sink.old) (S.is_sound sink.new) result }
     {
         if let Some(arrival) = self.arrivals.plain_arrival(packet) {
@@ -71,6 +72,7 @@ impl<K: PieceCollector> Log<K> {
         ensures accounted { IsAccounted self.old.connections
             → IsAccounted self.new.connections }
         ensures memory { self.new.memory ≡ self.old.memory }
+        ensures kept { self.new.kept ≡ self.old.kept }
         ensures sound { StaysSound (S.is_sound sink.old) (S.is_sound sink.new) result }
     {
         match self.arrivals.arrival(packet)? {
@@ -98,6 +100,7 @@ impl<K: PieceCollector> Log<K> {
         ensures accounted { IsAccounted self.old.connections
             → IsAccounted self.new.connections }
         ensures memory { self.new.memory ≡ self.old.memory }
+        ensures kept { self.new.kept ≡ self.old.kept }
         ensures sound { StaysSound (S.is_sound sink.old) (S.is_sound sink.new) result }
     {
         let whole = self.arrivals.join(packet)?;
@@ -124,6 +127,7 @@ impl<K: PieceCollector> Log<K> {
         ensures accounted { IsAccounted self.old.connections
             → IsAccounted self.new.connections }
         ensures memory { self.new.memory ≡ self.old.memory }
+        ensures kept { self.new.kept ≡ self.old.kept }
         ensures sound { StaysSound (S.is_sound sink.old) (S.is_sound sink.new) result }
     {
         let mut whole = joined;
@@ -158,6 +162,7 @@ impl<K: PieceCollector> Log<K> {
         ensures accounted { IsAccounted self.old.connections
             → IsAccounted self.new.connections }
         ensures memory { self.new.memory ≡ self.old.memory }
+        ensures kept { self.new.kept ≡ self.old.kept }
         ensures sound { StaysSound (S.is_sound sink.old) (S.is_sound sink.new) result }
     {
         let Some(arrival) = self.arrivals.arrival_in(packet, joined)? else {
@@ -177,6 +182,7 @@ impl<K: PieceCollector> Log<K> {
         ensures accounted { IsAccounted self.old.connections
             → IsAccounted self.new.connections }
         ensures memory { self.new.memory ≡ self.old.memory }
+        ensures kept { self.new.kept ≡ self.old.kept }
         ensures reader { uncounted self.new.arrivals ≡ uncounted self.old.arrivals }
     {
         if !is_noted {
@@ -199,6 +205,7 @@ impl<K: PieceCollector> Log<K> {
         ensures accounted { IsAccounted self.old.connections
             → IsAccounted self.new.connections }
         ensures memory { self.new.memory ≡ self.old.memory }
+        ensures kept { self.new.kept ≡ self.old.kept }
         ensures reader { uncounted self.new.arrivals ≡ uncounted self.old.arrivals }
         ensures sound { StaysSound (S.is_sound sink.old) (S.is_sound sink.new) result }
     {
@@ -217,12 +224,15 @@ impl<K: PieceCollector> Log<K> {
         ensures arrives { OnOk result
             (Arrives K.most_bytes arrival.now self.old.connections self.new.connections
             (S.received sink.old) (S.received sink.new)) }
+        ensures lends { Lends K.most_bytes (passes_on self.old.kept) arrival.now
+            self.old.connections (S.lent sink.old) (S.lent sink.new) }
         ensures stopped { IfErr result
             (λ error. StopsArriving K.most_bytes arrival.now error self.old.connections
             self.new.connections (S.received sink.old) (S.received sink.new)) }
         ensures accounted { IsAccounted self.old.connections
             → IsAccounted self.new.connections }
         ensures memory { self.new.memory ≡ self.old.memory }
+        ensures kept { self.new.kept ≡ self.old.kept }
         ensures reader { uncounted self.new.arrivals ≡ uncounted self.old.arrivals }
         ensures sound { StaysSound (S.is_sound sink.old) (S.is_sound sink.new) result }
     {
@@ -241,6 +251,7 @@ impl<K: PieceCollector> Log<K> {
         sink: &mut S,
     ) -> Result<(), LogError<S::Error>>
         ensures received { Receives (S.received sink.old) (S.received sink.new) result over.value }
+        ensures lent { Adds (S.lent sink.old) (S.lent sink.new) [] }
         ensures counted { IsCounted over.value self.old.arrivals.counts self.new.arrivals.counts }
         ensures same { self.new ≡ record self.old
             { arrivals = self.new.arrivals; spare = self.new.spare } }
@@ -257,11 +268,12 @@ impl<K: PieceCollector> Log<K> {
     /// Ends the connections that timed out by this time.
     fn end_idle<S: Sink<K>>(&mut self, time: u64, sink: &mut S) -> Result<(), LogError<S::Error>>
         ensures ended { OnOk result
-            (PassesEnded (IsIdle time) self.old.connections.live self.new.connections.live
+            (PassesEnded false (IsIdle time) self.old.connections.live self.new.connections.live
             (S.received sink.old) (S.received sink.new)) }
         ensures none { OnOk result (NoneIsOver time self.new.connections.live) }
         ensures stopped { OnErr result
-            (PassesAllButLast (IsIdle time) self.old.connections.live self.new.connections.live
+            (PassesAllButLast false (IsIdle time) self.old.connections.live
+            self.new.connections.live
             (S.received sink.old) (S.received sink.new)) }
         ensures failed { IfErr result (λ error. IsOfSink error) }
         ensures forgotten { IsForgotten time self.old.connections.closed
@@ -270,6 +282,7 @@ impl<K: PieceCollector> Log<K> {
         ensures accounted { IsAccounted self.old.connections
             → IsAccounted self.new.connections }
         ensures memory { self.new.memory ≡ self.old.memory }
+        ensures kept { self.new.kept ≡ self.old.kept }
         ensures reader { uncounted self.new.arrivals ≡ uncounted self.old.arrivals }
         ensures sound { StaysSound (S.is_sound sink.old) (S.is_sound sink.new) result }
     {
@@ -288,12 +301,16 @@ impl<K: PieceCollector> Log<K> {
         sink: &mut S,
     ) -> Result<(), LogError<S::Error>>
         ensures received { Adds (S.received sink.old) (S.received sink.new) [] }
+        ensures lends { Adds (S.lent sink.old) (S.lent sink.new)
+            (lent_if (passes_on self.old.kept)
+            (at (five_tuple_in arrival.now) self.old.connections.live)) }
         ensures lent { IsLent (five_tuple_in arrival.now)
             (at (five_tuple_in arrival.now) self.old.connections.live) self.old.connections
             self.new.connections }
         ensures accounted { IsAccounted self.old.connections
             → IsAccounted self.new.connections }
         ensures memory { self.new.memory ≡ self.old.memory }
+        ensures kept { self.new.kept ≡ self.old.kept }
         ensures reader { uncounted self.new.arrivals ≡ uncounted self.old.arrivals }
         ensures failed { IfErr result (λ error. IsOfSink error) }
         ensures sound { StaysSound (S.is_sound sink.old) (S.is_sound sink.new) result }
@@ -310,11 +327,11 @@ impl<K: PieceCollector> Log<K> {
     /// Ends the longest-idle connections until the rest fit the memory limit.
     fn evict<S: Sink<K>>(&mut self, time: u64, sink: &mut S) -> Result<(), LogError<S::Error>>
         ensures ended { OnOk result
-            (PassesEnded (IsOverLimit self.old.connections self.old.memory)
+            (PassesEnded true (IsOverLimit self.old.connections self.old.memory)
             self.old.connections.live self.new.connections.live
             (S.received sink.old) (S.received sink.new)) }
         ensures stopped { OnErr result
-            (PassesAllButLast (IsOverLimit self.old.connections self.old.memory)
+            (PassesAllButLast true (IsOverLimit self.old.connections self.old.memory)
             self.old.connections.live self.new.connections.live
             (S.received sink.old) (S.received sink.new)) }
         ensures failed { IfErr result (λ error. IsOfSink error) }
@@ -323,6 +340,7 @@ impl<K: PieceCollector> Log<K> {
         ensures accounted { IsAccounted self.old.connections
             → IsAccounted self.new.connections }
         ensures memory { self.new.memory ≡ self.old.memory }
+        ensures kept { self.new.kept ≡ self.old.kept }
         ensures reader { uncounted self.new.arrivals ≡ uncounted self.old.arrivals }
         ensures within { OnOk result (IsAccounted self.old.connections
             → total self.new.connections.live ≤ open_part self.old.memory) }
@@ -380,6 +398,7 @@ impl<K: PieceCollector> Log<K> {
         ensures accounted { IsAccounted self.old.connections
             → IsAccounted self.new.connections }
         ensures memory { self.new.memory ≡ self.old.memory }
+        ensures kept { self.new.kept ≡ self.old.kept }
         ensures reader { uncounted self.new.arrivals ≡ uncounted self.old.arrivals }
         ensures sound { StaysSound (S.is_sound sink.old) (S.is_sound sink.new) result }
     {
@@ -403,6 +422,7 @@ impl<K: PieceCollector> Log<K> {
         ensures accounted { IsAccounted self.old.connections
             → IsAccounted self.new.connections }
         ensures memory { self.new.memory ≡ self.old.memory }
+        ensures kept { self.new.kept ≡ self.old.kept }
         ensures reader { uncounted self.new.arrivals ≡ uncounted self.old.arrivals }
         ensures sound { StaysSound (S.is_sound sink.old) (S.is_sound sink.new) result }
     {
@@ -421,11 +441,12 @@ impl<K: PieceCollector> Log<K> {
     /// at the end of the capture.
     pub fn finish<S: Sink<K>>(&mut self, sink: &mut S) -> Result<(), LogError<S::Error>>
         ensures ended { OnOk result
-            (PassesEnded IsOpen self.old.connections.live self.new.connections.live
+            (PassesEnded false IsOpen self.old.connections.live self.new.connections.live
             (S.received sink.old) (S.received sink.new)) }
         ensures none { OnOk result (self.new.connections.live ≡ []) }
+        ensures cut { HasCut self.old.arrivals self.new.arrivals.counts }
         ensures stopped { OnErr result
-            (PassesAllButLast IsOpen self.old.connections.live self.new.connections.live
+            (PassesAllButLast false IsOpen self.old.connections.live self.new.connections.live
             (S.received sink.old) (S.received sink.new)) }
         ensures failed { IfErr result (λ error. IsOfSink error) }
         ensures sound { StaysSound (S.is_sound sink.old) (S.is_sound sink.new) result }

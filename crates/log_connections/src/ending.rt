@@ -1,12 +1,13 @@
 //! How connections end: what still counts of those that are removed from the table.
-ghost use Rattle.std.specs.Prelude.{◌≡◌, ◌<◌, IfOk, IfSome, OnErr, OnOk, length};
+ghost use Rattle.std.specs.Prelude.{◌≡◌, ◌<◌, IfOk, IfSome, OnErr, OnOk, false, length};
 ghost use Rattle.std.specs.Option.{option_map};
 ghost use Rattle.connections.specs.Connection.{side_of};
 ghost use Rattle.connections.specs.Memory.{IsAccounted};
 ghost use Rattle.connections.specs.Table.{IsForgotten, NoneToForget};
 ghost use Rattle.log_connections.specs.AtEnd.{AnalyzesAllAtEnd, AnalyzesOneAtEnd, RefusesKept, RefusesOneAtEnd, RefusesSomeAtEnd};
+ghost use Rattle.log_connections.specs.Found.{MayCountEarly};
 ghost use Rattle.log_connections.specs.Log.{uncounted};
-ghost use Rattle.log_connections.specs.Sides.{AnalyzesKept, AnalyzesSender, ChangesAnalysis};
+ghost use Rattle.log_connections.specs.Sides.{AnalyzesKept, AnalyzesSender, ChangesAnalysis, IsOnItsOwn};
 ghost use Rattle.log_connections.specs.Sink.{AnalyzesLast, AnalyzesRest, EndsAs, EndsIdle, EndsLast, IsCutOff, IsCutShort, IsEnded};
 
 use crate::analysis::{PieceCollector, TlsAnalysis};
@@ -23,8 +24,8 @@ fn analyze_sender_at_end<K: PieceCollector>(
     known: &mut CertificateCache,
 ) -> Result<(), AllocError>
     ensures analysis { OnOk result
-        (AnalyzesSender segment.now (side_of connection.old segment.now.source) connection.old
-        connection.new) }
+        (AnalyzesSender IsOnItsOwn segment.now (side_of connection.old segment.now.source)
+        connection.old connection.new) }
     ensures same { ChangesAnalysis connection.old connection.new }
 {
     let (side, is_opened) = (connection.side_of(segment.source), connection.has_opening());
@@ -48,7 +49,8 @@ fn analyze_taken<K: PieceCollector>(
     kept: &PendingSegment,
     known: &mut CertificateCache,
 ) -> Result<(), AllocError>
-    ensures analysis { OnOk result (AnalyzesKept kept.now connection.old connection.new) }
+    ensures analysis { OnOk result
+        (AnalyzesKept IsOnItsOwn kept.now connection.old connection.new) }
     ensures refused { OnErr result (RefusesKept kept.now connection.old connection.new) }
 {
     let alloc = connection.attachment.alloc;
@@ -136,6 +138,7 @@ impl<K: PieceCollector> Log<K> {
         ensures accounted { IsAccounted self.old.connections
             → IsAccounted self.new.connections }
         ensures memory { self.new.memory ≡ self.old.memory }
+        ensures kept { self.new.kept ≡ self.old.kept }
         ensures reader { uncounted self.new.arrivals ≡ uncounted self.old.arrivals }
     {
         if !self.connections.has_idle(time) {
@@ -156,6 +159,7 @@ impl<K: PieceCollector> Log<K> {
         ensures accounted { IsAccounted self.old.connections
             → IsAccounted self.new.connections }
         ensures memory { self.new.memory ≡ self.old.memory }
+        ensures kept { self.new.kept ≡ self.old.kept }
         ensures reader { uncounted self.new.arrivals ≡ uncounted self.old.arrivals }
     {
         let taken = self.connections.take_idle(time);
@@ -164,8 +168,9 @@ impl<K: PieceCollector> Log<K> {
 
     /// Removes and returns one of the remaining connections, and analyzes the rest of it.
     pub(crate) fn take_remaining(&mut self) -> Option<Box<Connection<TlsAnalysis<K>>>>
-        ensures last { EndsLast self.old.connections.live self.new.connections.live
+        ensures last { EndsLast false self.old.connections.live self.new.connections.live
             (option_map (λ b. b.value) result) }
+        ensures counted { MayCountEarly self.old.arrivals.counts self.new.arrivals.counts }
         ensures fewer { IfSome result (λ _.
             length self.new.connections.live < length self.old.connections.live) }
         ensures accounted { IsAccounted self.old.connections
@@ -181,11 +186,13 @@ impl<K: PieceCollector> Log<K> {
         &mut self,
         taken: Option<Box<Connection<TlsAnalysis<K>>>>,
     ) -> Option<Box<Connection<TlsAnalysis<K>>>>
-        ensures ended { EndsAs (option_map (λ b. b.value) taken)
+        ensures ended { EndsAs false (option_map (λ b. b.value) taken)
             (option_map (λ b. b.value) result) }
+        ensures counted { MayCountEarly self.old.arrivals.counts self.new.arrivals.counts }
         ensures connections { self.new.connections ≡ self.old.connections }
         ensures unsettled { self.new.is_unsettled ≡ self.old.is_unsettled }
         ensures memory { self.new.memory ≡ self.old.memory }
+        ensures kept { self.new.kept ≡ self.old.kept }
         ensures reader { uncounted self.new.arrivals ≡ uncounted self.old.arrivals }
     {
         let mut over = taken?;
@@ -195,15 +202,20 @@ impl<K: PieceCollector> Log<K> {
 
     /// Analyzes the rest of a connection that was removed from the table.
     fn analyze_removed(&mut self, over: &mut Connection<TlsAnalysis<K>>)
-        ensures ended { IsEnded over.old over.new }
+        ensures ended { IsEnded false over.old over.new }
+        ensures counted { MayCountEarly self.old.arrivals.counts self.new.arrivals.counts }
         ensures connections { self.new.connections ≡ self.old.connections }
         ensures unsettled { self.new.is_unsettled ≡ self.old.is_unsettled }
         ensures memory { self.new.memory ≡ self.old.memory }
+        ensures kept { self.new.kept ≡ self.old.kept }
         ensures reader { uncounted self.new.arrivals ≡ uncounted self.old.arrivals }
     {
-        if let Err(_) = analyze_last(over, &mut self.known) {
-            self.spare = Vec::new(self.alloc);
-            self.mark_early(over);
+        match analyze_last(over, &mut self.known) {
+            Ok(()) => over.attachment.is_ended_early = false,
+            Err(_) => {
+                self.spare = Vec::new(self.alloc);
+                self.mark_early(over);
+            }
         }
     }
 }

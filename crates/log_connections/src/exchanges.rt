@@ -5,7 +5,8 @@ ghost use Rattle.connections.specs.Datagram.{five_tuple_of_datagram};
 ghost use Rattle.connections.specs.Memory.{IsAccounted};
 ghost use Rattle.connections.specs.Segment.{is_refused};
 ghost use Rattle.connections.specs.Table.{at};
-ghost use Rattle.log_connections.specs.Log.{AcceptsDatagram, BeginsUnless, AnalyzesFrom, IsDelivered, IsWeighedUnless, KeepsOthers, LogsDatagram, LogsExchange, LogsInAnother, RefusesDatagram, RefusesInNext, WhereDatagram, WhereDelivered, is_damaged_in, uncounted};
+ghost use Rattle.log_connections.specs.Analysis.{IsPrepared};
+ghost use Rattle.log_connections.specs.Log.{AcceptsDatagram, BeginsUnless, AnalyzesFrom, IsDelivered, IsPreparedAt, IsReady, IsWeighedUnless, KeepsOthers, LogsDatagram, LogsExchange, LogsInAnother, RefusesDatagram, RefusesInNext, WhereDatagram, WhereDelivered, is_damaged_in, uncounted};
 ghost use Rattle.log_connections.specs.declared.exchanges.Delivery.TheVariants as delivered;
 
 use crate::analysis::{PieceCollector, PieceKind, TlsAnalysis};
@@ -36,7 +37,9 @@ fn analyze_from<K: PieceCollector>(
     tunnels: &Tunnels,
     known: &mut CertificateCache,
 ) -> Result<(), AllocError>
-    ensures analysis { OnOk result (AnalyzesFrom datagram.now exchange.old exchange.new) }
+    ensures prepared { OnOk result
+        (AnalyzesFrom (IsPrepared tunnels.now kept) datagram.now exchange.old exchange.new) }
+    ensures analysis { OnOk result (AnalyzesFrom IsReady datagram.now exchange.old exchange.new) }
     ensures weight { exchange.new.weight ≡ exchange.old.weight }
 {
     let side = exchange.side_of(datagram.source);
@@ -52,6 +55,10 @@ impl<K: PieceCollector> Log<K> {
         ensures logged { IfOk result
             (λ delivery. LogsExchange delivery datagram.now self.old.connections
             self.new.connections) }
+        ensures prepared { IfOk result
+            (λ delivery. IsPreparedAt delivery
+            (IsPrepared self.old.arrivals.tunnels self.old.kept) datagram.now
+            self.old.connections self.new.connections) }
         ensures delivered { IfOk result
             (λ delivery. IsDelivered delivery datagram.now self.old.connections) }
         ensures refused { OnErr result
@@ -64,6 +71,7 @@ impl<K: PieceCollector> Log<K> {
         ensures accounted { IsAccounted self.old.connections
             → IsAccounted self.new.connections }
         ensures memory { self.new.memory ≡ self.old.memory }
+        ensures kept { self.new.kept ≡ self.old.kept }
         ensures reader { uncounted self.new.arrivals ≡ uncounted self.old.arrivals }
     {
         let five_tuple = datagram.between();
@@ -109,6 +117,7 @@ impl<K: PieceCollector> Log<K> {
         ensures accounted { IsAccounted self.old.connections
             → IsAccounted self.new.connections }
         ensures memory { self.new.memory ≡ self.old.memory }
+        ensures kept { self.new.kept ≡ self.old.kept }
         ensures reader { uncounted self.new.arrivals ≡ uncounted self.old.arrivals }
     {
         match self.analyze_exchange(datagram)? {
@@ -141,6 +150,7 @@ impl<K: PieceCollector> Log<K> {
         ensures accounted { IsAccounted self.old.connections
             → IsAccounted self.new.connections }
         ensures memory { self.new.memory ≡ self.old.memory }
+        ensures kept { self.new.kept ≡ self.old.kept }
         ensures reader { uncounted self.new.arrivals ≡ uncounted self.old.arrivals }
     {
         let over = self.connections.take_exchange(datagram)?;
@@ -163,6 +173,7 @@ impl<K: PieceCollector> Log<K> {
         ensures accounted { IsAccounted self.old.connections
             → IsAccounted self.new.connections }
         ensures memory { self.new.memory ≡ self.old.memory }
+        ensures kept { self.new.kept ≡ self.old.kept }
         ensures reader { uncounted self.new.arrivals ≡ uncounted self.old.arrivals }
     {
         if datagram.checksum == Checksum::Refused {
@@ -174,8 +185,11 @@ impl<K: PieceCollector> Log<K> {
 
     /// Analyzes a datagram in its exchange, which it begins if there is none.
     fn accept_datagram(&mut self, datagram: &Datagram<'_>) -> Result<(), AllocError>
+        ensures prepared { OnOk result
+            (LogsDatagram (IsPrepared self.old.arrivals.tunnels self.old.kept) datagram.now
+            self.old.connections self.new.connections) }
         ensures logged { OnOk result
-            (LogsDatagram datagram.now self.old.connections self.new.connections) }
+            (LogsDatagram IsReady datagram.now self.old.connections self.new.connections) }
         ensures others { KeepsOthers (five_tuple_of_datagram datagram.now) self.old.connections.live
             self.new.connections.live }
         ensures weighed { OnOk result (IsWeighedUnless K.most_bytes self.new.is_unsettled
@@ -183,6 +197,7 @@ impl<K: PieceCollector> Log<K> {
         ensures accounted { IsAccounted self.old.connections
             → IsAccounted self.new.connections }
         ensures memory { self.new.memory ≡ self.old.memory }
+        ensures kept { self.new.kept ≡ self.old.kept }
         ensures reader { uncounted self.new.arrivals ≡ uncounted self.old.arrivals }
     {
         self.connections.accept_datagram(datagram)?;

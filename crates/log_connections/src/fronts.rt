@@ -131,6 +131,8 @@ fn begins_in<'a>(
 {
     match dialogue {
         Dialogue::New | Dialogue::GoesOn(_) => Beginning::Waits,
+        // (the client may be either side)
+        Dialogue::Tls(_) if bytes.len() <= HEADER_LEN && !are_last => Beginning::Waits,
         Dialogue::Tls(_) => Beginning::Next,
         Dialogue::Plain => Beginning::Nowhere,
         Dialogue::Unknown => begins_by_search(answers, are_last, skipped, bytes),

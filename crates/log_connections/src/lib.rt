@@ -10,10 +10,11 @@
 //! Promise: `Log` in `specs/` defines which connection an arrival changes and which bytes its
 //! analysis gets, `TlsAnalysis` what the analysis does with them, `Fronts` where TLS begins in a
 //! stream, `Tds` how it is taken out of packets, and `Sink` which connections are passed on.
-//! Collected pieces have no clauses, only tests.
+//! What a collector keeps of its pieces has no clauses, only tests.
 #![tactic(auto)]
 
 mod analysis;
+mod counting;
 mod dialogue;
 mod drive;
 mod ending;

@@ -1,23 +1,23 @@
 //! What a capture's arrivals add to the log.
-ghost use Rattle.std.specs.Prelude.{◌≡◌, ◌-◌, ◌^◌, [], IfErr, IfNone, IfOk, IfSome, OnErr, OnOk, Some, is_some, true};
+ghost use Rattle.std.specs.Prelude.{◌≡◌, ◌-◌, ◌^◌, [], IfErr, IfNone, IfOk, IfSome, OnErr, OnOk, Some, None, false, is_some, true};
 ghost use Rattle.std.specs.Option.{option_map};
 ghost use Rattle.arrivals.specs.Arrival.{five_tuple_in};
 ghost use Rattle.arrivals.specs.Reader.{IsNew};
-ghost use Rattle.connections.specs.Connection.{is_for_checksum, lets_in, side_of};
+ghost use Rattle.connections.specs.Connection.{lets_in, side_of};
 ghost use Rattle.connections.specs.Memory.{IsAccounted};
 ghost use Rattle.connections.specs.Segment.{begins, five_tuple_of};
-ghost use Rattle.connections.specs.Table.{at, belongs, with_dropped_segment, with_waiting_segment};
-ghost use Rattle.log_connections.specs.Analysis.{AnalyzesNext, AnalyzesOn};
-ghost use Rattle.log_connections.specs.Log.{Accepts, AcceptsBy, AcceptsJudged, AcceptsSegment, EndsAfter, EndsClosed, IsWeighedUnless, AnalyzesAllAcknowledged, AnalyzesOne, AnalyzesPending, AnalyzesSide, IsClosedAs, IsReceived, KeepsOthers, Logs, LogsOpen, Refuses, RefusesIf, RefusesInAnother, RefusesSegment, Settles, Takes, TakesAnew, TakesBehind, TakesIn, TakesInAnother, WhereBegun, WhereJudged, WhereReceived, WhereSegment, WhereWeighed, damaged_if, disagreeing_from, is_closed_in, uncounted, verdict_in, with_disagreeing, with_stray, AnalyzesSender};
+ghost use Rattle.connections.specs.Table.{belongs, with_dropped_segment, with_waiting_segment};
+ghost use Rattle.log_connections.specs.Analysis.{AnalyzesNext, AnalyzesOn, IsPrepared};
+ghost use Rattle.log_connections.specs.Log.{Accepts, AcceptsBy, AcceptsJudged, AcceptsSegment, EndsAfter, EndsClosed, IsWeighedUnless, AnalyzesAllAcknowledged, AnalyzesOne, AnalyzesPending, AnalyzesSide, IsClosedAs, IsReceived, KeepsOthers, Logs, LogsOpen, Refuses, RefusesIf, RefusesInAnother, RefusesSegment, Settles, Takes, TakesAnew, TakesBehind, TakesIn, TakesInAnother, WhereBegun, WhereJudged, WhereReceived, WhereSegment, WhereWeighed, counting_dropped, counting_stray, is_closed_in, uncounted, verdict_in, AnalyzesSender, CountsBy, CountsJudged, IsPreparedIf, IsReady, is_received};
 ghost use Rattle.log_connections.specs.Packet.{passes_on};
 
 use crate::analysis::{PieceCollector, PieceKind, TlsAnalysis};
 use crate::following::follow_front;
 use crate::memory::SPARE;
-use arrivals::{Arrival, ArrivalReader, add_one};
+use arrivals::{Arrival, ArrivalReader};
 use connections::{
-    Checksum, Connection, Connections, DropReason, End, FiveTuple, Judgement, MAX_PENDING,
-    PendingOutcome, PendingSegment, Segment, Side, Stream, Verdict,
+    Connection, Connections, DropReason, FiveTuple, Judgement, MAX_PENDING, PendingOutcome,
+    PendingSegment, Segment, Side, Stream, Verdict,
 };
 use std::alloc::{AllocError, Global};
 use std::hash::RandomState;
@@ -120,8 +120,8 @@ fn analyze_sender<K: PieceCollector>(
     known: &mut CertificateCache,
 ) -> Result<(), AllocError>
     ensures analysis { OnOk result
-        (AnalyzesSender segment.now (side_of connection.old segment.now.source) connection.old
-        connection.new) }
+        (AnalyzesSender (IsPrepared tunnels.now kept) segment.now
+        (side_of connection.old segment.now.source) connection.old connection.new) }
     ensures weight { connection.new.weight ≡ connection.old.weight }
 {
     let (side, is_opened) = (connection.side_of(segment.source), connection.has_opening());
@@ -149,28 +149,16 @@ fn analyze<K: PieceCollector>(
     tunnels: &Tunnels,
     known: &mut CertificateCache,
 ) -> Result<(), AllocError>
+    ensures prepared { OnOk result
+        (AnalyzesSide (IsPrepared tunnels.now kept) segment.now
+        (side_of connection.old segment.now.source) connection.old connection.new) }
     ensures analysis { OnOk result
-        (AnalyzesSide segment.now (side_of connection.old segment.now.source) connection.old
-        connection.new) }
+        (AnalyzesSide IsReady segment.now (side_of connection.old segment.now.source)
+        connection.old connection.new) }
     ensures weight { connection.new.weight ≡ connection.old.weight }
 {
     follow_front(connection, segment, known)?;
     analyze_sender(connection, segment, kept, tunnels, known)
-}
-
-/// Counts bytes that disagreed in the fragments of a packet of this sender.
-fn count_disagreeing<K: PieceCollector>(
-    connection: &mut Connection<TlsAnalysis<K>>,
-    sender: End,
-    count: u64,
-)
-    ensures { connection.new
-        ≡ disagreeing_from (side_of connection.old sender) count connection.old }
-{
-    match connection.side_of(sender) {
-        Side::Originator => connection.from_originator.add_disagreeing(count),
-        Side::Responder => connection.from_responder.add_disagreeing(count),
-    }
 }
 
 impl<K: PieceCollector> Log<K> {
@@ -217,6 +205,7 @@ impl<K: PieceCollector> Log<K> {
         ensures accounted { IsAccounted self.old.connections
             → IsAccounted self.new.connections }
         ensures memory { self.new.memory ≡ self.old.memory }
+        ensures kept { self.new.kept ≡ self.old.kept }
         ensures reader { uncounted self.new.arrivals ≡ uncounted self.old.arrivals }
     {
         self.is_unsettled = false;
@@ -232,6 +221,7 @@ impl<K: PieceCollector> Log<K> {
         ensures accounted { IsAccounted self.old.connections
             → IsAccounted self.new.connections }
         ensures memory { self.new.memory ≡ self.old.memory }
+        ensures kept { self.new.kept ≡ self.old.kept }
         ensures reader { uncounted self.new.arrivals ≡ uncounted self.old.arrivals }
     {
         if !self.is_unsettled {
@@ -258,6 +248,7 @@ impl<K: PieceCollector> Log<K> {
         ensures accounted { IsAccounted self.old.connections
             → IsAccounted self.new.connections }
         ensures memory { self.new.memory ≡ self.old.memory }
+        ensures kept { self.new.kept ≡ self.old.kept }
         ensures reader { uncounted self.new.arrivals ≡ uncounted self.old.arrivals }
     {
         match arrival {
@@ -272,6 +263,10 @@ impl<K: PieceCollector> Log<K> {
         ensures logged { IfOk result
             (λ analyzed. Logs (is_some analyzed) segment.now self.old.connections
             self.new.connections) }
+        ensures prepared { IfOk result
+            (λ analyzed. IsPreparedIf (is_some analyzed)
+            (IsPrepared self.old.arrivals.tunnels self.old.kept) segment.now
+            self.old.connections self.new.connections) }
         ensures belongs { IfOk result
             (λ analyzed. is_some analyzed ≡ belongs segment.now self.old.connections) }
         ensures closed { IfOk result (λ analyzed. IfSome analyzed
@@ -283,6 +278,7 @@ impl<K: PieceCollector> Log<K> {
         ensures accounted { IsAccounted self.old.connections
             → IsAccounted self.new.connections }
         ensures memory { self.new.memory ≡ self.old.memory }
+        ensures kept { self.new.kept ≡ self.old.kept }
         ensures reader { uncounted self.new.arrivals ≡ uncounted self.old.arrivals }
     {
         // (mostly there is a connection already, which is looked up once)
@@ -306,6 +302,10 @@ impl<K: PieceCollector> Log<K> {
         ensures logged { IfOk result
             (λ analyzed. Logs (is_some analyzed) segment.now self.old.connections
             self.new.connections) }
+        ensures prepared { IfOk result
+            (λ analyzed. IsPreparedIf (is_some analyzed)
+            (IsPrepared self.old.arrivals.tunnels self.old.kept) segment.now
+            self.old.connections self.new.connections) }
         ensures belongs { IfOk result
             (λ analyzed. is_some analyzed ≡ belongs segment.now self.old.connections) }
         ensures closed { IfOk result (λ analyzed. IfSome analyzed
@@ -317,7 +317,8 @@ impl<K: PieceCollector> Log<K> {
         ensures accounted { IsAccounted self.old.connections
             → IsAccounted self.new.connections }
         ensures memory { self.new.memory ≡ self.old.memory }
-        ensures reader { uncounted self.new.arrivals ≡ uncounted self.old.arrivals }
+        ensures kept { self.new.kept ≡ self.old.kept }
+        ensures arrivals { self.new.arrivals ≡ self.old.arrivals }
     {
         if !self.connections.accept(segment)? {
             return Ok(None);
@@ -345,13 +346,18 @@ impl<K: PieceCollector> Log<K> {
         five_tuple: &FiveTuple,
         kept: &PendingSegment,
     ) -> Result<(), AllocError>
+        ensures prepared { OnOk result
+            (AnalyzesPending (IsPrepared self.old.arrivals.tunnels self.old.kept) five_tuple.now
+            kept.now self.old.connections self.new.connections) }
         ensures analysis { OnOk result
-            (AnalyzesPending five_tuple.now kept.now self.old.connections self.new.connections) }
+            (AnalyzesPending IsReady five_tuple.now kept.now self.old.connections
+            self.new.connections) }
         ensures others { KeepsOthers five_tuple.now self.old.connections.live
             self.new.connections.live }
         ensures accounted { IsAccounted self.old.connections
             → IsAccounted self.new.connections }
         ensures memory { self.new.memory ≡ self.old.memory }
+        ensures kept { self.new.kept ≡ self.old.kept }
         ensures reader { uncounted self.new.arrivals ≡ uncounted self.old.arrivals }
     {
         let Some(connection) = self.connections.get_first_mut(five_tuple) else {
@@ -376,6 +382,7 @@ impl<K: PieceCollector> Log<K> {
         ensures accounted { IsAccounted self.old.connections
             → IsAccounted self.new.connections }
         ensures memory { self.new.memory ≡ self.old.memory }
+        ensures kept { self.new.kept ≡ self.old.kept }
         ensures reader { uncounted self.new.arrivals ≡ uncounted self.old.arrivals }
     {
         self.is_unsettled = true;
@@ -397,6 +404,7 @@ impl<K: PieceCollector> Log<K> {
         ensures accounted { IsAccounted self.old.connections
             → IsAccounted self.new.connections }
         ensures memory { self.new.memory ≡ self.old.memory }
+        ensures kept { self.new.kept ≡ self.old.kept }
         ensures reader { uncounted self.new.arrivals ≡ uncounted self.old.arrivals }
     {
         match self.connections.take_pending(segment) {
@@ -425,26 +433,11 @@ impl<K: PieceCollector> Log<K> {
         ensures accounted { IsAccounted self.old.connections
             → IsAccounted self.new.connections }
         ensures memory { self.new.memory ≡ self.old.memory }
+        ensures kept { self.new.kept ≡ self.old.kept }
         ensures reader { uncounted self.new.arrivals ≡ uncounted self.old.arrivals }
     {
         let analysis = self.analyze_segment(segment)?;
         self.end_analyzed(segment, analysis)
-    }
-
-    /// Counts a segment that belongs to no connection, as damaged or stray. (The last
-    /// acknowledgement of a closed connection loses nothing.)
-    fn count_stray(&mut self, segment: &Segment<'_>)
-        ensures { self.new ≡ record self.old {
-          arrivals = record self.old.arrivals {
-            counts = with_stray segment.now self.old.arrivals.counts;
-          };
-        } }
-    {
-        if segment.checksum == Checksum::Refused {
-            add_one(&mut self.arrivals.counts.damaged);
-        } else if segment.has_data() {
-            add_one(&mut self.arrivals.counts.stray_segments);
-        }
     }
 
     /// Removes and returns the connection of an analyzed segment if it is closed. A segment without
@@ -458,10 +451,13 @@ impl<K: PieceCollector> Log<K> {
             self.new.connections (option_map (λ b. b.value) over)) }
         ensures others { KeepsOthers (five_tuple_of segment.now) self.old.connections.live
             self.new.connections.live }
+        ensures stray { IfNone analysis
+            (self.new.arrivals ≡ counting_stray segment.now self.old.arrivals) }
         ensures unsettled { self.new.is_unsettled ≡ self.old.is_unsettled }
         ensures accounted { IsAccounted self.old.connections
             → IsAccounted self.new.connections }
         ensures memory { self.new.memory ≡ self.old.memory }
+        ensures kept { self.new.kept ≡ self.old.kept }
         ensures reader { uncounted self.new.arrivals ≡ uncounted self.old.arrivals }
     {
         match analysis {
@@ -487,6 +483,7 @@ impl<K: PieceCollector> Log<K> {
         ensures accounted { IsAccounted self.old.connections
             → IsAccounted self.new.connections }
         ensures memory { self.new.memory ≡ self.old.memory }
+        ensures kept { self.new.kept ≡ self.old.kept }
         ensures reader { uncounted self.new.arrivals ≡ uncounted self.old.arrivals }
     {
         let taken = self.connections.take_closed(segment)?;
@@ -510,6 +507,7 @@ impl<K: PieceCollector> Log<K> {
         ensures accounted { IsAccounted self.old.connections
             → IsAccounted self.new.connections }
         ensures memory { self.new.memory ≡ self.old.memory }
+        ensures kept { self.new.kept ≡ self.old.kept }
         ensures reader { uncounted self.new.arrivals ≡ uncounted self.old.arrivals }
     {
         let taken = self.connections.take_replaced(segment)?;
@@ -527,6 +525,10 @@ impl<K: PieceCollector> Log<K> {
         ensures logged { IfOk result
             (λ reception. LogsOpen reception segment.now self.old.connections
             self.new.connections) }
+        ensures prepared { IfOk result
+            (λ reception. IsPreparedIf (is_received reception)
+            (IsPrepared self.old.arrivals.tunnels self.old.kept) segment.now
+            self.old.connections self.new.connections) }
         ensures judged { IfOk result
             (λ reception. IsReceived reception (verdict_in segment.now self.old.connections)) }
         ensures refused { OnErr result
@@ -541,7 +543,8 @@ impl<K: PieceCollector> Log<K> {
         ensures accounted { IsAccounted self.old.connections
             → IsAccounted self.new.connections }
         ensures memory { self.new.memory ≡ self.old.memory }
-        ensures reader { uncounted self.new.arrivals ≡ uncounted self.old.arrivals }
+        ensures kept { self.new.kept ≡ self.old.kept }
+        ensures arrivals { self.new.arrivals ≡ self.old.arrivals }
     {
         let five_tuple = segment.between();
         let Some(connection) = self.connections.get_mut(&five_tuple) else {
@@ -580,9 +583,15 @@ impl<K: PieceCollector> Log<K> {
             (IsWeighedUnless K.most_bytes self.new.is_unsettled
             (five_tuple_of segment.now) self.new.connections)
             (verdict_in segment.now self.old.connections) segment.now) }
+        ensures counted { IfSome (verdict_in segment.now self.old.connections) (λ v.
+            lets_in v ≡ false → CountsBy v self.old.arrivals self.new.arrivals) }
+        ensures stray { OnOk result (verdict_in segment.now self.old.connections ≡ None
+            → belongs segment.now self.old.connections ≡ false
+            → self.new.arrivals ≡ counting_stray segment.now self.old.arrivals) }
         ensures accounted { IsAccounted self.old.connections
             → IsAccounted self.new.connections }
         ensures memory { self.new.memory ≡ self.old.memory }
+        ensures kept { self.new.kept ≡ self.old.kept }
         ensures reader { uncounted self.new.arrivals ≡ uncounted self.old.arrivals }
     {
         match self.analyze_open(segment)? {
@@ -593,19 +602,6 @@ impl<K: PieceCollector> Log<K> {
                 Ok(self.end_analyzed(segment, analysis)?)
             }
             Reception::Judged(verdict) => self.accept_by(segment, verdict),
-        }
-    }
-
-    /// Counts a segment as damaged if its checksum is the reason against it.
-    fn count_dropped(&mut self, reason: DropReason)
-        ensures { self.new ≡ record self.old {
-          arrivals = record self.old.arrivals {
-            counts = damaged_if (is_for_checksum reason) self.old.arrivals.counts;
-          };
-        } }
-    {
-        if reason == DropReason::Checksum {
-            add_one(&mut self.arrivals.counts.damaged);
         }
     }
 
@@ -626,9 +622,11 @@ impl<K: PieceCollector> Log<K> {
             (IsWeighedUnless K.most_bytes self.new.is_unsettled
             (five_tuple_of segment.now) self.new.connections)
             verdict.shows_damage verdict.begins_another verdict.judgement segment.now) }
+        ensures counted { CountsBy verdict self.old.arrivals self.new.arrivals }
         ensures accounted { IsAccounted self.old.connections
             → IsAccounted self.new.connections }
         ensures memory { self.new.memory ≡ self.old.memory }
+        ensures kept { self.new.kept ≡ self.old.kept }
         ensures reader { uncounted self.new.arrivals ≡ uncounted self.old.arrivals }
     {
         if verdict.shows_damage {
@@ -656,6 +654,7 @@ impl<K: PieceCollector> Log<K> {
         ensures accounted { IsAccounted self.old.connections
             → IsAccounted self.new.connections }
         ensures memory { self.new.memory ≡ self.old.memory }
+        ensures kept { self.new.kept ≡ self.old.kept }
         ensures reader { uncounted self.new.arrivals ≡ uncounted self.old.arrivals }
     {
         self.connections.restart(segment);
@@ -678,9 +677,11 @@ impl<K: PieceCollector> Log<K> {
             (IsWeighedUnless K.most_bytes self.new.is_unsettled
             (five_tuple_of segment.now) self.new.connections)
             judgement segment.now) }
+        ensures counted { CountsJudged judgement self.old.arrivals self.new.arrivals }
         ensures accounted { IsAccounted self.old.connections
             → IsAccounted self.new.connections }
         ensures memory { self.new.memory ≡ self.old.memory }
+        ensures kept { self.new.kept ≡ self.old.kept }
         ensures reader { uncounted self.new.arrivals ≡ uncounted self.old.arrivals }
     {
         match judgement {
@@ -704,9 +705,11 @@ impl<K: PieceCollector> Log<K> {
         ensures others { KeepsOthers (five_tuple_of segment.now) self.old.connections.live
             self.new.connections.live }
         ensures due { self.new.is_unsettled ≡ begins segment.now }
+        ensures damaged { self.new.arrivals ≡ counting_dropped reason self.old.arrivals }
         ensures accounted { IsAccounted self.old.connections
             → IsAccounted self.new.connections }
         ensures memory { self.new.memory ≡ self.old.memory }
+        ensures kept { self.new.kept ≡ self.old.kept }
         ensures reader { uncounted self.new.arrivals ≡ uncounted self.old.arrivals }
     {
         self.count_dropped(reason);
@@ -722,9 +725,11 @@ impl<K: PieceCollector> Log<K> {
         ensures others { KeepsOthers (five_tuple_of segment.now) self.old.connections.live
             self.new.connections.live }
         ensures due { self.new.is_unsettled ≡ true }
+        ensures damaged { self.new.arrivals ≡ counting_dropped reason self.old.arrivals }
         ensures accounted { IsAccounted self.old.connections
             → IsAccounted self.new.connections }
         ensures memory { self.new.memory ≡ self.old.memory }
+        ensures kept { self.new.kept ≡ self.old.kept }
         ensures reader { uncounted self.new.arrivals ≡ uncounted self.old.arrivals }
     {
         self.count_dropped(reason);
@@ -750,6 +755,7 @@ impl<K: PieceCollector> Log<K> {
         ensures accounted { IsAccounted self.old.connections
             → IsAccounted self.new.connections }
         ensures memory { self.new.memory ≡ self.old.memory }
+        ensures kept { self.new.kept ≡ self.old.kept }
         ensures reader { uncounted self.new.arrivals ≡ uncounted self.old.arrivals }
     {
         if !acknowledges {
@@ -757,25 +763,6 @@ impl<K: PieceCollector> Log<K> {
         }
         self.analyze_acknowledged(segment)?;
         self.take_segment(segment)
-    }
-
-    /// Adds a count of bytes that disagreed in a datagram's fragments to the sender of the arrival
-    /// inside, if its connection is open. Returns whether it is.
-    pub(crate) fn note_disagreeing(&mut self, arrival: &Arrival<'_>, count: u64) -> bool
-        ensures noted { self.new.connections
-            ≡ with_disagreeing arrival.now count self.old.connections }
-        ensures is_open { result
-            ≡ is_some (at (five_tuple_in arrival.now) self.old.connections.live) }
-        ensures accounted { IsAccounted self.old.connections
-            → IsAccounted self.new.connections }
-        ensures memory { self.new.memory ≡ self.old.memory }
-        ensures reader { uncounted self.new.arrivals ≡ uncounted self.old.arrivals }
-    {
-        let Some(connection) = self.connections.get_mut(&arrival.between()) else {
-            return false;
-        };
-        count_disagreeing(connection, arrival.source(), count);
-        true
     }
 
     /// Returns whether pieces are passed on with each packet.

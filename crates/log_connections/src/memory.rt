@@ -1,11 +1,11 @@
 //! Evicts connections when memory runs short.
-ghost use Rattle.std.specs.Prelude.{◌≡◌, ◌<◌, IfSome, length};
+ghost use Rattle.std.specs.Prelude.{◌≡◌, ◌<◌, IfSome, length, true};
 ghost use Rattle.std.specs.Option.{option_map};
 ghost use Rattle.arrivals.specs.Arrival.{five_tuple_in};
 ghost use Rattle.connections.specs.Memory.{FitsClosed, IsAccounted};
 ghost use Rattle.connections.specs.Table.{at, others};
-ghost use Rattle.log_connections.specs.Log.{uncounted};
-ghost use Rattle.log_connections.specs.Sink.{AreEarly, EndsAs, Evicts, EndsLast, marked_early};
+ghost use Rattle.log_connections.specs.Log.{counting_early, uncounted};
+ghost use Rattle.log_connections.specs.Sink.{EndsAs, Evicts, EndsLast, marked};
 
 use crate::analysis::{PieceCollector, TlsAnalysis};
 use crate::log::Log;
@@ -26,10 +26,13 @@ impl<K: PieceCollector> Log<K> {
 
     /// Marks a connection as ended early, and counts it, unless it was marked before.
     pub(crate) fn mark_early(&mut self, over: &mut Connection<TlsAnalysis<K>>)
-        ensures marked { over.new ≡ marked_early over.old }
+        ensures marked { over.new ≡ marked true over.old }
+        ensures counted { self.new.arrivals
+            ≡ counting_early over.old.attachment.is_ended_early self.old.arrivals }
         ensures connections { self.new.connections ≡ self.old.connections }
         ensures unsettled { self.new.is_unsettled ≡ self.old.is_unsettled }
         ensures memory { self.new.memory ≡ self.old.memory }
+        ensures kept { self.new.kept ≡ self.old.kept }
         ensures reader { uncounted self.new.arrivals ≡ uncounted self.old.arrivals }
     {
         if over.attachment.is_ended_early {
@@ -44,11 +47,11 @@ impl<K: PieceCollector> Log<K> {
         &mut self,
         taken: Option<Box<Connection<TlsAnalysis<K>>>>,
     ) -> Option<Box<Connection<TlsAnalysis<K>>>>
-        ensures ended { EndsAs (option_map (λ b. b.value) taken)
+        ensures ended { EndsAs true (option_map (λ b. b.value) taken)
             (option_map (λ b. b.value) result) }
-        ensures early { AreEarly (option_map (λ b. b.value) result) }
         ensures connections { self.new.connections ≡ self.old.connections }
         ensures memory { self.new.memory ≡ self.old.memory }
+        ensures kept { self.new.kept ≡ self.old.kept }
         ensures reader { uncounted self.new.arrivals ≡ uncounted self.old.arrivals }
     {
         let mut over = self.with_last(taken)?;
@@ -60,13 +63,13 @@ impl<K: PieceCollector> Log<K> {
     pub(crate) fn take_evicted(&mut self) -> Option<Box<Connection<TlsAnalysis<K>>>>
         ensures evicted { Evicts self.old.memory self.old.connections self.new.connections
             (option_map (λ b. b.value) result) }
-        ensures early { AreEarly (option_map (λ b. b.value) result) }
         ensures fewer { IfSome result (λ _.
             length self.new.connections.live < length self.old.connections.live) }
         ensures closed { FitsClosed self.old.memory self.old.connections.closed
             self.new.connections.closed }
         ensures accounted { IsAccounted self.old.connections → IsAccounted self.new.connections }
         ensures memory { self.new.memory ≡ self.old.memory }
+        ensures kept { self.new.kept ≡ self.old.kept }
         ensures reader { uncounted self.new.arrivals ≡ uncounted self.old.arrivals }
     {
         if !self.connections.is_over_limit(self.memory) {
@@ -82,14 +85,14 @@ impl<K: PieceCollector> Log<K> {
         &mut self,
         arrival: &Arrival<'_>,
     ) -> Option<Box<Connection<TlsAnalysis<K>>>>
-        ensures own { EndsAs (at (five_tuple_in arrival.now) self.old.connections.live)
+        ensures own { EndsAs true (at (five_tuple_in arrival.now) self.old.connections.live)
             (option_map (λ b. b.value) result) }
         ensures others { self.new.connections.live ≡ others (five_tuple_in arrival.now)
             self.old.connections.live }
-        ensures early { AreEarly (option_map (λ b. b.value) result) }
         ensures accounted { IsAccounted self.old.connections
             → IsAccounted self.new.connections }
         ensures memory { self.new.memory ≡ self.old.memory }
+        ensures kept { self.new.kept ≡ self.old.kept }
         ensures reader { uncounted self.new.arrivals ≡ uncounted self.old.arrivals }
     {
         self.spare = Vec::new(self.alloc);
@@ -99,12 +102,12 @@ impl<K: PieceCollector> Log<K> {
 
     /// Removes and returns the longest-idle connection, when the system refuses memory.
     pub(crate) fn take_oldest(&mut self) -> Option<Box<Connection<TlsAnalysis<K>>>>
-        ensures oldest { EndsLast self.old.connections.live self.new.connections.live
+        ensures oldest { EndsLast true self.old.connections.live self.new.connections.live
             (option_map (λ b. b.value) result) }
-        ensures early { AreEarly (option_map (λ b. b.value) result) }
         ensures accounted { IsAccounted self.old.connections
             → IsAccounted self.new.connections }
         ensures memory { self.new.memory ≡ self.old.memory }
+        ensures kept { self.new.kept ≡ self.old.kept }
         ensures reader { uncounted self.new.arrivals ≡ uncounted self.old.arrivals }
     {
         let taken = self.connections.take_remaining();

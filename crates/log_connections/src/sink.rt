@@ -1,5 +1,5 @@
 //! Who receives what a log finds.
-ghost use Rattle.std.specs.Prelude.{◌≡◌, Bool, true, List, [], Option, None, IfErr, OnOk};
+ghost use Rattle.std.specs.Prelude.{◌≡◌, Bool, true, List, [], ◌∷◌, Option, None, IfErr, OnOk};
 ghost use Rattle.connections.specs.declared.connection.Connection.{Connection};
 ghost use Rattle.log_connections.specs.Sink.{Adds, IsOfSink, Receives, StaysSound, TakesPieces};
 ghost use Rattle.log_connections.specs.declared.analysis.TlsAnalysis.{TlsAnalysis};
@@ -19,6 +19,9 @@ pub trait Sink<K> {
     // The connections that are over and that it received, first to last, if a contract needs them.
     ghost received: { Self → Option (List (Connection (TlsAnalysis K))) } = { λ _. None };
 
+    // The open connections that it was lent, first to last, if a contract needs them.
+    ghost lent: { Self → Option (List (Connection (TlsAnalysis K))) } = { λ _. None };
+
     /// Receives a connection that is over, with the pieces that weren't taken from its collector.
     /// `time` is the time of the packet that ended it, or of its last packet.
     fn connection(
@@ -27,6 +30,7 @@ pub trait Sink<K> {
         time: u64,
     ) -> Result<(), Self::Error>
         ensures received { Receives (received self.old) (received self.new) result over.value }
+        ensures lent { Adds (lent self.old) (lent self.new) [] }
         ensures sound { is_sound self.old ≡ true → OnOk result (is_sound self.new ≡ true) };
 
     /// Receives an open connection after its packet of this time, if messages or certificates are
@@ -37,6 +41,7 @@ pub trait Sink<K> {
         time: u64,
     ) -> Result<(), Self::Error>
         ensures received { Adds (received self.old) (received self.new) [] }
+        ensures lent { Adds (lent self.old) (lent self.new) (open.old ∷ []) }
         ensures taken { TakesPieces open.old open.new }
         ensures sound { is_sound self.old ≡ true → OnOk result (is_sound self.new ≡ true) };
 }
@@ -67,6 +72,7 @@ pub(crate) fn hand_over<K, S: Sink<K>>(
     sink: &mut S,
 ) -> Result<(), LogError<S::Error>>
     ensures received { Receives (S.received sink.old) (S.received sink.new) result over.value }
+    ensures lent { Adds (S.lent sink.old) (S.lent sink.new) [] }
     ensures failed { IfErr result (λ error. IsOfSink error) }
     ensures sound { StaysSound (S.is_sound sink.old) (S.is_sound sink.new) result }
 {
@@ -83,6 +89,7 @@ pub(crate) fn hand_pieces<K, S: Sink<K>>(
     sink: &mut S,
 ) -> Result<(), LogError<S::Error>>
     ensures received { Adds (S.received sink.old) (S.received sink.new) [] }
+    ensures lent { Adds (S.lent sink.old) (S.lent sink.new) (open.old ∷ []) }
     ensures taken { TakesPieces open.old open.new }
     ensures failed { IfErr result (λ error. IsOfSink error) }
     ensures sound { StaysSound (S.is_sound sink.old) (S.is_sound sink.new) result }

@@ -18,7 +18,7 @@ use Rattle.connections.specs.declared.five_tuple.FiveTuple.{FiveTuple}
 use Rattle.connections.specs.declared.receiver.Judgement.{Judgement}
 use Rattle.connections.specs.declared.receiver.Judgement.TheVariants as judgement
 use Rattle.connections.specs.declared.segment.Segment.{Segment}
-use Rattle.log_connections.specs.Log.{AcceptsAt, AcceptsDelivered, AcceptsIf, AcceptsJudged, BeginsUnless, AnalyzesAcknowledged, AnalyzesKept, AnalyzesOne, AnalyzesPending, AnalyzesSegment, IsDelivered, Logs, LogsDatagram, Settles, Takes, TakesBehind, TakesIf, enough, had, no_more, none, one_then, taken}
+use Rattle.log_connections.specs.Log.{AcceptsAt, AcceptsDelivered, AcceptsIf, AcceptsJudged, BeginsUnless, AnalyzesAcknowledged, AnalyzesKept, AnalyzesOne, AnalyzesPending, AnalyzesSegment, IsReady, IsDelivered, Logs, LogsDatagram, Settles, Takes, TakesBehind, TakesIf, enough, had, no_more, none, one_then, taken}
 use Rattle.log_connections.specs.Sink.{EndsAs}
 use Rattle.log_connections.specs.declared.analysis.TlsAnalysis.{TlsAnalysis}
 use Rattle.log_connections.specs.declared.exchanges.Delivery.{Delivery}
@@ -94,7 +94,7 @@ module _ {K : Type 0} (e : FiveTuple) where
       ]) h
 
   closed_out : (f : FiveTuple) (time : ℕ) (mid new : Table (TlsAnalysis K))
-      (o over : Option (Connection (TlsAnalysis K))) → ended f mid ≡ o → EndsAs o over
+      (o over : Option (Connection (TlsAnalysis K))) → ended f mid ≡ o → EndsAs false o over
       → new ≡ (if is_some o then record {
         live = others f mid.live;
         closed = (f, time) ∷ others f mid.closed;
@@ -114,7 +114,7 @@ module _ {K : Type 0} (e : FiveTuple) where
 
   module _ (s : Segment) where
     received_count : (old new : Table (TlsAnalysis K)) (o : Option (Connection (TlsAnalysis K)))
-        → at (five_tuple_of s) old.live ≡ o → AnalyzesSegment s old new
+        → at (five_tuple_of s) old.live ≡ o → AnalyzesSegment IsReady s old new
         → count_of e new.live
         ≡ count_of e old.live + times e (begun_if (not (is_some o)) (five_tuple_of s))
     received_count old new o found receives =
@@ -175,10 +175,10 @@ module _ {K : Type 0} (e : FiveTuple) where
     )
 
     pending_open : (k : Kept) (old mid new : Table (TlsAnalysis K))
-        → StaysOpen old mid → AnalyzesPending (five_tuple_of s) k mid new → StaysOpen old new
+        → StaysOpen old mid → AnalyzesPending IsReady (five_tuple_of s) k mid new → StaysOpen old new
     pending_open k old mid new h receives =
-        let later = comes_first_open (AnalyzesKept k) mid new h.1.0 h.1.1
-        (subst (λ o. ComesFirst (five_tuple_of s) (AnalyzesKept k) o mid new) h.1.1 receives) in
+        let later = comes_first_open (AnalyzesKept IsReady k) mid new h.1.0 h.1.1
+        (subst (λ o. ComesFirst (five_tuple_of s) (AnalyzesKept IsReady k) o mid new) h.1.1 receives) in
         (later.0 ∙ h.0, later.1)
 
     one_open : (old new : Table (TlsAnalysis K)) (b : Bool) (c : Connection (TlsAnalysis K))
@@ -252,7 +252,7 @@ module _ {K : Type 0} (e : FiveTuple) where
     replaced_count : (old mid new : Table (TlsAnalysis K))
         (was over : Option (Connection (TlsAnalysis K))) (c : Connection (TlsAnalysis K))
         → at (five_tuple_of s) old.live ≡ Some c → (another_of s c ≡ None → ⊥)
-        → Replaced s old mid was → Logs (belongs s mid) s mid new → EndsAs was over
+        → Replaced s old mid was → Logs (belongs s mid) s mid new → EndsAs false was over
         → Balances (five_tuple_of s) true old new over
     replaced_count old mid new None over c found some h logs ends =
         absurd (some (subst (λ o. another_in s o ≡ None) found h.1))
@@ -296,7 +296,7 @@ module _ {K : Type 0} (e : FiveTuple) where
 
   module _ (d : Datagram) where
     logged_count : (old new : Table (TlsAnalysis K)) (o : Option (Connection (TlsAnalysis K)))
-        → at (five_tuple_of_datagram d) old.live ≡ o → LogsDatagram d old new
+        → at (five_tuple_of_datagram d) old.live ≡ o → LogsDatagram IsReady d old new
         → count_of e new.live
         ≡ count_of e old.live + times e (begun_if (not (is_some o)) (five_tuple_of_datagram d))
     logged_count old new o found logs =
@@ -322,7 +322,7 @@ module _ {K : Type 0} (e : FiveTuple) where
     after_count : (old mid new : Table (TlsAnalysis K))
         (over : Option (Connection (TlsAnalysis K))) (c : Connection (TlsAnalysis K))
         → at (five_tuple_of_datagram d) old.live ≡ Some c → BeginsAfter d (Some c) old mid
-        → LogsDatagram d mid new → over ≡ Some c
+        → LogsDatagram IsReady d mid new → over ≡ Some c
         → Balances (five_tuple_of_datagram d) true old new over
     after_count old mid new over c found begins logs out =
         omega (

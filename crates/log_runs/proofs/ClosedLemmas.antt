@@ -24,7 +24,7 @@ use Rattle.connections.specs.declared.receiver.Judgement.{Judgement}
 use Rattle.connections.specs.declared.receiver.Judgement.TheVariants as judgement
 use Rattle.connections.specs.declared.segment.Segment.{Segment}
 use Rattle.connections.specs.declared.table.TheConstants.{IDLE_LIMIT, MAX_CONNECTIONS}
-use Rattle.log_connections.specs.Log.{Accepts, AcceptsAt, AcceptsDelivered, AcceptsIf, AcceptsJudged, AnalyzesAcknowledged, AnalyzesOne, AnalyzesSegment, BeginsUnless, Logs, Settles, Takes, TakesBehind, TakesIf, enough, had, no_more, none, one_then, taken}
+use Rattle.log_connections.specs.Log.{IsReady, Accepts, AcceptsAt, AcceptsDelivered, AcceptsIf, AcceptsJudged, AnalyzesAcknowledged, AnalyzesOne, AnalyzesSegment, BeginsUnless, Logs, Settles, Takes, TakesBehind, TakesIf, enough, had, no_more, none, one_then, taken}
 use Rattle.log_connections.specs.Packet.{Arrives, IsLent, ends, goes_on}
 use Rattle.log_connections.specs.Packet.Arrives.{is_refused as has_no_memory}
 use Rattle.log_connections.specs.declared.analysis.TlsAnalysis.{TlsAnalysis}
@@ -316,13 +316,13 @@ module _ {K : Type 0} (s : Segment) where
   } else mid
 
   -- It is the one of its five-tuple, or is none if it ended.
-  stands_first : (old mid : Table (TlsAnalysis K)) (h : AnalyzesSegment s old mid)
+  stands_first : (old mid : Table (TlsAnalysis K)) (h : AnalyzesSegment IsReady s old mid)
       → at (five_tuple_of s) mid.live ≡ Some h.its
   stands_first old mid h =
       ap (at (five_tuple_of s)) h.stands
       ∙ at_first (five_tuple_of s) (others (five_tuple_of s) old.live) h.its
 
-  without_first : (old mid : Table (TlsAnalysis K)) (h : AnalyzesSegment s old mid)
+  without_first : (old mid : Table (TlsAnalysis K)) (h : AnalyzesSegment IsReady s old mid)
       → others (five_tuple_of s) mid.live ≡ others (five_tuple_of s) old.live
   without_first old mid h =
       ap (others (five_tuple_of s)) h.stands
@@ -330,7 +330,7 @@ module _ {K : Type 0} (s : Segment) where
 
   -- It began with the segment.
   begun_closes : (old mid new : Table (TlsAnalysis K)) (o : Option (Connection (TlsAnalysis K)))
-      → at (five_tuple_of s) old.live ≡ None → AnalyzesSegment s old mid → new ≡ left_by o mid
+      → at (five_tuple_of s) old.live ≡ None → AnalyzesSegment IsReady s old mid → new ≡ left_by o mid
       → Closes (five_tuple_of s) s.time old.closed new.closed true false
       (is_some (at (five_tuple_of s) new.live))
   begun_closes old mid new None missed h same =
@@ -352,7 +352,7 @@ module _ {K : Type 0} (s : Segment) where
 
   -- It was open before.
   open_stays : (old mid : Table (TlsAnalysis K)) (c : Connection (TlsAnalysis K))
-      → at (five_tuple_of s) old.live ≡ Some c → AnalyzesSegment s old mid
+      → at (five_tuple_of s) old.live ≡ Some c → AnalyzesSegment IsReady s old mid
       → mid.closed ≡ old.closed
   open_stays old mid c found h =
       h.closed ∙ ap (λ o. without_if (true && not (is_some o)) (five_tuple_of s) old.closed) found
@@ -362,7 +362,7 @@ module _ {K : Type 0} (s : Segment) where
       → old.closed ≡ base.closed
       → others (five_tuple_of s) old.live ≡ others (five_tuple_of s) base.live
       → at (five_tuple_of s) (others (five_tuple_of s) base.live) ≡ None
-      → at (five_tuple_of s) old.live ≡ Some c → AnalyzesSegment s old mid
+      → at (five_tuple_of s) old.live ≡ Some c → AnalyzesSegment IsReady s old mid
       → new ≡ left_by o mid
       → Closes (five_tuple_of s) s.time base.closed new.closed true true
       (is_some (at (five_tuple_of s) new.live))
@@ -446,7 +446,7 @@ module _ {K : Type 0} (s : Segment) where
       → Closes (five_tuple_of s) s.time old.closed new.closed true true
       (is_some (at (five_tuple_of s) new.live))
   logged_lasts old mid new c kept found logs =
-      let its : AnalyzesSegment s mid new =
+      let its : AnalyzesSegment IsReady s mid new =
       subst (λ b. Logs b s mid new) (belongs_open s mid c found) logs in
       subst (λ x. Closes (five_tuple_of s) s.time old.closed new.closed true true (is_some x))
       (sym (stands_first mid new its)) (lasts (open_stays mid new c found its ∙ kept))

@@ -23,7 +23,7 @@ use Rattle.log_connections.specs.declared.analysis.TlsAnalysis.{TlsAnalysis}
 use Rattle.log_connections.specs.declared.exchanges.Delivery.{Delivery}
 use Rattle.log_connections.specs.declared.exchanges.Delivery.TheVariants as delivery
 use Rattle.log_runs.specs.Counting.{rest_of}
-use Rattle.log_connections.specs.Log.{Accepts, AcceptsAt, AcceptsDelivered, AcceptsIf, AcceptsJudged, BeginsUnless, AnalyzesAcknowledged, AnalyzesOne, AnalyzesSegment, Logs, LogsDatagram, Settles, Takes, TakesBehind, TakesIf, enough, had, no_more, none, one_then, taken}
+use Rattle.log_connections.specs.Log.{IsReady, Accepts, AcceptsAt, AcceptsDelivered, AcceptsIf, AcceptsJudged, BeginsUnless, AnalyzesAcknowledged, AnalyzesOne, AnalyzesSegment, Logs, LogsDatagram, Settles, Takes, TakesBehind, TakesIf, enough, had, no_more, none, one_then, taken}
 
 module _ {X : Type 0} (f : FiveTuple) where
   rest-first : (xs : List (FiveTuple × X)) (w : X) → rest_of f ((f, w) ∷ xs) ≡ rest_of f xs
@@ -105,7 +105,7 @@ module _ {K : Type 0} (f : FiveTuple) where
   settled M false old new same = same_table old new same
 
 module _ {K : Type 0} (s : Segment) where
-  analysis : (old new : Table (TlsAnalysis K)) → AnalyzesSegment s old new
+  analysis : (old new : Table (TlsAnalysis K)) → AnalyzesSegment IsReady s old new
       → Stay (five_tuple_of s) old new
   analysis old new h = rest-put (five_tuple_of s) old.live new.live h.its h.stands
 
@@ -176,7 +176,7 @@ module _ {K : Type 0} (s : Segment) where
   segment_at old new (Some c) over h = by_verdict _ _ _ _ old new over h
 
 module _ {K : Type 0} (d : Datagram) where
-  datagram : (old new : Table (TlsAnalysis K)) → LogsDatagram d old new
+  datagram : (old new : Table (TlsAnalysis K)) → LogsDatagram IsReady d old new
       → Stay (five_tuple_of_datagram d) old new
   datagram old new h = rest-put (five_tuple_of_datagram d) old.live new.live h.its h.stands
 

@@ -106,12 +106,13 @@ module _ {K V A : Type 0} (b : Behavior K V A) where
       cc
 
   pub ended_own : (e : FiveTuple) (n : ℕ) (P : Connection (TlsAnalysis K) → Type 0)
+      {early : Bool}
       {Is : List (FiveTuple × Connection (TlsAnalysis K)) → Connection (TlsAnalysis K) → Type 0}
       {xs ys : List (FiveTuple × Connection (TlsAnalysis K))}
       {outs : List (Connection (TlsAnalysis K))}
       → ((zs : List (FiveTuple × Connection (TlsAnalysis K))) (c : Connection (TlsAnalysis K))
       → length zs ≤ n → Is zs c → P c)
-      → (h : EndInTurn Is xs ys outs) → EndAs b h → Distinct xs → length xs ≤ n
+      → (h : EndInTurn early Is xs ys outs) → EndAs b h → Distinct xs → length xs ≤ n
       → Ends P (at e xs) (at e ys) (views b e (ended_in h)) × (Distinct ys × (length ys ≤ n))
   ended_own e n P imply none behaves d few = (stays refl refl, (d, few))
   ended_own e n P {xs = xs} imply (one ys zs outs c c' before is last) behaves d few =

@@ -30,7 +30,7 @@ use Rattle.log_connections.specs.Analysis.{is_followed_in}
 use Rattle.log_connections.specs.declared.analysis.TlsAnalysis.{TlsAnalysis}
 use Rattle.log_connections.specs.declared.exchanges.Delivery.{Delivery}
 use Rattle.log_connections.specs.declared.exchanges.Delivery.TheVariants as delivery
-use Rattle.log_connections.specs.Log.{Accepts, AcceptsAt, AcceptsDelivered, AcceptsIf, AcceptsJudged, BeginsUnless, AnalyzesAcknowledged, AnalyzesKept, AnalyzesOne, AnalyzesPending, AnalyzesSegment, AnalyzesSender, AnalyzesSide, AnalyzesWaiting, FollowsIf, FollowsOpened, Logs, LogsDatagram, Settles, Takes, TakesBehind, TakesIf, enough, had, no_more, none, one_then, taken}
+use Rattle.log_connections.specs.Log.{Accepts, AcceptsAt, AcceptsDelivered, AcceptsIf, AcceptsJudged, BeginsUnless, AnalyzesAcknowledged, AnalyzesKept, AnalyzesOne, AnalyzesPending, AnalyzesSegment, IsReady, AnalyzesSender, AnalyzesSide, AnalyzesWaiting, FollowsIf, FollowsOpened, Logs, LogsDatagram, Settles, Takes, TakesBehind, TakesIf, enough, had, no_more, none, one_then, taken}
 
 module _ {T : Type 0} where
   -- The connection of a five-tuple ended; it came first, with this last time; it changed in its
@@ -216,7 +216,7 @@ module _ {K : Type 0} (f : FiveTuple) where
       left (ap (λ t. t.live) same ∙ ap (others f) stands ∙ others-first f (others f base) its)
 
 module _ {K : Type 0} (s : Segment) where
-  sender_time : (side : Side) (c c' : Connection (TlsAnalysis K)) → AnalyzesSender s side c c'
+  sender_time : (side : Side) (c c' : Connection (TlsAnalysis K)) → AnalyzesSender IsReady s side c c'
       → c'.last_time ≡ c.last_time
   sender_time Originator c c' h =
       ap {A = Connection (TlsAnalysis K)} (λ x. x.last_time) h.3
@@ -240,13 +240,13 @@ module _ {K : Type 0} (s : Segment) where
   followed_time true side c d h = opened_time (has_opening c) side c d h
   followed_time false side c d h = ap {A = Connection (TlsAnalysis K)} (λ x. x.last_time) h
 
-  analyzed_time : (side : Side) (c c' : Connection (TlsAnalysis K)) → AnalyzesSide s side c c'
+  analyzed_time : (side : Side) (c c' : Connection (TlsAnalysis K)) → AnalyzesSide IsReady s side c c'
       → c'.last_time ≡ c.last_time
   analyzed_time side c c' h =
       sender_time side h.0 c' h.2
       ∙ followed_time (has_data s && is_followed_in c.attachment.transport) side c h.0 h.1
 
-  segment_time : (old new : Table (TlsAnalysis K)) (h : AnalyzesSegment s old new)
+  segment_time : (old new : Table (TlsAnalysis K)) (h : AnalyzesSegment IsReady s old new)
       → h.its.last_time ≡ s.time
   segment_time old new h =
       analyzed_time (side_of h.put s.source) h.put h.its h.receives
@@ -287,11 +287,11 @@ module _ {K : Type 0} (s : Segment) where
       (changed_live (five_tuple_of s) _ old new c found same)
 
   pending_open : (k : Kept) (old mid new : Table (TlsAnalysis K))
-      → StaysOpen (five_tuple_of s) old mid → AnalyzesPending (five_tuple_of s) k mid new
+      → StaysOpen (five_tuple_of s) old mid → AnalyzesPending IsReady (five_tuple_of s) k mid new
       → StaysOpen (five_tuple_of s) old new
   pending_open k old mid new h receives =
       let its =
-      subst (λ o. ComesFirst (five_tuple_of s) (AnalyzesKept k) o mid new) h.1.1 receives in
+      subst (λ o. ComesFirst (five_tuple_of s) (AnalyzesKept IsReady k) o mid new) h.1.1 receives in
       let later = put_open (five_tuple_of s) mid new its.0 (ap (λ t. t.live) its.2) in
       (later.0 ∙ h.0, later.1)
 
@@ -357,7 +357,7 @@ module _ {K : Type 0} (s : Segment) where
       → at (five_tuple_of s) mid.live ≡ Some c → Logs (belongs s mid) s mid new
       → Placed (five_tuple_of s) s.time base new.live
   logs_placed base mid new c rest found h =
-      let its : AnalyzesSegment s mid new =
+      let its : AnalyzesSegment IsReady s mid new =
       subst (λ b. Logs b s mid new) (belongs_open mid c found) h in
       first its.its (segment_time mid new its)
       (its.stands ∙ ap (λ l. (five_tuple_of s, its.its) ∷ l) rest)
@@ -396,7 +396,7 @@ module _ {K : Type 0} (d : Datagram) where
   logged_placed : (base : List (FiveTuple × Connection (TlsAnalysis K)))
       (old new : Table (TlsAnalysis K))
       → others (five_tuple_of_datagram d) old.live ≡ others (five_tuple_of_datagram d) base
-      → LogsDatagram d old new → Placed (five_tuple_of_datagram d) d.time base new.live
+      → LogsDatagram IsReady d old new → Placed (five_tuple_of_datagram d) d.time base new.live
   logged_placed base old new rest h =
       first h.its
       (ap {A = Connection (TlsAnalysis K)} (λ x. x.last_time) h.receives.3

@@ -32,9 +32,10 @@ none_left (x ∷ xs) ys h = cc
 module _ {K : Type 0} (e : FiveTuple) where
   -- Those that ended are those that were open and aren't any more.
   pub ended_count :
+      {early : Bool}
       {Is : List (FiveTuple × Connection (TlsAnalysis K)) → Connection (TlsAnalysis K) → Type 0}
       {xs ys : List (FiveTuple × Connection (TlsAnalysis K))}
-      {outs : List (Connection (TlsAnalysis K))} (h : EndInTurn Is xs ys outs)
+      {outs : List (Connection (TlsAnalysis K))} (h : EndInTurn early Is xs ys outs)
       → count_of e (ended_in h) + count_of e ys ≡ count_of e xs
   ended_count none = omega arith
   ended_count (one ys zs outs c c' before is last) =
@@ -174,9 +175,10 @@ module _ {K : Type 0} where
       (adds_then a b c (values_of xs) (values_of ys) h k)
 
   ended_values :
+      {early : Bool}
       {Is : List (FiveTuple × Connection (TlsAnalysis K)) → Connection (TlsAnalysis K) → Type 0}
       {xs ys : List (FiveTuple × Connection (TlsAnalysis K))}
-      {outs : List (Connection (TlsAnalysis K))} (h : EndInTurn Is xs ys outs)
+      {outs : List (Connection (TlsAnalysis K))} (h : EndInTurn early Is xs ys outs)
       → values_of (ended_in h) ≡ outs
   ended_values none = refl
   ended_values (one ys zs outs c c' before is last) =
@@ -184,9 +186,10 @@ module _ {K : Type 0} where
       ∙ ap (λ l. l ++ c' ∷ []) (ended_values before)
 
   passes_received :
+      {early : Bool}
       {Is : List (FiveTuple × Connection (TlsAnalysis K)) → Connection (TlsAnalysis K) → Type 0}
       {xs ys : List (FiveTuple × Connection (TlsAnalysis K))}
-      {a b : Option (List (Connection (TlsAnalysis K)))} (p : PassesEnded Is xs ys a b)
+      {a b : Option (List (Connection (TlsAnalysis K)))} (p : PassesEnded early Is xs ys a b)
       → Adds a b (values_of (ended_in p.ended))
   passes_received {a} {b} p = subst (Adds a b) (sym (ended_values p.ended)) p.received
 
@@ -196,7 +199,7 @@ module _ {K : Type 0} where
   own_values f (Some c) = refl
 
   oldest_values : (xs ys : List (FiveTuple × Connection (TlsAnalysis K)))
-      (o : Option (Connection (TlsAnalysis K))) (h : EndsLast xs ys o)
+      (o : Option (Connection (TlsAnalysis K))) (h : EndsLast true xs ys o)
       → values_of (last_ended xs ys o h) ≡ as_list o
   oldest_values xs ys None h = refl
   oldest_values xs ys (Some c) h = refl
@@ -298,7 +301,7 @@ module _ {K : Type 0} (M : K → ℕ) where
       (before between after : Option (List (Connection (TlsAnalysis K))))
       (packets : List Packet) (r : Result A (LogError E))
       → HandlesEach M limit reader old before packets read last between
-      → OnErr r (PassesAllButLast IsOpen last.live new.live between after)
+      → OnErr r (PassesAllButLast false IsOpen last.live new.live between after)
       → IfErr r (λ error. IsOfSink error)
       → IfErr r (λ error. StopsRun M limit packets reader error old new before after)
   stops_last limit reader read old last new before between after packets (Ok x) h stops sinks = tt

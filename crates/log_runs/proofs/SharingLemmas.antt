@@ -57,18 +57,20 @@ is_some_mapped g (Some x) = refl
 module _ {K : Type 0} where
   -- None ended.
   none_ended :
+      {early : Bool}
       {Is : List (FiveTuple × Connection (TlsAnalysis K)) → Connection (TlsAnalysis K) → Type 0}
       {xs ys : List (FiveTuple × Connection (TlsAnalysis K))}
-      {outs : List (Connection (TlsAnalysis K))} (h : EndInTurn Is xs ys outs)
+      {outs : List (Connection (TlsAnalysis K))} (h : EndInTurn early Is xs ys outs)
       → ended_in h ≡ [] → ys ≡ xs
   none_ended none h = refl
   none_ended (one ys zs outs c c' before is last) h =
       absurd (snoc_nil (ended_in before) (last.five_tuple, c') h)
 
   ended_order :
+      {early : Bool}
       {Is : List (FiveTuple × Connection (TlsAnalysis K)) → Connection (TlsAnalysis K) → Type 0}
       {xs ys : List (FiveTuple × Connection (TlsAnalysis K))}
-      {outs : List (Connection (TlsAnalysis K))} (n : ℕ) → EndInTurn Is xs ys outs → Distinct xs
+      {outs : List (Connection (TlsAnalysis K))} (n : ℕ) → EndInTurn early Is xs ys outs → Distinct xs
       → InTime n xs → Distinct ys × InTime n ys
   ended_order n none d i = (d, i)
   ended_order n (one ys zs outs c c' before is last) d i =

@@ -97,40 +97,41 @@ module _ {K : Type 0} (e : FiveTuple) where
   stays_then (Some c) p q xs ys (inr h) k = inr (comes_left c xs ys h)
 
   -- The last entry ends.
-  last_stays : (zs : List (FiveTuple × Connection (TlsAnalysis K))) (f : FiveTuple)
-      (c c' : Connection (TlsAnalysis K)) → IsEnded c c'
+  last_stays : (early : Bool) (zs : List (FiveTuple × Connection (TlsAnalysis K))) (f : FiveTuple)
+      (c c' : Connection (TlsAnalysis K)) → IsEnded early c c'
       → StaysOrComesOut e (at e (zs ++ (f, c) ∷ [])) (at e zs) ((f, c') ∷ [])
-  last_stays [] f c c' ended = (elim (is_five_tuple e f) as
+  last_stays early [] f c c' ended = (elim (is_five_tuple e f) as
       (λ b. is_five_tuple e f ≡ b → StaysOrComesOut e (cond b (Some c) None) None ((f, c') ∷ [])) [
-        | true ↦ λ t. inr (inl (sym (the_same e f t), ended))
+        | true ↦ λ t. inr (inl (sym (the_same e f t), (early, ended)))
         | false ↦ λ t. refl
       ]) refl
-  last_stays (z ∷ zs) f c c' ended = elim (is_five_tuple e z.0) as
+  last_stays early (z ∷ zs) f c c' ended = elim (is_five_tuple e z.0) as
       (λ b. StaysOrComesOut e (cond b (Some z.1) (at e (zs ++ (f, c) ∷ [])))
       (cond b (Some z.1) (at e zs)) ((f, c') ∷ [])) [
         | true ↦ inl refl
-        | false ↦ last_stays zs f c c' ended
+        | false ↦ last_stays early zs f c c' ended
       ]
 
   ended_stays :
+      {early : Bool}
       {Is : List (FiveTuple × Connection (TlsAnalysis K)) → Connection (TlsAnalysis K) → Type 0}
       {xs ys : List (FiveTuple × Connection (TlsAnalysis K))}
-      {outs : List (Connection (TlsAnalysis K))} (h : EndInTurn Is xs ys outs)
+      {outs : List (Connection (TlsAnalysis K))} (h : EndInTurn early Is xs ys outs)
       → StaysOrComesOut e (at e xs) (at e ys) (ended_in h)
   ended_stays {xs = xs} none = stays_same (at e xs) (at e xs) [] refl
-  ended_stays {xs = xs} (one ys zs outs c c' before is last) =
+  ended_stays {early} {xs = xs} (one ys zs outs c c' before is last) =
       stays_then (at e xs) (at e ys) (at e zs) (ended_in before) ((last.five_tuple, c') ∷ [])
       (ended_stays before)
       (subst (λ l. StaysOrComesOut e (at e l) (at e zs) ((last.five_tuple, c') ∷ []))
-      (sym last.stood) (last_stays zs last.five_tuple c c' last.ended))
+      (sym last.stood) (last_stays early zs last.five_tuple c c' last.ended))
 
   oldest_stays : (xs ys : List (FiveTuple × Connection (TlsAnalysis K)))
-      (o : Option (Connection (TlsAnalysis K))) (h : EndsLast xs ys o)
+      (o : Option (Connection (TlsAnalysis K))) (h : EndsLast true xs ys o)
       → StaysOrComesOut e (at e xs) (at e ys) (last_ended xs ys o h)
   oldest_stays xs ys None h = stays_same (at e xs) (at e ys) [] (ap (at e) (h.1 ∙ sym h.0))
   oldest_stays xs ys (Some c') h =
       subst (λ l. StaysOrComesOut e (at e l) (at e ys) ((h.1.five_tuple, c') ∷ []))
-      (sym h.1.stood) (last_stays ys h.1.five_tuple h.0 c' h.1.ended)
+      (sym h.1.stood) (last_stays true ys h.1.five_tuple h.0 c' h.1.ended)
 
 module _ {K : Type 0} (M : K → ℕ) (e : FiveTuple) where
   lent_stays : (f : FiveTuple) → is_five_tuple f e ≡ false
@@ -259,7 +260,7 @@ module _ {K : Type 0} (e : FiveTuple) (c : Connection (TlsAnalysis K)) where
   not_over time ys d few late (inr many) same = omega (arith, few, many)
 
   pub not_idle_stays : (time : ℕ) {xs ys : List (FiveTuple × Connection (TlsAnalysis K))}
-      {outs : List (Connection (TlsAnalysis K))} → EndInTurn (IsIdle time) xs ys outs
+      {outs : List (Connection (TlsAnalysis K))} → EndInTurn false (IsIdle time) xs ys outs
       → at e xs ≡ Some c → time ≤ c.last_time + IDLE_LIMIT → length xs ≤ MAX_CONNECTIONS
       → (at e ys ≡ Some c) × (length ys ≤ MAX_CONNECTIONS)
   not_idle_stays time none found late few = (found, few)

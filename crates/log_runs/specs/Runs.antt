@@ -46,16 +46,17 @@ begins_exchange delivery.NoneOpen refused = not refused
 module _ {K : Type 0} where
   -- The connections that ended in turn, each with its five-tuple.
   abbrev pub ended_in :
+      {early : Bool}
       {Is : List (FiveTuple × Connection (TlsAnalysis K)) → Connection (TlsAnalysis K) → Type 0}
       {xs ys : List (FiveTuple × Connection (TlsAnalysis K))}
-      {outs : List (Connection (TlsAnalysis K))} → EndInTurn Is xs ys outs
+      {outs : List (Connection (TlsAnalysis K))} → EndInTurn early Is xs ys outs
       → List (FiveTuple × Connection (TlsAnalysis K))
   ended_in none = []
   ended_in (one ys zs outs c c' before is last) = ended_in before ++ (last.five_tuple, c') ∷ []
 
   -- The longest-idle connection, if one ended.
   abbrev pub last_ended : (xs ys : List (FiveTuple × Connection (TlsAnalysis K)))
-      (o : Option (Connection (TlsAnalysis K))) → EndsLast xs ys o
+      (o : Option (Connection (TlsAnalysis K))) → EndsLast true xs ys o
       → List (FiveTuple × Connection (TlsAnalysis K))
   last_ended xs ys None is = []
   last_ended xs ys (Some c) is = (is.1.five_tuple, c) ∷ []
@@ -144,7 +145,7 @@ module _ {K : Type 0} (M : K → ℕ) where
     pub last : Table (TlsAnalysis K)
     pub between : Option (List (Connection (TlsAnalysis K)))
     pub handles : HandlesEach limit reader old before packets read last between
-    pub ends : PassesEnded IsOpen last.live new.live between after
+    pub ends : PassesEnded false IsOpen last.live new.live between after
     pub none_open : new.live ≡ []
 
   -- The run stopped: at one of the packets, or at the end, where the sink refused a connection.
@@ -162,7 +163,7 @@ module _ {K : Type 0} (M : K → ℕ) where
         (read : ArrivalReader) (last : Table (TlsAnalysis K))
         (between : Option (List (Connection (TlsAnalysis K))))
         → HandlesEach limit reader old before packets read last between → IsOfSink error
-        → PassesAllButLast IsOpen last.live new.live between after
+        → PassesAllButLast false IsOpen last.live new.live between after
         → StopsRun limit packets reader error old new before after
 
 module _ {K : Type 0} {M : K → ℕ} where
@@ -206,11 +207,12 @@ is_of_other e (Whole a) = not (is_five_tuple (five_tuple_in a) e)
 is_of_other e (InFragments a n) = not (is_five_tuple (five_tuple_in a) e)
 
 module _ {K : Type 0} where
-  -- It came out among these, as it ended.
+  -- It came out among these, as it ended, early or not.
   abbrev pub ComesOut : FiveTuple → Connection (TlsAnalysis K)
       → List (FiveTuple × Connection (TlsAnalysis K)) → Type 0
   ComesOut e c [] = ⊥
-  ComesOut e c (x ∷ outs) = ((x.0 ≡ e) × IsEnded c x.1) ⊎ ComesOut e c outs
+  ComesOut e c (x ∷ outs) =
+      ((x.0 ≡ e) × ((early : Bool) × IsEnded early c x.1)) ⊎ ComesOut e c outs
 
   -- The connection of this five-tuple, if there was one, is open as it was, or came out. Without
   -- one there is none.

@@ -87,9 +87,10 @@ module _ {K V A : Type 0} (b : Behavior K V A) where
 
   -- Each connection that ended came out as its own state says.
   abbrev pub EndAs :
+      {early : Bool}
       {Is : List (FiveTuple × Connection (TlsAnalysis K)) → Connection (TlsAnalysis K) → Type 0}
       {xs ys : List (FiveTuple × Connection (TlsAnalysis K))}
-      {outs : List (Connection (TlsAnalysis K))} → EndInTurn Is xs ys outs → Type 0
+      {outs : List (Connection (TlsAnalysis K))} → EndInTurn early Is xs ys outs → Type 0
   EndAs none = ⊤
   EndAs (one ys zs outs c c' before is last) = EndAs before × (b.view c' ≡ b.ended (b.view c))
 

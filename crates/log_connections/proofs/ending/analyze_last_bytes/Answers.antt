@@ -31,7 +31,6 @@ returns-clause-analysis g c =
     IfOk-weaker c.analyze_stream-2.result _ _
     (λ _ analysis. record {
       between = c.analyze_stream.new.self;
-      last = c.analyze_stream-2.new.self;
       originator =
           subst
           (λ a. AnalyzesStream Originator (has_opening c.args.connection.now) true

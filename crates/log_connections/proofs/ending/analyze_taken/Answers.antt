@@ -3,6 +3,7 @@ use Rattle.connections.proofs.TableLemmas.{on_err}
 use Rattle.log_connections.proofs.EndingLemmas.{changed_then}
 use Rattle.log_connections.proofs.FollowLemmas.{analyzed_behind}
 use Rattle.log_connections.specs.AtEnd.{left_out, unanalyzed}
+use Rattle.log_connections.specs.Sides.{IsOnItsOwn}
 use Rattle.log_connections.proofs.ending.analyze_taken.Goals as goal
 
 pub returns-in_err-accept_pending-clause-refused : goal.returns-in_err-accept_pending-clause-refused
@@ -24,7 +25,7 @@ returns-clause-analysis g c =
       header = c.segment-segment.ensures.header;
       payload = c.segment-segment.ensures.data;
       accepts = c.in_ok-accept_pending.ensures.taken;
-      receives = analyzed_behind c.segment-segment.result c.accept_pending.new.self
+      receives = analyzed_behind IsOnItsOwn c.segment-segment.result c.accept_pending.new.self
           c.follow_front.new.connection c.analyze_sender_at_end.new.connection
           c.in_ok-follow_front.ensures.dialogue analyzes;
     }) c.analyze_sender_at_end.ensures.analysis

@@ -10,7 +10,7 @@ returns-in-Originator-clause-analysis g c =
     sym c.in-Originator.is ∙ c.side_of-side.ensures in
     rw (← is, ← c.has_opening-is_opened.ensures)
     (IfOk-weaker c.analyze_side.result _ _
-    (λ _ analysis. (c.prepare.new.self, c.in_ok-prepare.ensures.same, analysis, refl))
+    (λ _ analysis. (c.prepare.new.self, c.in_ok-prepare.ensures.prepared, analysis, refl))
     (rw c.in-Originator.is at c.analyze_side.ensures))
 
 pub returns-in-Responder-clause-analysis : goal.returns-in-Responder-clause-analysis
@@ -19,5 +19,5 @@ returns-in-Responder-clause-analysis g c =
     sym c.in-Responder.is ∙ c.side_of-side.ensures in
     rw (← is, ← c.has_opening-is_opened.ensures)
     (IfOk-weaker c.analyze_side-in-Responder.result _ _
-    (λ _ analysis. (c.prepare.new.self, c.in_ok-prepare.ensures.same, analysis, refl))
+    (λ _ analysis. (c.prepare.new.self, c.in_ok-prepare.ensures.prepared, analysis, refl))
     (rw c.in-Responder.is at c.analyze_side-in-Responder.ensures))

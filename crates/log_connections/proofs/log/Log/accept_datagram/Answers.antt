@@ -6,6 +6,8 @@ use Rattle.connections.specs.Datagram.{five_tuple_of_datagram}
 use Rattle.connections.specs.Table.{with_other, TakesDatagram, others}
 use Rattle.log_connections.proofs.LogLemmas.{datagram_received, datagram_lent, written_first}
 use Rattle.log_connections.proofs.OtherLemmas.{keeps_other, keeps_put, keeps_same, keeps_then}
+use Rattle.log_connections.specs.Analysis.{IsPrepared}
+use Rattle.log_connections.specs.Sides.{IsReady}
 use Rattle.log_connections.proofs.log.Log.accept_datagram.Goals as goal
 
 pub returns-in_err-accept_datagram-clause-others : goal.returns-in_err-accept_datagram-clause-others
@@ -22,10 +24,20 @@ returns-in_err-analyze_from-in-Some-clause-others g c =
     (keeps_then e old mid.live (with_other e its mid).live
     (keeps_put e old mid.live put.its put.stands) (keeps_other e mid its))
 
+pub returns-in_ok-analyze_from-in-Some-clause-prepared : goal.returns-in_ok-analyze_from-in-Some-clause-prepared
+returns-in_ok-analyze_from-in-Some-clause-prepared g c =
+    rw c.between.ensures
+    (datagram_received (IsPrepared c.args.self.now.arrivals.tunnels c.args.self.now.kept)
+    c.args.datagram.now c.args.self.now.connections c.accept_datagram.new.self
+    c.in-Some.exchange.now
+    c.analyze_from.new.exchange c.in_ok-accept_datagram.ensures.put c.accept_datagram.ensures.closed
+    c.in_ok-accept_datagram.ensures.attached
+    (rw c.between.ensures at c.in-Some.ensures.value) c.in_ok-analyze_from-in-Some.ensures.prepared)
+
 pub returns-in_ok-analyze_from-in-Some-clause-logged : goal.returns-in_ok-analyze_from-in-Some-clause-logged
 returns-in_ok-analyze_from-in-Some-clause-logged g c =
     rw c.between.ensures
-    (datagram_received c.args.datagram.now c.args.self.now.connections c.accept_datagram.new.self
+    (datagram_received IsReady c.args.datagram.now c.args.self.now.connections c.accept_datagram.new.self
     c.in-Some.exchange.now
     c.analyze_from.new.exchange c.in_ok-accept_datagram.ensures.put c.accept_datagram.ensures.closed
     c.in_ok-accept_datagram.ensures.attached
@@ -42,6 +54,11 @@ returns-in_ok-analyze_from-in-Some-clause-others g c =
 
 pub returns-in-None-clause-logged : goal.returns-in-None-clause-logged
 returns-in-None-clause-logged g c =
+    absurd (datagram_lent c.args.datagram.now c.args.self.now.connections c.accept_datagram.new.self
+    c.in_ok-accept_datagram.ensures.put (rw c.between.ensures at c.in-None.ensures.value))
+
+pub returns-in-None-clause-prepared : goal.returns-in-None-clause-prepared
+returns-in-None-clause-prepared g c =
     absurd (datagram_lent c.args.datagram.now c.args.self.now.connections c.accept_datagram.new.self
     c.in_ok-accept_datagram.ensures.put (rw c.between.ensures at c.in-None.ensures.value))
 

@@ -1,13 +1,14 @@
 use Rattle.std.specs.Option.{option_map}
 use Rattle.connections.specs.declared.connection.Connection.{Connection}
 use Rattle.log_connections.specs.declared.analysis.TlsAnalysis.{TlsAnalysis}
-use Rattle.log_connections.specs.Log.{IsWeighedUnless, verdict_in}
-use Rattle.log_connections.proofs.WeightLemmas.{judged_weighs, let_in_weighs, none_open_weighs, stays_after, stays_closed}
-use Rattle.std.proofs.Common.{refl, sym, ◌∙◌, Some, None}
+use Rattle.connections.specs.Table.{belongs}
+use Rattle.log_connections.specs.Log.{IsWeighedUnless, counting_stray, verdict_in}
+use Rattle.log_connections.proofs.WeightLemmas.{given_none, judged_counts, judged_open, judged_weighs, let_in_counts, let_in_open, let_in_weighs, none_counts, none_open_weighs, stays_after, stays_closed}
+use Rattle.std.proofs.Common.{ap, refl, sym, ◌∙◌, Some, None}
 use Rattle.std.proofs.lemmas.Result.{IfOk-weaker}
 use Rattle.connections.specs.Segment.{five_tuple_of}
 use Rattle.log_connections.proofs.LogLemmas.{accepts_open, accepts_acknowledging, refuses_open, stays_open, takes_in}
-use Rattle.log_connections.proofs.PacketLemmas.{given}
+use Rattle.log_connections.proofs.PacketLemmas.{given, on_any}
 use Rattle.log_connections.proofs.OtherLemmas.{keeps_then}
 use Rattle.log_connections.proofs.log.Log.accept_segment.Goals as goal
 
@@ -153,3 +154,68 @@ returns-in_err-end_analyzed-in-NoneOpen-clause-accounted g c =
 pub returns-in-Judged-clause-accounted : goal.returns-in-Judged-clause-accounted
 returns-in-Judged-clause-accounted g c =
     λ h. c.accept_by.ensures.accounted (c.analyze_open.ensures.accounted h)
+
+pub returns-in_err-analyze_open-clause-counted : goal.returns-in_err-analyze_open-clause-counted
+returns-in_err-analyze_open-clause-counted g c =
+    let_in_counts (verdict_in c.args.segment.now c.args.self.now.connections) _
+    c.in_err-analyze_open.ensures.refused
+
+pub returns-in-Received-false-clause-counted : goal.returns-in-Received-false-clause-counted
+returns-in-Received-false-clause-counted g c =
+    let_in_counts (verdict_in c.args.segment.now c.args.self.now.connections) _
+    (rw c.in-Received-false.is at c.in_ok-analyze_open.ensures.judged)
+
+pub returns-in_err-take_closed-in-Received-true-clause-counted : goal.returns-in_err-take_closed-in-Received-true-clause-counted
+returns-in_err-take_closed-in-Received-true-clause-counted g c =
+    let_in_counts (verdict_in c.args.segment.now c.args.self.now.connections) _
+    (rw c.in-Received-true.is at c.in_ok-analyze_open.ensures.judged)
+
+pub returns-in_ok-take_closed-in-Received-true-clause-counted : goal.returns-in_ok-take_closed-in-Received-true-clause-counted
+returns-in_ok-take_closed-in-Received-true-clause-counted g c =
+    let_in_counts (verdict_in c.args.segment.now c.args.self.now.connections) _
+    (rw c.in-Received-true.is at c.in_ok-analyze_open.ensures.judged)
+
+pub returns-in-Judged-clause-counted : goal.returns-in-Judged-clause-counted
+returns-in-Judged-clause-counted g c =
+    judged_counts (verdict_in c.args.segment.now c.args.self.now.connections) c.in-Judged.verdict _
+    (rw c.in-Judged.is at c.in_ok-analyze_open.ensures.judged).0
+    (rw c.analyze_open.ensures.arrivals at c.accept_by.ensures.counted)
+
+pub returns-in_err-analysis-in-NoneOpen-clause-counted : goal.returns-in_err-analysis-in-NoneOpen-clause-counted
+returns-in_err-analysis-in-NoneOpen-clause-counted g c =
+    none_counts (verdict_in c.args.segment.now c.args.self.now.connections) _
+    (rw c.in-NoneOpen.is at c.in_ok-analyze_open.ensures.judged)
+
+pub returns-in_err-end_analyzed-in-NoneOpen-clause-counted : goal.returns-in_err-end_analyzed-in-NoneOpen-clause-counted
+returns-in_err-end_analyzed-in-NoneOpen-clause-counted g c =
+    none_counts (verdict_in c.args.segment.now c.args.self.now.connections) _
+    (rw c.in-NoneOpen.is at c.in_ok-analyze_open.ensures.judged)
+
+pub returns-in_ok-end_analyzed-in-NoneOpen-clause-counted : goal.returns-in_ok-end_analyzed-in-NoneOpen-clause-counted
+returns-in_ok-end_analyzed-in-NoneOpen-clause-counted g c =
+    none_counts (verdict_in c.args.segment.now c.args.self.now.connections) _
+    (rw c.in-NoneOpen.is at c.in_ok-analyze_open.ensures.judged)
+
+pub returns-in-Received-false-clause-stray : goal.returns-in-Received-false-clause-stray
+returns-in-Received-false-clause-stray g c =
+    λ none _. let_in_open (verdict_in c.args.segment.now c.args.self.now.connections)
+    (rw c.in-Received-false.is at c.in_ok-analyze_open.ensures.judged) none
+
+pub returns-in_ok-take_closed-in-Received-true-clause-stray : goal.returns-in_ok-take_closed-in-Received-true-clause-stray
+returns-in_ok-take_closed-in-Received-true-clause-stray g c =
+    λ none _. let_in_open (verdict_in c.args.segment.now c.args.self.now.connections)
+    (rw c.in-Received-true.is at c.in_ok-analyze_open.ensures.judged) none
+
+pub returns-in_ok-end_analyzed-in-NoneOpen-clause-stray : goal.returns-in_ok-end_analyzed-in-NoneOpen-clause-stray
+returns-in_ok-end_analyzed-in-NoneOpen-clause-stray g c =
+    let s = c.args.segment.now in
+    λ _ missed. given_none c.in_ok-analysis-in-NoneOpen.analysis _ c.end_analyzed.ensures.stray
+    (c.in_ok-analysis-in-NoneOpen.ensures.belongs
+    ∙ ap (belongs s) (rw c.in-NoneOpen.is at c.in_ok-analyze_open.ensures.logged) ∙ missed)
+    ∙ ap (counting_stray s) (c.analyze_first.ensures.arrivals ∙ c.analyze_open.ensures.arrivals)
+
+pub returns-in-Judged-clause-stray : goal.returns-in-Judged-clause-stray
+returns-in-Judged-clause-stray g c =
+    on_any c.accept_by.result
+    (λ none _. judged_open (verdict_in c.args.segment.now c.args.self.now.connections)
+    c.in-Judged.verdict (rw c.in-Judged.is at c.in_ok-analyze_open.ensures.judged).0 none)

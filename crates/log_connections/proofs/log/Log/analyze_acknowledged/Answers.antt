@@ -12,6 +12,7 @@ waiting-init g c = record {
       c.args.self.now.connections.live refl;
   accounted = λ h. h;
   memory = refl;
+  kept = refl;
   reader = refl;
 }
 
@@ -31,6 +32,7 @@ waiting-preserved g c =
           c.waiting.invariant.others c.analyze_one_acknowledged.ensures.others;
       accounted = λ h. c.analyze_one_acknowledged.ensures.accounted (c.waiting.invariant.accounted h);
       memory = c.analyze_one_acknowledged.ensures.memory ∙ c.waiting.invariant.memory;
+      kept = c.analyze_one_acknowledged.ensures.kept ∙ c.waiting.invariant.kept;
       reader = c.analyze_one_acknowledged.ensures.reader ∙ c.waiting.invariant.reader;
     }
 

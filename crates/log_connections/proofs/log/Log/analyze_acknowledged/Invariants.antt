@@ -14,5 +14,6 @@ invariant-waiting g l = record {
       l.self.connections.live;
   accounted : IsAccounted l.initial.self.connections → IsAccounted l.self.connections;
   memory : l.self.memory ≡ l.initial.self.memory;
+  kept : l.self.kept ≡ l.initial.self.kept;
   reader : uncounted l.self.arrivals ≡ uncounted l.initial.self.arrivals;
 }

@@ -6,6 +6,8 @@ use Rattle.connections.specs.Datagram.{five_tuple_of_datagram}
 use Rattle.connections.proofs.TableLemmas.{on_err, written_promoted}
 use Rattle.log_connections.proofs.LogLemmas.{another_begun, exchange_received, lent_unchanged, none_damaged, some_damaged}
 use Rattle.log_connections.proofs.OtherLemmas.{keeps_other, keeps_promoted}
+use Rattle.log_connections.specs.Analysis.{IsPrepared}
+use Rattle.log_connections.specs.Sides.{IsReady}
 use Rattle.log_connections.proofs.log.Log.analyze_exchange.Goals as goal
 
 pub returns-in_default-clause-delivered : goal.returns-in_default-clause-delivered
@@ -53,10 +55,20 @@ returns-in_err-analyze_from-clause-others g c =
     (keeps_other (five_tuple_of_datagram c.args.datagram.now) c.args.self.now.connections
     c.analyze_from.new.exchange)
 
+pub returns-clause-prepared : goal.returns-clause-prepared
+returns-clause-prepared g c =
+    rw (c.promote.ensures.promoted, c.between-five_tuple.ensures)
+    (exchange_received (IsPrepared c.args.self.now.arrivals.tunnels c.args.self.now.kept)
+    c.args.datagram.now c.args.self.now.connections c.in-Some.exchange.now
+    c.take_datagram.new.self
+    c.analyze_from.new.exchange (rw c.between-five_tuple.ensures at c.in-Some.ensures.value)
+    c.take_datagram.ensures.taken c.take_datagram.ensures.attached
+    c.in_ok-analyze_from.ensures.prepared)
+
 pub returns-clause-logged : goal.returns-clause-logged
 returns-clause-logged g c =
     rw (c.promote.ensures.promoted, c.between-five_tuple.ensures)
-    (exchange_received c.args.datagram.now c.args.self.now.connections c.in-Some.exchange.now
+    (exchange_received IsReady c.args.datagram.now c.args.self.now.connections c.in-Some.exchange.now
     c.take_datagram.new.self
     c.analyze_from.new.exchange (rw c.between-five_tuple.ensures at c.in-Some.ensures.value)
     c.take_datagram.ensures.taken c.take_datagram.ensures.attached

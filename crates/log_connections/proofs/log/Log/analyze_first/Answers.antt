@@ -7,6 +7,8 @@ use Rattle.connections.specs.Segment.{five_tuple_of}
 use Rattle.connections.specs.Table.{with_other, TakesSegment, others}
 use Rattle.log_connections.proofs.LogLemmas.{segment_closes, segment_received, segment_lent, put_where_true, written_first}
 use Rattle.log_connections.proofs.OtherLemmas.{keeps_by_others, keeps_other, keeps_then}
+use Rattle.log_connections.specs.Analysis.{IsPrepared}
+use Rattle.log_connections.specs.Sides.{IsReady}
 use Rattle.log_connections.proofs.log.Log.analyze_first.Goals as goal
 
 pub returns-in_err-accept-clause-others : goal.returns-in_err-accept-clause-others
@@ -28,10 +30,22 @@ returns-in_err-analyze-in-Some-clause-others g c =
     (keeps_by_others e c.args.self.now.connections.live mid.live c.accept.ensures.others)
     (keeps_other e mid its))
 
+pub returns-in_ok-analyze-in-Some-clause-prepared : goal.returns-in_ok-analyze-in-Some-clause-prepared
+returns-in_ok-analyze-in-Some-clause-prepared g c =
+    rw c.between.ensures
+    (segment_received (IsPrepared c.args.self.now.arrivals.tunnels c.args.self.now.kept)
+    c.in_ok-accept.field-0 c.args.segment.now c.args.self.now.connections
+    c.accept.new.self
+    c.in-Some.connection.now c.analyze.new.connection c.if-not-branch.false
+    c.in_ok-accept.ensures.put
+    c.in_ok-accept.ensures.closed c.in_ok-accept.ensures.attached
+    (rw c.between.ensures at c.in-Some.ensures.value)
+    c.in_ok-analyze-in-Some.ensures.prepared)
+
 pub returns-in_ok-analyze-in-Some-clause-logged : goal.returns-in_ok-analyze-in-Some-clause-logged
 returns-in_ok-analyze-in-Some-clause-logged g c =
     rw c.between.ensures
-    (segment_received c.in_ok-accept.field-0 c.args.segment.now c.args.self.now.connections
+    (segment_received IsReady c.in_ok-accept.field-0 c.args.segment.now c.args.self.now.connections
     c.accept.new.self
     c.in-Some.connection.now c.analyze.new.connection c.if-not-branch.false
     c.in_ok-accept.ensures.put

@@ -2,7 +2,7 @@ use Rattle.std.proofs.Common.{ap, ◌∙◌, sym, subst, Some}
 use Rattle.connections.specs.Connection.{without_pending}
 use Rattle.connections.specs.Segment.{five_tuple_of}
 use Rattle.connections.specs.Table.{at}
-use Rattle.log_connections.specs.Log.{AnalyzesPending, KeepsOthers, had, none, taken}
+use Rattle.log_connections.specs.Log.{AnalyzesPending, IsReady, KeepsOthers, had, none, taken}
 use Rattle.log_connections.proofs.OtherLemmas.{keeps_changed, keeps_then}
 use Rattle.log_connections.proofs.log.Log.analyze_one_acknowledged.Goals as goal
 
@@ -23,7 +23,7 @@ returns-in_ok-analyze_pending-in-Some-Taken-clause-analysis g c =
     taken c.in-Some-Taken.kept
     (sym c.take_pending.ensures.outcome ∙ c.in-Some-Taken.is ∙ ap Some c.in-Some-Taken.field-0-is)
     (subst
-    (λ t. AnalyzesPending (five_tuple_of s) c.in-Some-Taken.kept t
+    (λ t. AnalyzesPending IsReady (five_tuple_of s) c.in-Some-Taken.kept t
     c.analyze_pending.new.self.connections) c.take_pending.ensures.left
     (rw c.between.ensures at c.in_ok-analyze_pending-in-Some-Taken.ensures.analysis))
 

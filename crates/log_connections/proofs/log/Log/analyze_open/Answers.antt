@@ -6,6 +6,8 @@ use Rattle.connections.specs.Segment.{five_tuple_of}
 use Rattle.connections.specs.Table.{others, promoting, with_other}
 use Rattle.log_connections.proofs.LogLemmas.{closes, received_in_place, lent_unchanged, let_in_judged, none_judged, acknowledging_judged}
 use Rattle.log_connections.proofs.OtherLemmas.{keeps_other, keeps_promoted}
+use Rattle.log_connections.specs.Analysis.{IsPrepared}
+use Rattle.log_connections.specs.Sides.{IsReady}
 use Rattle.log_connections.proofs.log.Log.analyze_open.Goals as goal
 use Rattle.log_connections.proofs.log.Log.analyze_open.Goals.{then-has_data, else-has_data}
 
@@ -45,10 +47,19 @@ returns-in_err-analyze-clause-others g c =
     (keeps_other (five_tuple_of c.args.segment.now) c.args.self.now.connections
     c.analyze.new.connection)
 
+pub returns-clause-prepared : goal.returns-clause-prepared
+returns-clause-prepared g c =
+    rw (c.promote.ensures.promoted, c.between-five_tuple.ensures)
+    (received_in_place (IsPrepared c.args.self.now.arrivals.tunnels c.args.self.now.kept)
+    c.args.segment.now c.args.self.now.connections c.in-Some.connection.now
+    c.accept_or_judge.new.self
+    c.analyze.new.connection (rw c.between-five_tuple.ensures at c.in-Some.ensures.value)
+    (rw c.in_default-2.is at c.in_ok-verdict.ensures.taken).1 c.in_ok-analyze.ensures.prepared)
+
 pub returns-clause-logged : goal.returns-clause-logged
 returns-clause-logged g c =
     rw (c.promote.ensures.promoted, c.between-five_tuple.ensures)
-    (received_in_place c.args.segment.now c.args.self.now.connections c.in-Some.connection.now
+    (received_in_place IsReady c.args.segment.now c.args.self.now.connections c.in-Some.connection.now
     c.accept_or_judge.new.self
     c.analyze.new.connection (rw c.between-five_tuple.ensures at c.in-Some.ensures.value)
     (rw c.in_default-2.is at c.in_ok-verdict.ensures.taken).1 c.in_ok-analyze.ensures.analysis)

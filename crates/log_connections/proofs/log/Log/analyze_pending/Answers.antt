@@ -3,6 +3,8 @@ use Rattle.connections.proofs.MemoryLemmas.{accounted_written}
 use Rattle.std.proofs.lemmas.Result.{IfOk-weaker}
 use Rattle.log_connections.proofs.LogLemmas.{pending_received}
 use Rattle.log_connections.proofs.OtherLemmas.{keeps_first}
+use Rattle.log_connections.specs.Analysis.{IsPrepared}
+use Rattle.log_connections.specs.Sides.{IsReady}
 use Rattle.log_connections.proofs.log.Log.analyze_pending.Goals as goal
 
 pub returns-in_err-accept_pending-clause-others : goal.returns-in_err-accept_pending-clause-others
@@ -10,10 +12,19 @@ returns-in_err-accept_pending-clause-others g c =
     keeps_first c.args.five_tuple.now c.args.self.now.connections c.in-Some.connection.now
     c.accept_pending.new.self c.in-Some.ensures.value
 
+pub returns-clause-prepared : goal.returns-clause-prepared
+returns-clause-prepared g c =
+    IfOk-weaker c.analyze.result _ _
+    (λ _ receives. pending_received (IsPrepared c.args.self.now.arrivals.tunnels c.args.self.now.kept)
+    c.args.five_tuple.now c.args.kept.now c.args.self.now.connections
+    c.in-Some.connection.now c.accept_pending.new.self c.analyze.new.connection c.segment.result
+    c.in-Some.ensures.value c.in_ok-accept_pending.ensures.taken c.segment.ensures.header
+    c.segment.ensures.data receives) c.analyze.ensures.prepared
+
 pub returns-clause-analysis : goal.returns-clause-analysis
 returns-clause-analysis g c =
     IfOk-weaker c.analyze.result _ _
-    (λ _ receives. pending_received c.args.five_tuple.now c.args.kept.now c.args.self.now.connections
+    (λ _ receives. pending_received IsReady c.args.five_tuple.now c.args.kept.now c.args.self.now.connections
     c.in-Some.connection.now c.accept_pending.new.self c.analyze.new.connection c.segment.result
     c.in-Some.ensures.value c.in_ok-accept_pending.ensures.taken c.segment.ensures.header
     c.segment.ensures.data receives) c.analyze.ensures.analysis

@@ -7,6 +7,8 @@ use Rattle.connections.specs.Segment.{five_tuple_of}
 use Rattle.connections.specs.Table.{others}
 use Rattle.log_connections.proofs.LogLemmas.{closes, received_by_open, is_belonging}
 use Rattle.log_connections.proofs.OtherLemmas.{keeps_first}
+use Rattle.log_connections.specs.Analysis.{IsPrepared}
+use Rattle.log_connections.specs.Sides.{IsReady}
 use Rattle.log_connections.proofs.log.Log.analyze_segment.Goals as goal
 
 pub returns-in_err-accept-clause-others : goal.returns-in_err-accept-clause-others
@@ -23,10 +25,19 @@ returns-in_err-analyze-clause-others g c =
     c.in-Some.connection.now c.analyze.new.connection
     (rw c.between.ensures at c.in-Some.ensures.value))
 
+pub returns-in-Some-clause-prepared : goal.returns-in-Some-clause-prepared
+returns-in-Some-clause-prepared g c =
+    rw c.between.ensures
+    (received_by_open (IsPrepared c.args.self.now.arrivals.tunnels c.args.self.now.kept)
+    c.args.segment.now c.args.self.now.connections c.in-Some.connection.now
+    c.accept.new.self
+    c.analyze.new.connection (rw c.between.ensures at c.in-Some.ensures.value)
+    c.in_ok-accept.ensures.taken c.in_ok-analyze.ensures.prepared)
+
 pub returns-in-Some-clause-logged : goal.returns-in-Some-clause-logged
 returns-in-Some-clause-logged g c =
     rw c.between.ensures
-    (received_by_open c.args.segment.now c.args.self.now.connections c.in-Some.connection.now
+    (received_by_open IsReady c.args.segment.now c.args.self.now.connections c.in-Some.connection.now
     c.accept.new.self
     c.analyze.new.connection (rw c.between.ensures at c.in-Some.ensures.value)
     c.in_ok-accept.ensures.taken c.in_ok-analyze.ensures.analysis)

@@ -1,6 +1,6 @@
 use Rattle.connections.specs.Table.IsForgotten.{none}
 use Rattle.log_connections.proofs.WeightLemmas.{forgotten_then}
-use Rattle.std.proofs.Common.{refl, ◌∙◌}
+use Rattle.std.proofs.Common.{refl, ◌∙◌, false}
 use Rattle.connections.proofs.TableLemmas.{on_err}
 use Rattle.log_connections.proofs.SinkLemmas.{all_but_last, none_ended, one_more_ended}
 use Rattle.log_connections.specs.Sink.{IsIdle}
@@ -8,10 +8,11 @@ use Rattle.log_connections.proofs.log.Log.end_idle.Goals as goal
 
 pub loop-over-init : goal.loop-over-init
 loop-over-init g c = record {
-  ended = none_ended (IsIdle c.args.time) c.args.self.now.connections.live (g.S.Sink.received c.args.sink.now);
+  ended = none_ended false (IsIdle c.args.time) c.args.self.now.connections.live (g.S.Sink.received c.args.sink.now);
   accounted = λ h. h;
   forgotten = none;
   memory = refl;
+  kept = refl;
   reader = refl;
   sound = λ h. h;
 }
@@ -22,7 +23,7 @@ loop-over-preserved g c =
     rw c.in_ok-end_connection.ensures.same
     (record {
       ended =
-          one_more_ended (IsIdle c.args.time) c.args.self.now.connections.live c.loop-over.self.connections.live
+          one_more_ended false (IsIdle c.args.time) c.args.self.now.connections.live c.loop-over.self.connections.live
           c.take_over.new.self.connections.live last.0 c.in-Some.over.value
           (g.S.Sink.received c.args.sink.now) (g.S.Sink.received c.loop-over.sink)
           (g.S.Sink.received c.end_connection.new.sink) c.loop-over.invariant.ended last.2 last.1
@@ -30,6 +31,7 @@ loop-over-preserved g c =
       forgotten = forgotten_then c.args.time c.loop-over.invariant.forgotten c.take_over.ensures.forgotten;
       accounted = λ h. c.take_over.ensures.accounted (c.loop-over.invariant.accounted h);
       memory = c.take_over.ensures.memory ∙ c.loop-over.invariant.memory;
+      kept = c.take_over.ensures.kept ∙ c.loop-over.invariant.kept;
       reader = c.end_connection.ensures.reader ∙ c.take_over.ensures.reader ∙ c.loop-over.invariant.reader;
       sound = λ h. c.in_ok-end_connection.ensures.sound (c.loop-over.invariant.sound h);
     })
@@ -38,7 +40,7 @@ pub returns-in_err-end_connection-clause-stopped : goal.returns-in_err-end_conne
 returns-in_err-end_connection-clause-stopped g c =
     let last = rw c.in-Some.is at c.take_over.ensures.idle in
     rw c.end_connection.ensures.same
-    (on_err c.from_residual.result (all_but_last (IsIdle c.args.time) c.args.self.now.connections.live c.loop-over.self.connections.live
+    (on_err c.from_residual.result (all_but_last false (IsIdle c.args.time) c.args.self.now.connections.live c.loop-over.self.connections.live
     c.take_over.new.self.connections.live last.0 c.in-Some.over.value
     (g.S.Sink.received c.args.sink.now) (g.S.Sink.received c.loop-over.sink)
     (g.S.Sink.received c.end_connection.new.sink) c.loop-over.invariant.ended last.2 last.1

@@ -10,7 +10,7 @@ returns-in_err-has_own-clause-stopped g c =
     c.args.self.now.connections c.take_refused-own.new.self.connections c.take_refused-own.result
     (g.S.Sink.received c.args.sink.now) (g.S.Sink.received c.end_removed.new.sink)
     c.take_refused-own.ensures.own c.take_refused-own.ensures.others
-    c.take_refused-own.ensures.early c.in_err-has_own.ensures.stopped.0
+    c.in_err-has_own.ensures.stopped.0
     c.in_err-has_own.ensures.stopped.1 c.in_err-has_own.ensures.failed))
 
 pub returns-in_err-has_oldest-clause-stopped : goal.returns-in_err-has_oldest-clause-stopped
@@ -25,7 +25,6 @@ returns-in_err-has_oldest-clause-stopped g c =
     (g.S.Sink.received c.end_removed-2.new.sink) c.take_refused-own.ensures.own
     c.take_refused-own.ensures.others
     (rw c.in_ok-has_own.ensures.same at c.take_oldest-oldest.ensures.oldest)
-    c.take_refused-own.ensures.early c.take_oldest-oldest.ensures.early
     c.in_err-has_oldest.ensures.stopped.0 c.in_ok-has_own.ensures.received
     c.in_err-has_oldest.ensures.stopped.1 c.in_err-has_oldest.ensures.failed))
 
@@ -39,7 +38,6 @@ returns-clause-ended g c =
     (g.S.Sink.received c.end_removed.new.sink) (g.S.Sink.received c.end_removed-2.new.sink)
     c.take_refused-own.ensures.own c.take_refused-own.ensures.others
     (rw c.in_ok-has_own.ensures.same at c.take_oldest-oldest.ensures.oldest)
-    c.take_refused-own.ensures.early c.take_oldest-oldest.ensures.early
     c.in_ok-has_own.ensures.was c.in_ok-has_oldest.ensures.was
     (not_neither c.in_ok-has_own.has_own c.in_ok-has_oldest.has_oldest c.else-not-has_own.either)
     c.in_ok-has_own.ensures.received c.in_ok-has_oldest.ensures.received)

@@ -1,6 +1,5 @@
-use Rattle.connections.proofs.MemoryLemmas.{all_is_front}
-use Rattle.log_connections.proofs.WeightLemmas.{fits_then, front_then}
-use Rattle.std.proofs.Common.{refl, ◌∙◌}
+use Rattle.log_connections.proofs.WeightLemmas.{fits_again, fits_same}
+use Rattle.std.proofs.Common.{refl, ◌∙◌, true}
 use Rattle.connections.proofs.TableLemmas.{on_err}
 use Rattle.log_connections.proofs.SinkLemmas.{all_but_last, evicted_by, none_ended, one_more_ended}
 use Rattle.log_connections.specs.Sink.{IsOverLimit}
@@ -8,10 +7,11 @@ use Rattle.log_connections.proofs.log.Log.evict.Goals as goal
 
 pub loop-over-init : goal.loop-over-init
 loop-over-init g c = record {
-  ended = none_ended (IsOverLimit c.args.self.now.connections c.args.self.now.memory) c.args.self.now.connections.live (g.S.Sink.received c.args.sink.now);
+  ended = none_ended true (IsOverLimit c.args.self.now.connections c.args.self.now.memory) c.args.self.now.connections.live (g.S.Sink.received c.args.sink.now);
   accounted = λ h. h;
-  front = all_is_front c.args.self.now.connections.closed;
+  front = refl;
   memory = refl;
+  kept = refl;
   reader = refl;
   sound = λ h. h;
 }
@@ -22,7 +22,7 @@ loop-over-preserved g c =
     rw c.in_ok-end_connection.ensures.same
     (record {
       ended =
-          one_more_ended (IsOverLimit c.args.self.now.connections c.args.self.now.memory) c.args.self.now.connections.live c.loop-over.self.connections.live
+          one_more_ended true (IsOverLimit c.args.self.now.connections c.args.self.now.memory) c.args.self.now.connections.live c.loop-over.self.connections.live
           c.take_evicted.new.self.connections.live last.0 c.in-Some.over.value
           (g.S.Sink.received c.args.sink.now) (g.S.Sink.received c.loop-over.sink)
           (g.S.Sink.received c.end_connection.new.sink) c.loop-over.invariant.ended
@@ -30,11 +30,13 @@ loop-over-preserved g c =
           c.loop-over.self.memory c.args.self.now.memory last.0 c.loop-over.invariant.memory
           c.loop-over.invariant.accounted last.2) last.1
           c.in_ok-end_connection.ensures.received;
-      front = front_then c.args.self.now.connections.closed
-          c.loop-over.self.connections.closed c.take_evicted.new.self.connections.closed
-          c.loop-over.invariant.front c.take_evicted.ensures.closed.latest;
+      front = fits_again c.args.self.now.memory c.loop-over.self.memory
+          c.args.self.now.connections.closed c.loop-over.self.connections.closed
+          c.take_evicted.new.self.connections.closed c.loop-over.invariant.memory
+          c.loop-over.invariant.front c.take_evicted.ensures.closed;
       accounted = λ h. c.take_evicted.ensures.accounted (c.loop-over.invariant.accounted h);
       memory = c.take_evicted.ensures.memory ∙ c.loop-over.invariant.memory;
+      kept = c.take_evicted.ensures.kept ∙ c.loop-over.invariant.kept;
       reader = c.end_connection.ensures.reader ∙ c.take_evicted.ensures.reader ∙ c.loop-over.invariant.reader;
       sound = λ h. c.in_ok-end_connection.ensures.sound (c.loop-over.invariant.sound h);
     })
@@ -43,7 +45,7 @@ pub returns-in_err-end_connection-clause-stopped : goal.returns-in_err-end_conne
 returns-in_err-end_connection-clause-stopped g c =
     let last = rw c.in-Some.is at c.take_evicted.ensures.evicted in
     rw c.end_connection.ensures.same
-    (on_err c.from_residual.result (all_but_last (IsOverLimit c.args.self.now.connections c.args.self.now.memory)
+    (on_err c.from_residual.result (all_but_last true (IsOverLimit c.args.self.now.connections c.args.self.now.memory)
     c.args.self.now.connections.live c.loop-over.self.connections.live
     c.take_evicted.new.self.connections.live last.0 c.in-Some.over.value
     (g.S.Sink.received c.args.sink.now) (g.S.Sink.received c.loop-over.sink)
@@ -60,6 +62,6 @@ returns-in_err-end_connection-clause-accounted g c =
 
 pub returns-clause-closed : goal.returns-clause-closed
 returns-clause-closed g c =
-    fits_then c.args.self.now.memory c.loop-over.self.memory c.args.self.now.connections.closed
+    fits_same c.args.self.now.memory c.loop-over.self.memory c.args.self.now.connections.closed
     c.loop-over.self.connections.closed c.take_evicted.new.self.connections.closed
     c.loop-over.invariant.memory c.loop-over.invariant.front c.take_evicted.ensures.closed

@@ -1,5 +1,5 @@
-use Rattle.std.specs.Prelude.{◌≡◌, true, length}
-use Rattle.connections.specs.Memory.{IsAccounted, IsFront}
+use Rattle.std.specs.Prelude.{◌≡◌, true, length, take}
+use Rattle.connections.specs.Memory.{IsAccounted, closed_count}
 use Rattle.log_connections.specs.Log.{uncounted}
 use Rattle.log_connections.specs.Sink.{IsOverLimit, PassesEnded}
 use Rattle.log_connections.proofs.log.Log.evict.Given as goal
@@ -7,11 +7,13 @@ use Rattle.log_connections.proofs.log.Log.evict.Given as goal
 -- The sink received those that ended so far, and is sound.
 abbrev pub invariant-loop-over : goal.invariant-loop-over
 invariant-loop-over g l = record {
-  ended : PassesEnded (IsOverLimit l.initial.self.connections l.initial.self.memory) l.initial.self.connections.live l.self.connections.live
+  ended : PassesEnded true (IsOverLimit l.initial.self.connections l.initial.self.memory) l.initial.self.connections.live l.self.connections.live
       (g.S.Sink.received l.initial.sink) (g.S.Sink.received l.sink);
   accounted : IsAccounted l.initial.self.connections → IsAccounted l.self.connections;
-  front : IsFront l.initial.self.connections.closed l.self.connections.closed;
+  front : take (closed_count l.initial.self.memory) l.self.connections.closed
+      ≡ take (closed_count l.initial.self.memory) l.initial.self.connections.closed;
   memory : l.self.memory ≡ l.initial.self.memory;
+  kept : l.self.kept ≡ l.initial.self.kept;
   reader : uncounted l.self.arrivals ≡ uncounted l.initial.self.arrivals;
   sound : g.S.Sink.is_sound l.initial.sink ≡ true → g.S.Sink.is_sound l.sink ≡ true;
 }

@@ -1,6 +1,6 @@
 use Rattle.std.proofs.lemmas.Result.{IfErr-weaker, IfOk-weaker}
 use Rattle.std.specs.Option.{option_map}
-use Rattle.log_connections.specs.Packet.{at_over, at_pieces, at_refused, ends, goes_on, is_refused}
+use Rattle.log_connections.specs.Packet.{at_over, at_pieces, at_refused, ends, goes_on, is_refused, open_one, over_one, refused_one}
 use Rattle.log_connections.proofs.PacketLemmas.{on_any, refused_then, with_err}
 use Rattle.log_connections.proofs.SinkLemmas.{received_then}
 use Rattle.log_connections.proofs.log.Log.process_arrival.Goals as goal
@@ -55,6 +55,22 @@ returns-in-Err-clause-stopped g c =
     (option_map (λ b. b.value) c.in-Err.refused.over) c.in-Err.ensures.refused
     c.in-Err.ensures.others stops)
     c.end_after.ensures.stopped
+
+pub returns-in-Ok-Some-clause-lends : goal.returns-in-Ok-Some-clause-lends
+returns-in-Ok-Some-clause-lends g c =
+    over_one c.accept.new.self.connections c.in-Ok-Some.over.value
+    (rw c.in-Ok-Some.field-0-is at c.in-Ok-Some.ensures.accepted) c.end_connection.ensures.lent
+
+pub returns-in-Ok-None-clause-lends : goal.returns-in-Ok-None-clause-lends
+returns-in-Ok-None-clause-lends g c =
+    open_one c.accept.new.self.connections
+    (rw c.in-Ok-None.field-0-is at c.in-Ok-None.ensures.accepted)
+    (rw c.accept.ensures.kept at c.pass_pieces.ensures.lends)
+
+pub returns-in-Err-clause-lends : goal.returns-in-Err-clause-lends
+returns-in-Err-clause-lends g c =
+    refused_one c.accept.new.self.connections
+    (option_map (λ b. b.value) c.in-Err.refused.over) c.in-Err.ensures.refused
 
 pub returns-in-Ok-Some-clause-accounted : goal.returns-in-Ok-Some-clause-accounted
 returns-in-Ok-Some-clause-accounted g c =

@@ -13,6 +13,7 @@ inside-init g c = record {
   connections = refl;
   accounted = λ h. h;
   memory = refl;
+  kept = refl;
   received = refl;
   sound = λ h. h;
 }
@@ -33,6 +34,7 @@ inside-preserved g c =
       connections = same.1 ∙ c.inside.invariant.connections;
       accounted = λ h. c.process_inside.ensures.accounted (c.inside.invariant.accounted h);
       memory = c.in_ok-process_inside.ensures.memory ∙ c.inside.invariant.memory;
+      kept = c.in_ok-process_inside.ensures.kept ∙ c.inside.invariant.kept;
       received = same.2 ∙ c.inside.invariant.received;
       sound = λ h. c.in_ok-process_inside.ensures.sound (c.inside.invariant.sound h);
     }

@@ -17,6 +17,7 @@ invariant-inside g l = record {
   connections : l.self.connections ≡ l.initial.self.connections;
   accounted : IsAccounted l.initial.self.connections → IsAccounted l.self.connections;
   memory : l.self.memory ≡ l.initial.self.memory;
+  kept : l.self.kept ≡ l.initial.self.kept;
   received : g.S.Sink.received l.sink ≡ g.S.Sink.received l.initial.sink;
   sound : g.S.Sink.is_sound l.initial.sink ≡ true → g.S.Sink.is_sound l.sink ≡ true;
 }

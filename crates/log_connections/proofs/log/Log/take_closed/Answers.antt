@@ -1,4 +1,4 @@
-use Rattle.std.proofs.Common.{ap, subst, sym}
+use Rattle.std.proofs.Common.{ap, subst, sym, false}
 use Rattle.std.specs.Option.{option_map}
 use Rattle.connections.specs.Segment.{five_tuple_of}
 use Rattle.log_connections.specs.Log.{KeepsOthers}
@@ -15,7 +15,7 @@ pub returns-clause-ended : goal.returns-clause-ended
 returns-clause-ended g c =
     rw c.with_last.ensures.connections
     (record {
-      ends = subst (λ o. EndsAs o (option_map (λ b. b.value) c.with_last.result))
+      ends = subst (λ o. EndsAs false o (option_map (λ b. b.value) c.with_last.result))
           c.in_ok-taken.ensures.taken c.with_last.ensures.ended;
       left = c.in_ok-taken.ensures.left;
     })
