@@ -317,26 +317,33 @@ class Slot:
     kinds: tuple
     connection: "Connection"
     source: tuple
+    last: int = None  # The number after all that the receiver sends in the capture.
 
     def in_the_end(self) -> Slot:
         """Which kinds it has once all was captured: what acknowledges more than was sent may be
-        taken where other bytes weren't captured."""
-        lacks = self.connection.ends[self.source].lacks
-        return replace(
-            self,
-            kinds=tuple(
-                kind
-                for kind in self.kinds
-                if not lacks or kind not in ("ack_of_unsent", "ack_far_ahead")
-            ),
+        taken where other bytes weren't captured, and with a claim where nothing else comes in its
+        place."""
+        ends, end, left_out = self.connection.ends, self.connection.ends[self.source], set()
+        last = next(other.next for source, other in ends.items() if source != self.source)
+        if end.lacks:
+            left_out = {"ack_of_unsent", "ack_far_ahead"}
+        has_more = end.fin is not None or (
+            end.reached is not None and ahead(end.reached, self.sender.next) > 0
         )
+        if any(some.lacks for some in ends.values()) or last is None or not has_more:
+            left_out.add("claimed")
+        kinds = tuple(kind for kind in self.kinds if kind not in left_out)
+        return replace(self, kinds=kinds, last=last)
 
 
 class Draft:
     """A segment as its sender would send it next, unless something of it is changed."""
 
-    def __init__(self, chance: random.Random, sender: End, receiver: End) -> None:
+    def __init__(
+        self, chance: random.Random, sender: End, receiver: End, last: int | None = None
+    ) -> None:
         self.chance, self.sender, self.receiver = chance, sender, receiver
+        self.last = last  # The number after all that the receiver sends in the capture.
         self.sequence = sender.next
         self.flags = chance.choice((ACK, ACK | PSH, ACK | PSH, ACK | PSH | URG))
         self.acknowledgment = chance.choice((sender.acknowledged, receiver.next))
@@ -411,6 +418,25 @@ def ack_of_unsent(draft: Draft) -> None:
     """From 1 ahead on."""
     draft.maybe(FIN)
     draft.acknowledgment = (draft.receiver.next + 1 + draft.some()) % ALL
+
+
+def claimed(draft: Draft) -> None:
+    """Has data, and acknowledges more than its receiver ever sends in the capture. Behind it comes a
+    bare ACK of its receiver (`claim_of`)."""
+    draft.needs_data()
+    draft.maybe(FIN)
+    draft.acknowledgment = (draft.last + 1 + draft.some(65535)) % ALL
+
+
+def claim_of(draft: Draft) -> Draft:
+    """A bare ACK of the receiver, which begins where the segment acknowledges, and acknowledges all
+    of it. The sender drops it, as it acknowledges what was never sent."""
+    claim = Draft(draft.chance, draft.receiver, draft.sender)
+    claim.flags, claim.payload, claim.sequence = ACK, b"", draft.acknowledgment
+    claim.acknowledgment = (
+        draft.sequence + len(draft.payload) + bool(draft.flags & FIN)
+    ) % ALL
+    return claim
 
 
 def ack_far_ahead(draft: Draft) -> None:
@@ -492,6 +518,7 @@ KINDS = {
         signed,
         no_ack,
         ack_of_unsent,
+        claimed,
         ack_far_ahead,
         ack_in_front,
         beyond_the_window,
@@ -640,12 +667,13 @@ def datagram(chance: random.Random, sender: End, kind: str) -> bytes:
     return front + head + (0 if kind == "udp_checksum_none" else total).to_bytes(2, "big") + payload
 
 
-def frame(chance: random.Random, slot: Slot, kind: str) -> bytes:
+def frames(chance: random.Random, slot: Slot, kind: str) -> list[bytes]:
+    """One, or of `claimed` two."""
     if slot.sender.packet.is_udp:
-        return datagram(chance, slot.sender, kind)
-    draft = Draft(chance, slot.sender, slot.receiver)
+        return [datagram(chance, slot.sender, kind)]
+    draft = Draft(chance, slot.sender, slot.receiver, slot.last)
     KINDS[kind](draft)
-    return segment(draft)
+    return [segment(draft), *([segment(claim_of(draft))] if kind == "claimed" else [])]
 
 
 class Capture:

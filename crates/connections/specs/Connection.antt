@@ -4,7 +4,7 @@ use Rattle.std.specs.Option.{option_map}
 use Rattle.connections.specs.FiveTuple.{is_end}
 use Rattle.connections.specs.Segment.{acknowledges, answers, begins, begins_stream, bytes_alone, data_of_syn, ends, first_in, first_of, has_data, header_of, IsWithoutData}
 use Rattle.connections.specs.Numbers.{ahead_of, is_behind}
-use Rattle.connections.specs.Waiting.{are_some, end_of_kept, has_room, is_any_syn, is_behind_fin_in, is_belied_by, is_data_of_syn_to, is_of_syn, is_unsent_by, keeping, kept_of, kept_syn, syn_in, taken_out, taken_syn, with_counted, with_pending, without, without_syn, without_taken, Kept}
+use Rattle.connections.specs.Waiting.{are_some, end_of_kept, has_room, is_any_syn, is_behind_fin_in, is_belied_by, is_data_of_syn_to, is_long_row, is_of_syn, is_unsent_by, keeping, kept_of, kept_syn, syn_in, taken_out, taken_syn, with_answers, with_counted, with_pending, without, without_syn, without_taken, Kept}
 use Rattle.connections.specs.Hosts.{damaged_before, has_fin_of, host_after, is_wrong, later, may_be_damaged, silent_host, with_checksum, with_offload, with_taken}
 use Rattle.connections.specs.Receiver.{edge_of, is_beyond, is_damaged, is_known, judge, number_or}
 use Rattle.connections.specs.Dropped.{none_dropped, with_damaged, with_dropped}
@@ -380,6 +380,7 @@ module _ {T : Type 0} where
     edge = edge_of (hosts_of s c).1 (hosts_of s c).0;
     confirmed = confirmed_if (is_taken (judgement_of s c)) (hosts_of s c).0 (hosts_of s c).1 s;
     sender_fin = (hosts_of s c).0.fin;
+    is_row = is_long_row c.waiting;
   }
 
   -- Pending segments that a segment shows to be forged are removed, and count as dropped: those of
@@ -417,7 +418,7 @@ module _ {T : Type 0} where
 
   -- What becomes of a pending segment that was taken out, and the connection then. If no bytes of
   -- it are missing, it counts as dropped. Without one, the pending data of a SYN to this end is
-  -- removed.
+  -- removed, and all others of its receiver note what this one answers.
   abbrev pub outcome_of : Option Kept → Connection T → Option PendingOutcome
   outcome_of None c = None
   outcome_of (Some k) c = Some (outcome_if (lacks_of k c) k)
@@ -431,7 +432,9 @@ module _ {T : Type 0} where
   left_if false k c = counting_had k.reason (side_of c k.header.source) c
 
   abbrev pub left_by : Option Kept → Segment → Connection T → Connection T
-  left_by None s c = record c { waiting = without (is_data_of_syn_to s.source) c.waiting }
+  left_by None s c = record c {
+    waiting = with_answers s (without (is_data_of_syn_to s.source) c.waiting);
+  }
   left_by (Some k) s c = left_if (lacks_of k c) k c
 
   abbrev pub taken_from : Segment → Connection T → Option Kept

@@ -1,7 +1,7 @@
 -- The TCP state of one end of a connection, by what it sent and the other end took (RFC 9293,
 -- section 3.3.1; RFC 7323).
 use Rattle.std.specs.Prelude.{ℕ, ◌+◌, ◌*◌, ◌%◌, ◌^◌, ◌==◌, Bool, true, false, ◌&&◌, ◌||◌, not, nat_lt, is_some, if◌then◌else◌, Option, Some, None, max, min}
-use Rattle.connections.specs.Segment.{acknowledges, begins, behind_of, end_with_fin, ends, first_of}
+use Rattle.connections.specs.Segment.{acknowledges, begins, behind_of, end_with_fin, ends, first_of, takes_numbers}
 use Rattle.connections.specs.Numbers.{advance, is_behind}
 use Rattle.connections.specs.Traffic.{plus_up_to}
 use Rattle.connections.specs.declared.segment.Segment.{Segment}
@@ -137,11 +137,22 @@ edge_before x s = if begins s then None else x.edge
 abbrev pub widest_before : Host → Segment → ℕ
 widest_before x s = if begins s then 0 else x.widest
 
+-- The number behind all that a sender is known to have sent. An ACK without data shows that what is
+-- in front of it was sent only if it acknowledges more than earlier ones.
+abbrev pub shows_sent : Option ℕ → Segment → Bool
+shows_sent acknowledged s =
+    begins s || (takes_numbers s || is_ahead s.acknowledgment acknowledged)
+
+abbrev pub next_by : Option ℕ → Option ℕ → Segment → ℕ
+next_by None acknowledged s = end_with_fin s
+next_by (Some next) acknowledged s =
+    if shows_sent acknowledged s then later (Some next) (end_with_fin s) else next
+
 -- The state of the sender x after a segment that its receiver y took.
 abbrev pub with_taken : Host → Host → Segment → Host
 with_taken x y s = record {
   first = if begins s then Some (first_of s) else x.first;
-  next = Some (later x.next (end_with_fin s));
+  next = Some (next_by x.next x.acknowledged s);
   acknowledged = if acknowledges s then Some (later x.acknowledged s.acknowledgment) else
       x.acknowledged;
   edge = if acknowledges s then

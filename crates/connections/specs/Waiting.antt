@@ -1,40 +1,58 @@
 -- The pending segments of a connection, in the order of arrival.
-use Rattle.std.specs.Prelude.{ℕ, ◌+◌, ◌%◌, ◌^◌, ◌==◌, Bool, true, false, ◌&&◌, ◌||◌, not, nat_lt, nat_le, is_none, if◌then◌else◌, Option, Some, None, List, [], ◌∷◌, ◌++◌, length, take, filter, remove, slice_get}
+use Rattle.std.specs.Prelude.{ℕ, ◌+◌, ◌%◌, ◌^◌, ◌==◌, Bool, true, false, ◌&&◌, ◌||◌, not, nat_lt, nat_le, is_none, if◌then◌else◌, Option, Some, None, List, [], ◌∷◌, ◌++◌, length, take, filter, map, remove, slice_get}
 use Rattle.std.specs.Option.{option_map}
 use Rattle.connections.specs.FiveTuple.{five_tuple_between, is_end}
 use Rattle.connections.specs.Numbers.{advance, is_behind}
 use Rattle.connections.specs.Hosts.{later}
-use Rattle.connections.specs.Segment.{answers_in, begins_in, behind_of, ends_in, first_in, first_of, header_of, takes_numbers, without_fin}
+use Rattle.connections.specs.Segment.{answers_in, begins_in, behind_of, breaks, ends_in, first_in, first_of, has_data, header_of, takes_numbers, without_fin}
 use Rattle.connections.specs.Stream.{differing_in_order, is_number}
 use Rattle.connections.specs.Traffic.{plus}
 use Rattle.connections.specs.Dropped.{with_dropped}
 use Rattle.connections.specs.declared.dropped.Dropped.{Dropped}
+use Rattle.connections.specs.declared.ending.Answers.{Answers}
 use Rattle.connections.specs.declared.five_tuple.End.{End}
 use Rattle.connections.specs.declared.five_tuple.FiveTuple.{FiveTuple}
 use Rattle.connections.specs.declared.five_tuple.Protocol.TheVariants.{Tcp}
 use Rattle.connections.specs.declared.pending.AckContext.{AckContext}
 use Rattle.connections.specs.declared.pending.TheConstants.{BYTES_FREE, MAX_BYTES, MAX_PENDING, PENDING_FREE}
+use Rattle.connections.specs.declared.rows.TheConstants.{LONG_ROW}
 use Rattle.connections.specs.declared.receiver.DropReason.{DropReason}
 use Rattle.connections.specs.declared.receiver.DropReason.TheVariants.{Acknowledgment, Checksum, Clock, Fin, NoAck, Reset, Signature, Syn, Window}
 use Rattle.connections.specs.declared.segment.Header.{Header}
 use Rattle.connections.specs.declared.segment.Segment.{Segment}
 
 -- A pending segment: why it was dropped if it isn't taken, which is `None` for the data of a SYN;
--- and whether it begins beyond its receiver's window, as far as that is known.
+-- whether it begins beyond its receiver's window, as far as that is known; and what came of its
+-- receiver since, and doesn't show that it was taken.
 pub record Kept : Type 0 where
   pub header : Header
   pub bytes : List ℕ
   pub reason : Option DropReason
   pub is_beyond : Bool
+  pub answers : Answers
+
+-- Nothing came of its receiver.
+abbrev pub no_answers : Answers
+no_answers = record { is_any = false; is_to_end = false; is_behind = false }
 
 -- A segment that becomes pending, and a SYN without its data.
 abbrev pub kept_of : Segment → Option DropReason → Bool → Kept
-kept_of s reason beyond =
-    record { header = header_of s; bytes = s.payload.now; reason = reason; is_beyond = beyond }
+kept_of s reason beyond = record {
+  header = header_of s;
+  bytes = s.payload.now;
+  reason = reason;
+  is_beyond = beyond;
+  answers = no_answers;
+}
 
 abbrev pub kept_syn : Segment → DropReason → Kept
-kept_syn s reason =
-    record { header = header_of s; bytes = []; reason = Some reason; is_beyond = false }
+kept_syn s reason = record {
+  header = header_of s;
+  bytes = [];
+  reason = Some reason;
+  is_beyond = false;
+  answers = no_answers;
+}
 
 -- The number of its first data byte, the one behind the last, and the one behind its FIN.
 abbrev pub first_of_kept : Kept → ℕ
@@ -189,11 +207,34 @@ fits_to s known k =
     && (s.acknowledgment == end_of_kept k
     || (not (is_unsure k.reason k.is_beyond) && is_number known.edge s.acknowledgment)))
 
--- What the pending segment acknowledges was sent by then: all of it came, or s begins there.
+-- A pending segment begins where another of the same sender ends. How many do, added to a number.
+abbrev pub follows : Kept → Kept → Bool
+follows k other =
+    is_end k.header.source other.header.source && first_of_kept k == end_of_kept other
+
+abbrev pub follows_any : Kept → List Kept → Bool
+follows_any k [] = false
+follows_any k (other ∷ ks) = if follows k other then true else follows_any k ks
+
+abbrev pub with_following : List Kept → List Kept → ℕ → ℕ
+with_following all [] n = n
+with_following all (k ∷ ks) n =
+    with_following all ks (if follows_any k all then plus n 1 else n)
+
+-- So many are in a row that the capture seems to lack a packet before them.
+abbrev pub is_long_row : List Kept → Bool
+is_long_row ks = nat_le LONG_ROW (with_following ks ks 0)
+
+-- What the pending segment acknowledges was sent by then: all of it came, or s begins there. Without
+-- data, an s that acknowledges more than is known to be sent only claims that, which suffices in a
+-- long row.
+abbrev pub is_certain : Segment → AckContext → Bool
+is_certain s known = has_data s || (covers known s || known.is_row)
+
 abbrev pub stands : Segment → AckContext → Kept → Bool
 stands s known k =
     not (is_behind k.header.acknowledgment known.reached)
-    || k.header.acknowledgment == first_of s
+    || (is_certain s known && k.header.acknowledgment == first_of s)
 
 -- s acknowledges bytes of it, and nothing beyond all that was sent.
 abbrev pub is_within : Segment → AckContext → Kept → Bool
@@ -292,6 +333,24 @@ taken_out s known ks = taken_by s (confirming ks s known) ks
 
 abbrev pub without_taken : Segment → AckContext → List Kept → List Kept
 without_taken s known ks = without_at (place_taken s (confirming ks s known) ks) ks
+
+-- A segment of its receiver came: the last one acknowledges exactly up to its end or not, and one
+-- begins where it acknowledges. An RST answers nothing.
+abbrev pub is_answer_to : Segment → Kept → Bool
+is_answer_to s k = is_end k.header.destination s.source && not (breaks s)
+
+abbrev pub answers_with : Segment → Kept → Answers
+answers_with s k = record {
+  is_any = true;
+  is_to_end = s.acknowledgment == end_of_kept k;
+  is_behind = k.answers.is_behind || first_of s == k.header.acknowledgment;
+}
+
+abbrev pub answered_by : Segment → Kept → Kept
+answered_by s k = if is_answer_to s k then record k { answers = answers_with s k } else k
+
+abbrev pub with_answers : Segment → List Kept → List Kept
+with_answers s ks = map (answered_by s) ks
 
 -- A segment of its sender goes without it: that one has no data, isn't before it, and acknowledges
 -- more. Or it refutes it: one of its bytes is another at the same number.

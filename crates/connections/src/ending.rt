@@ -1,13 +1,14 @@
 //! Which pending segments count as taken once their connection is over.
 ghost use Rattle.std.specs.Prelude.{◌≡◌, ◌<◌, length, IfSome};
-ghost use Rattle.connections.specs.Ending.{claims as claims_sent, ends_at as ends_at_number, goes_on as goes_on_behind, is_claimed_by_any as is_claimed_by_one, is_end_of_any as is_end_of_one, is_explained as is_explained_reason, is_taken_at_end as is_taken_in_the_end, is_up_to as is_up_to_known, left_at_end, meets as meets_other, meets_any as meets_one, outcome_at_end, place_at_end as place_in_the_end, sent_in, sent_to as sent_to_it};
-ghost use Rattle.connections.specs.Waiting.{kept_at, without_at};
+ghost use Rattle.connections.specs.Ending.{claims as claims_sent, ends_at as ends_at_number, goes_on as goes_on_behind, is_claim_of as is_claim_of_it, is_claimed_by_any as is_claimed_by_one, is_claimed_with as is_claimed_with_it, is_end_of_any as is_end_of_one, is_excused as is_excused_by, is_explained as is_explained_reason, is_from_any as is_from_one, is_last_word as is_last_word_of, is_offloaded as is_offloaded_to, is_repeated as is_repeated_in, is_taken_at_end as is_taken_in_the_end, is_up_to as is_up_to_known, left_at_end, meets as meets_other, meets_any as meets_one, outcome_at_end, place_at_end as place_in_the_end, sent_in, sent_to as sent_to_it};
+ghost use Rattle.connections.specs.Waiting.{answered_by, kept_at, no_answers, with_answers, without_at};
 
 use crate::connection::{Attachment, Connection};
 use crate::five_tuple::End;
 use crate::numbers::is_behind;
 use crate::pending::{PendingOutcome, PendingSegment, PendingSegments, remove_at};
 use crate::receiver::DropReason;
+use crate::segment::Segment;
 
 /// Returns whether a packet that the capture lacks explains this reason, or a network card that
 /// writes checksums behind the capture.
@@ -39,10 +40,28 @@ fn is_end_of_any(list: &[PendingSegment], kept: &PendingSegment, number: u32) ->
     false
 }
 
-/// Returns whether `other`, of the receiver of `kept`, acknowledges all of `kept`, exactly up to
-/// where one of these ends.
+/// Returns whether the last acknowledgement without data covers all of `kept`, exactly up to the
+/// end of `other`, of the same sender.
+fn is_claimed_with(kept: &PendingSegment, other: &PendingSegment) -> bool
+    ensures { result ≡ is_claimed_with_it kept.now other.now }
+{
+    other.header.source == kept.header.source
+        && other.answers.is_to_end
+        && !is_behind(kept.end(), other.end())
+}
+
+/// Returns whether `kept` is claimed to be sent, by the acknowledgement of `other` or by one of the
+/// end of `other`.
 fn claims(list: &[PendingSegment], kept: &PendingSegment, other: &PendingSegment) -> bool
     ensures { result ≡ claims_sent list.now kept.now other.now }
+{
+    is_claim_of(list, kept, other) || is_claimed_with(kept, other)
+}
+
+/// Returns whether `other`, of the receiver of `kept`, acknowledges all of `kept`, exactly up to
+/// where one of these ends.
+fn is_claim_of(list: &[PendingSegment], kept: &PendingSegment, other: &PendingSegment) -> bool
+    ensures { result ≡ is_claim_of_it list.now kept.now other.now }
 {
     let number = other.header.acknowledgment;
     other.header.source == kept.header.destination
@@ -63,12 +82,15 @@ fn is_claimed_by_any(list: &[PendingSegment], kept: &PendingSegment) -> bool
     false
 }
 
-/// The numbers behind all that both ends are known to have sent.
+/// What both ends are known to have sent: the numbers behind it, and whether their network cards
+/// write the checksums behind the capture.
 #[derive(Clone, Copy)]
 struct SentNumbers {
     originator: End,
     by_originator: Option<u32>,
     by_responder: Option<u32>,
+    is_originator_offloaded: bool,
+    is_responder_offloaded: bool,
 }
 
 impl SentNumbers {
@@ -80,6 +102,32 @@ impl SentNumbers {
             self.by_responder
         } else {
             self.by_originator
+        }
+    }
+
+    /// Returns whether a network card is known to write the checksums of a segment's sender.
+    fn is_offloaded(self, kept: &PendingSegment) -> bool
+        ensures { result ≡ is_offloaded_to self kept.now }
+    {
+        if kept.header.source == self.originator {
+            self.is_originator_offloaded
+        } else {
+            self.is_responder_offloaded
+        }
+    }
+
+    /// Returns whether the reason against a segment has ceased: what it acknowledges is known to be
+    /// sent, and a wrong checksum of its sender doesn't count.
+    fn is_excused(self, kept: &PendingSegment) -> bool
+        ensures { result ≡ is_excused_by self kept.now }
+    {
+        if !is_up_to(self.to(kept), kept.header.acknowledgment) {
+            return false;
+        }
+        match kept.reason() {
+            Some(DropReason::Acknowledgment) => true,
+            Some(DropReason::Checksum) => self.is_offloaded(kept),
+            _ => false,
         }
     }
 }
@@ -121,18 +169,46 @@ fn meets_any(list: &[PendingSegment], kept: &PendingSegment) -> bool
 fn goes_on(list: &[PendingSegment], kept: &PendingSegment, sent: SentNumbers) -> bool
     ensures { result ≡ goes_on_behind sent list.now kept.now }
 {
-    is_up_to(sent.to(kept), kept.header.acknowledgment) || meets_any(list, kept)
+    is_up_to(sent.to(kept), kept.header.acknowledgment)
+        || kept.answers.is_behind
+        || meets_any(list, kept)
 }
 
-/// Returns whether a pending segment counts as taken, now that its connection is over.
-fn is_taken_at_end(list: &[PendingSegment], kept: &PendingSegment, sent: SentNumbers) -> bool
-    ensures { result ≡ is_taken_in_the_end sent list.now kept.now }
+/// Returns whether one of these is of this sender.
+fn is_from_any(list: &[PendingSegment], sender: End) -> bool
+    ensures { result ≡ is_from_one sender list.now }
+{
+    for kept in list {
+        if kept.header.source == sender {
+            return true;
+        }
+    }
+    false
+}
+
+/// Returns whether nothing of its receiver came after a segment, nor among the pending ones behind
+/// it, and its reason has ceased.
+fn is_last_word(behind: &[PendingSegment], kept: &PendingSegment, sent: SentNumbers) -> bool
+    ensures { result ≡ is_last_word_of sent behind.now kept.now }
+{
+    sent.is_excused(kept) && !kept.answers.is_any && !is_from_any(behind, kept.header.destination)
+}
+
+/// Returns whether a pending segment counts as taken, now that its connection is over. `behind`
+/// came after it.
+fn is_taken_at_end(
+    list: &[PendingSegment],
+    behind: &[PendingSegment],
+    kept: &PendingSegment,
+    sent: SentNumbers,
+) -> bool
+    ensures { result ≡ is_taken_in_the_end sent list.now behind.now kept.now }
 {
     kept.takes_numbers()
         && !kept.begins()
         && is_explained(kept.reason())
         && goes_on(list, kept, sent)
-        && is_claimed_by_any(list, kept)
+        && (is_claimed_by_any(list, kept) || is_last_word(behind, kept, sent))
 }
 
 /// Returns the index of the first pending segment that counts as taken then.
@@ -141,14 +217,70 @@ fn place_at_end(list: &[PendingSegment], sent: SentNumbers) -> Option<usize>
     ensures within { IfSome result (λ place. place < length list.now) }
 {
     for place in 0..list.len() {
-        if is_taken_at_end(list, &list[place], sent) {
+        if is_taken_at_end(list, &list[place + 1..], &list[place], sent) {
             return Some(place);
         }
     }
     None
 }
 
+/// What came of a pending segment's receiver after it, and doesn't show that it was taken.
+#[derive(Clone, Copy)]
+pub(crate) struct Answers {
+    /// Whether anything came.
+    is_any: bool,
+    /// Whether the last of it acknowledges exactly up to the segment's end.
+    is_to_end: bool,
+    /// Whether some of it begins where the segment acknowledges.
+    is_behind: bool,
+}
+
+impl Answers {
+    /// Nothing came.
+    pub(crate) fn none() -> Answers
+        ensures { result ≡ no_answers }
+    {
+        Answers {
+            is_any: false,
+            is_to_end: false,
+            is_behind: false,
+        }
+    }
+}
+
+impl PendingSegment {
+    /// Notes a segment of its receiver, which isn't an RST.
+    fn note_answer(&mut self, segment: &Segment<'_>)
+        ensures { self.new ≡ answered_by segment.now self.old }
+    {
+        if self.header.destination == segment.source && !segment.breaks() {
+            let begins = segment.first() == self.header.acknowledgment;
+            self.answers = Answers {
+                is_any: true,
+                is_to_end: segment.acknowledgment == self.end(),
+                is_behind: self.answers.is_behind || begins,
+            };
+        }
+    }
+}
+
+/// Notes a segment of their receiver with each of these.
+fn note_with_each(list: &mut Vec<PendingSegment>, segment: &Segment<'_>)
+    ensures { list.new.items ≡ with_answers segment.now list.old.items }
+{
+    for kept in list.iter_mut() {
+        kept.note_answer(segment);
+    }
+}
+
 impl PendingSegments {
+    /// Notes a segment with those to its sender, none of which it shows to be taken.
+    pub(crate) fn note_answer(&mut self, segment: &Segment<'_>)
+        ensures { self.new ≡ with_answers segment.now self.old }
+    {
+        note_with_each(&mut self.kept, segment);
+    }
+
     /// Removes and returns the first segment that counts as taken, now that the connection is over.
     fn take_at_end(&mut self, sent: SentNumbers) -> Option<PendingSegment>
         ensures taken { result ≡ kept_at (place_in_the_end sent self.old) self.old }
@@ -160,7 +292,7 @@ impl PendingSegments {
 }
 
 impl<T: Attachment> Connection<T> {
-    /// Returns the numbers behind all that both ends are known to have sent.
+    /// Returns what both ends are known to have sent.
     fn sent_numbers(&self) -> SentNumbers
         ensures { result ≡ sent_in self.now }
     {
@@ -168,11 +300,13 @@ impl<T: Attachment> Connection<T> {
             originator: self.originator,
             by_originator: self.originator_host.next,
             by_responder: self.responder_host.next,
+            is_originator_offloaded: self.originator_host.is_offloaded(),
+            is_responder_offloaded: self.responder_host.is_offloaded(),
         }
     }
 
     /// Removes a pending segment that counts as taken, now that the connection is over, and returns
-    /// it. If all its bytes arrived otherwise, it counts as dropped.
+    /// it. If all its bytes arrived otherwise, it may count as dropped.
     ///
     /// Call it until it returns `None`. Then all others count as dropped.
     pub fn take_at_end(&mut self) -> Option<PendingOutcome>
@@ -184,6 +318,18 @@ impl<T: Attachment> Connection<T> {
         let mut kept = self.waiting.take_at_end(sent)?;
         let side = self.side_of(kept.source());
         kept.cut_at_known(self.hosts_from(side).0.fin);
+        if self.is_repeated(&kept) {
+            return Some(PendingOutcome::Taken(kept));
+        }
         Some(self.outcome(kept))
+    }
+
+    /// Returns whether a segment counts even if all its bytes came: as a retransmission, since the
+    /// reason against it has ceased. It doesn't after its sender's FIN.
+    fn is_repeated(&self, kept: &PendingSegment) -> bool
+        ensures { result ≡ is_repeated_in kept.now self.now }
+    {
+        let sender = self.hosts_from(self.side_of(kept.source())).0;
+        kept.takes_numbers() && self.sent_numbers().is_excused(kept) && !kept.is_behind_fin(sender)
     }
 }

@@ -1,7 +1,7 @@
 //! The TCP state of one end of a connection.
 ghost use Rattle.std.specs.Prelude.{◌≡◌, Some, None};
 ghost use Rattle.connections.specs.Segment.{first_of};
-ghost use Rattle.connections.specs.Hosts.{checksums_behind as checksums_behind_of, clock_behind as clock_behind_of, damaged_before, has_fin_of, host_after, later as later_of, may_be_damaged, shift_of, silent_host, with_checksum, with_offload, with_taken as taken_by, window_of};
+ghost use Rattle.connections.specs.Hosts.{checksums_behind as checksums_behind_of, clock_behind as clock_behind_of, damaged_before, has_fin_of, host_after, is_known_wrong, later as later_of, may_be_damaged, next_by, shift_of, shows_sent, silent_host, with_checksum, with_offload, with_taken as taken_by, window_of};
 
 use crate::numbers::is_behind;
 use crate::segment::{Checksum, Options, Segment};
@@ -171,6 +171,14 @@ impl Host {
         wrong
     }
 
+    /// Returns whether its network card seems to write the checksums behind the capture: no packet
+    /// had a correct one, or its receiver acknowledged a wrong one.
+    pub(crate) fn is_offloaded(&self) -> bool
+        ensures { result ≡ is_known_wrong self.now.checksums }
+    {
+        self.checksums == Some(Checksum::Wrong)
+    }
+
     /// Notes that this end's network card writes the checksums behind the capture.
     pub(crate) fn note_offload(&mut self)
         ensures { self.new ≡ with_offload self.old }
@@ -196,6 +204,30 @@ impl Host {
         self.widest = 0;
     }
 
+    /// Returns whether a segment shows that what is in front of it was sent. An ACK without data
+    /// does only if it acknowledges more than earlier ones: a forged one doesn't.
+    fn shows_sent(&self, segment: &Segment<'_>) -> bool
+        ensures { result ≡ shows_sent self.now.acknowledged segment.now }
+    {
+        if segment.begins() || segment.takes_numbers() {
+            return true;
+        }
+        match self.acknowledged {
+            Some(number) => is_behind(segment.acknowledgment, number),
+            None => false,
+        }
+    }
+
+    /// Returns the number behind all that this end is known to have sent, after a segment.
+    fn next_behind(&self, segment: &Segment<'_>) -> u32
+        ensures { result ≡ next_by self.now.next self.now.acknowledged segment.now }
+    {
+        match self.next {
+            Some(next) if !self.shows_sent(segment) => next,
+            known => later(known, segment.end()),
+        }
+    }
+
     /// Updates the state by this end's segment, which its receiver took.
     pub(crate) fn note(&mut self, receiver: &Host, segment: &Segment<'_>)
         ensures { self.new ≡ taken_by self.old receiver.now segment.now }
@@ -205,7 +237,7 @@ impl Host {
             self.forget_window();
         }
         self.clock = self.clock_behind(receiver, segment);
-        self.next = Some(later(self.next, segment.end()));
+        self.next = Some(self.next_behind(segment));
         self.widest = self.widest.max(window);
         if segment.acknowledges() {
             let edge = segment.acknowledgment.wrapping_add(window);

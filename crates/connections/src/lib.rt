@@ -30,6 +30,7 @@ mod memory;
 mod numbers;
 mod pending;
 mod receiver;
+mod rows;
 mod segment;
 mod stream;
 mod table;

@@ -12,6 +12,7 @@ ghost use Rattle.connections.specs.declared.pending.TheConstants.{PENDING_COST, 
 ghost use Rattle.connections.specs.Waiting.{are_some, confirmed_from, confirms as confirms_before, covers as covers_sent, cut_at, cut_at_known, cut_by, end_of_kept, first_of_kept, five_tuple_of_kept, fits_to as fits, goes_without, has_room, is_acknowledged_by as is_acknowledged, is_any_syn, is_behind_fin_in, is_belied_by as is_belied, is_confirmed_by as is_confirmed, is_known_behind as is_some_behind, is_strict as is_strict_reason, is_beside as stands_beside, is_beside_any as is_beside_one, is_data_of_syn_to, is_from, is_in_row as stands_in_row, is_of_syn as is_syn_data, is_refuted_by as is_refuted, is_syn as is_syn_of, is_taken_by as is_taken, is_unsent_by as is_unsent, is_unsure as is_unsure_by, is_within, keeping, kept_at, kept_of, kept_syn, place_from, place_of_syn, place_taken, stands as stands_by, syn_in, taken_out, taken_syn, takes_numbers_in, with_bytes_of, with_counted, with_pending, without, without_at, without_syn, without_taken};
 
 use crate::dropped::Dropped;
+use crate::ending::Answers;
 use crate::five_tuple::{End, FiveTuple};
 use crate::host::{Host, later};
 use crate::numbers::{advance, is_behind};
@@ -52,6 +53,8 @@ pub struct PendingSegment {
     reason: Option<DropReason>,
     // Whether it begins beyond its receiver's window, as far as that is known.
     is_beyond: bool,
+    // What came of its receiver since, and doesn't show that it was taken.
+    pub(crate) answers: Answers,
 }
 
 impl Model for PendingSegment {
@@ -64,6 +67,7 @@ impl Model for PendingSegment {
       bytes = k.payload.items;
       reason = k.reason;
       is_beyond = k.is_beyond;
+      answers = k.answers;
     } };
 }
 
@@ -226,12 +230,12 @@ impl PendingSegment {
     }
 
     /// Returns whether the bytes that it acknowledges were sent, by the time a segment came: all of
-    /// them came, or that segment begins there.
+    /// them came, or that segment is certain and begins there.
     fn stands(&self, ack: &Segment<'_>, known: AckContext) -> bool
         ensures { result ≡ stands_by ack.now known self.now }
     {
         let number = self.header.acknowledgment;
-        !is_behind(number, known.reached) || number == ack.first()
+        !is_behind(number, known.reached) || (known.is_certain(ack) && number == ack.first())
     }
 
     /// Returns whether it is adjacent to another pending segment of the same sender.
@@ -346,11 +350,13 @@ pub(crate) struct AckContext {
     pub(crate) confirmed: Option<u32>,
     /// The number of its sender's FIN.
     pub(crate) sender_fin: Option<u32>,
+    /// Whether many pending segments are in a row.
+    pub(crate) is_row: bool,
 }
 
 impl AckContext {
     /// Returns whether the segment acknowledges no more than is known to be sent.
-    fn covers(self, ack: &Segment<'_>) -> bool
+    pub(crate) fn covers(self, ack: &Segment<'_>) -> bool
         ensures { result ≡ covers_sent self ack.now }
     {
         match self.sent {
@@ -698,6 +704,7 @@ impl PendingSegments {
             payload,
             reason,
             is_beyond,
+            answers: Answers::none(),
         };
         match self.kept.push(kept) {
             Ok(()) => Ok(()),

@@ -7,6 +7,7 @@ use crate::host::later;
 use crate::numbers::is_behind;
 use crate::pending::{AckContext, PendingOutcome, PendingSegment};
 use crate::receiver::{DropReason, Judgement, edge, is_beyond};
+use crate::rows::is_long_row;
 use crate::segment::Segment;
 use std::alloc::{AllocError, Global};
 
@@ -138,6 +139,7 @@ impl<T: Attachment> Connection<T> {
             edge: edge(receiver, sender),
             confirmed: self.confirmed_at(segment),
             sender_fin: sender.fin,
+            is_row: is_long_row(self.waiting.kept.as_slice()),
         }
     }
 
@@ -186,7 +188,8 @@ impl<T: Attachment> Connection<T> {
     }
 
     /// Removes the first pending segment that this segment acknowledges, and returns what became of
-    /// it. Without one, the pending data of a SYN to the sender is removed.
+    /// it. Without one, the pending data of a SYN to the sender is removed, and the others to it note
+    /// the segment.
     fn take_first(&mut self, segment: &Segment<'_>) -> Option<PendingOutcome>
         ensures outcome { result ≡ outcome_by (taken_from segment.now self.old)
             (without_first segment.now self.old) }
@@ -197,6 +200,7 @@ impl<T: Attachment> Connection<T> {
         let known = self.known_at(segment);
         let Some(kept) = self.waiting.take(segment, known) else {
             self.waiting.forget_data_of_syn(segment.source);
+            self.waiting.note_answer(segment);
             return None;
         };
         Some(self.outcome(kept))
