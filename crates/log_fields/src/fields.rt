@@ -1,4 +1,7 @@
 //! The fields of a connection's line: their names, types and texts, and what computes them.
+ghost use Rattle.std.specs.Prelude.{◌≡◌, map};
+ghost use Rattle.log_fields.specs.Columns.{columns, named_of};
+
 use connections::Side;
 use log_certificates::CertificateField;
 use log_formats::column::{Column, Type};
@@ -716,6 +719,17 @@ pub static FIELDS: &[Column<Field>] = rows!(columns);
 
 /// Returns [`FIELDS`]. Call it instead of naming the table: the proof of a function that names it
 /// reads all of its rows.
-pub fn fields() -> &'static [Column<Field>] {
+#[tactic(auto, unfolding(crate::specs::Columns::columns))]
+pub fn fields() -> &'static [Column<Field>]
+    ensures { map named_of result.now ≡ columns }
+{
     FIELDS
+}
+
+/// The names of [`FIELDS`].
+static NAMES: &[&str] = rows!(names);
+
+/// Returns the names of [`FIELDS`], in their order.
+pub fn names() -> &'static [&'static str] {
+    NAMES
 }

@@ -29,16 +29,19 @@ use Rattle.log_formats.specs.declared.text.Text.TheVariants.{
   Address,
 }
 
--- A number of 3 bytes as `0x` and six digits.
+-- The lowest 3 bytes of a number as `0x` and six digits.
 abbrev pub long_number_text : ℕ → List ℕ
-long_number_text n = codes "0x" ++ encode_lower (n / 65536 ∷ n / 256 % 256 ∷ n % 256 ∷ [])
+long_number_text n =
+    codes "0x" ++ encode_lower (n / 65536 % 256 ∷ n / 256 % 256 ∷ n % 256 ∷ [])
 
 -- The name, or else the number in hexadecimal.
 abbrev pub name_or_number : Option (List ℕ) → ℕ → List ℕ
 name_or_number (Some name) n = name
 name_or_number None n = number_text n
 
--- Versions by their names in Zeek's logs. The last is DTLS 1.3 (RFC 9147, section 5.3).
+-- Versions by their names in Zeek's logs: DTLS 1.3 as 0xfefc (RFC 9147, section 5.3), a draft of
+-- TLS 1.3 as 0x7f and its number (draft-ietf-tls-tls13-18, section 4.2.1.1), and the drafts that
+-- Facebook and BoringSSL numbered by themselves.
 unfoldable pub zeek_versions : List (ℕ × List ℕ)
 zeek_versions =
     (0x0300, codes "SSLv3")
@@ -49,6 +52,26 @@ zeek_versions =
     ∷ (0xfeff, codes "DTLSv10")
     ∷ (0xfefd, codes "DTLSv12")
     ∷ (0xfefc, codes "DTLSv13")
+    ∷ (0x7f0e, codes "TLSv13-draft14")
+    ∷ (0x7f0f, codes "TLSv13-draft15")
+    ∷ (0x7f10, codes "TLSv13-draft16")
+    ∷ (0x7f11, codes "TLSv13-draft17")
+    ∷ (0x7f12, codes "TLSv13-draft18")
+    ∷ (0x7f13, codes "TLSv13-draft19")
+    ∷ (0x7f14, codes "TLSv13-draft20")
+    ∷ (0x7f15, codes "TLSv13-draft21")
+    ∷ (0x7f16, codes "TLSv13-draft22")
+    ∷ (0x7f17, codes "TLSv13-draft23")
+    ∷ (0x7f18, codes "TLSv13-draft24")
+    ∷ (0x7f19, codes "TLSv13-draft25")
+    ∷ (0x7f1a, codes "TLSv13-draft26")
+    ∷ (0x7f1b, codes "TLSv13-draft27")
+    ∷ (0x7f1c, codes "TLSv13-draft28")
+    ∷ (0xfb17, codes "TLSv13-facebook23")
+    ∷ (0xfb1a, codes "TLSv13-facebook26")
+    ∷ (0x7e01, codes "TLSv13-boringssl1")
+    ∷ (0x7e02, codes "TLSv13-boringssl2")
+    ∷ (0x7e03, codes "TLSv13-boringssl3")
     ∷ []
 
 unfoldable pub version_text : ℕ → List ℕ
@@ -91,6 +114,10 @@ spec_text s n = suite_or_spec s (suite_of n) n
 abbrev pub typed_text : ℕ → List ℕ → List ℕ
 typed_text kind name = decimal kind ++ codes ":" ++ escaped_text name
 
+-- A name behind a position.
+abbrev pub placed_text : ℕ → List ℕ → List ℕ
+placed_text place name = decimal place ++ codes ":" ++ name
+
 -- What is written of a text.
 abbrev pub text_bytes : Text → List ℕ
 text_bytes (Plain s) = s.now
@@ -99,7 +126,7 @@ text_bytes (Code n) = number_text n
 text_bytes (LongCode n) = long_number_text n
 text_bytes (Digits b) = encode_lower b.now
 text_bytes (Escaped b) = escaped_text b.now
-text_bytes (Placed place name) = decimal place ++ codes ":" ++ name.now
+text_bytes (Placed place name) = placed_text place name.now
 text_bytes (Scheme n) = scheme_text n
 text_bytes (Version v) = version_text v.0
 text_bytes (Address a) = ip_text a
