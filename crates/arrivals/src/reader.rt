@@ -256,13 +256,6 @@ impl ArrivalReader {
         ensures fails { OnErr result (is_some self.old.networks ≡ true) }
     {
         add_one(&mut self.counts.packets);
-        // (the packets of a part go past the fast path of `plain_arrival`)
-        if self.part.is_some() {
-            let plain = plain_segment(packet.bytes, packet.link_type, &mut self.tunnels);
-            if let Some(datagram) = plain {
-                return self.arrival_of(packet, &datagram);
-            }
-        }
         let inside = innermost_into(packet.bytes, packet.link_type, &mut self.tunnels);
         self.arrival_inside(packet, &inside)
     }

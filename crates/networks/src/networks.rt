@@ -64,10 +64,10 @@ impl Networks {
         let Some(most) = NonZeroUsize::new(MAX_NETWORKS) else {
             return Err(AllocError);
         };
-        Ok(Networks {
-            held: LruCache::with_hasher(alloc, most, keys)?,
-            last: 0,
-        })
+        // (room comes with the networks: most captures have none)
+        let mut held = LruCache::unbounded_with_hasher(alloc, keys)?;
+        held.resize(most);
+        Ok(Networks { held, last: 0 })
     }
 
     /// Returns the number of a packet's network: the one that it has, or else the next that was

@@ -1,5 +1,5 @@
 -- The walk from one layer, by how many tunnels may still come.
-use Rattle.std.proofs.Common.{◌≡◌, ◌≢◌, ℕ, zero, suc, ◌-◌, List, [], ◌∷◌, ◌++◌, Option, Some, None, Ok, Err, refl, ap, arith}
+use Rattle.std.proofs.Common.{◌≡◌, ◌≢◌, ℕ, zero, suc, ◌-◌, List, [], ◌∷◌, ◌++◌, Some, None, Ok, Err, refl, ap, arith}
 use Rattle.layouts.specs.Bytes.{Bytes}
 use Rattle.layouts.specs.Meaning.{Refusal}
 use Rattle.layouts.specs.Reading.{reading}

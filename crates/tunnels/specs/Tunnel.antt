@@ -1,9 +1,10 @@
 -- Tunnels and the headers that begin them.
-use Rattle.std.specs.Prelude.{ℕ, ◌+◌, ◌*◌, ◌/◌, ◌^◌, ◌==◌, max, min, List, take, Bool, Option, None, if◌then◌else◌}
+use Rattle.std.specs.Prelude.{ℕ, ◌+◌, ◌*◌, ◌/◌, ◌^◌, ◌==◌, max, min, List, take, Bool, Option, None, Some, if◌then◌else◌}
 use Rattle.layouts.specs.Bytes.{Bytes}
 use Rattle.layouts.specs.Layout.{Layout, done, number, block, rest, look, choose, mapped, ◌>>=◌}
-use Rattle.capture.specs.Ip.{Address, V4, V6}
+use Rattle.capture.specs.Ip.{Address, V4, V6, view_address}
 use Rattle.capture.specs.Link.{IPV4, IPV6}
+use Rattle.capture.specs.declared.ip.Address.{Address as LentAddress}
 use Rattle.tunnels.specs.declared.tunnel.Endpoints.{Endpoints}
 use Rattle.tunnels.specs.declared.tunnel.Tunnel.{Tunnel}
 use Rattle.tunnels.specs.declared.tunnel.TunnelKind.{TunnelKind}
@@ -68,7 +69,20 @@ carried_between a b h =
     record h { tunnel = record h.tunnel { endpoints = endpoints_between a b } }
 
 abbrev pub view_header : LentHeader → Header
-view_header h = record { tunnel = h.tunnel; kind = h.kind; inside = h.inside.now }
+view_header h =
+    record { tunnel = tunnel_of h.tunnel h.id; kind = h.kind; inside = h.inside.now }
+
+-- The endpoints of a tunnel, by the source and destination of the datagram that carries it, if one
+-- does.
+abbrev pub endpoints_in : Option (LentAddress × LentAddress) → Endpoints
+endpoints_in None = no_endpoints
+endpoints_in (Some c) = endpoints_between (view_address c.0) (view_address c.1)
+
+-- A header in this carrier.
+abbrev pub view_carried : LentHeader → Option (LentAddress × LentAddress) → Header
+view_carried h c = record (view_header h) {
+  tunnel = record (tunnel_of h.tunnel h.id) { endpoints = endpoints_in c };
+}
 
 -- The tunnels in the list.
 abbrev pub listed : Tunnels → List Tunnel

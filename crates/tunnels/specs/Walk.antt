@@ -7,7 +7,7 @@ use Rattle.layouts.specs.Reading.{reading}
 use Rattle.capture.specs.Transport.{Content, Tcp, Udp, Fragment, Other as OtherContent}
 use Rattle.capture.specs.Ip.{Datagram, ipv4, ipv6, view_datagram}
 use Rattle.capture.specs.Link.{IPV4, IPV6, carried, packet}
-use Rattle.tunnels.specs.Tunnel.{Header, ETHERNET, carried_between, listed, view_header}
+use Rattle.tunnels.specs.Tunnel.{Header, ETHERNET, carried_between, listed, view_carried}
 use Rattle.tunnels.specs.Labels.{mpls, backbone}
 use Rattle.tunnels.specs.Carriers.{by_ports, by_protocol}
 use Rattle.tunnels.specs.declared.tunnel.Tunnel.{Tunnel}
@@ -27,7 +27,7 @@ pub data Layer : Type 0 where
   Unknown : Layer
 
 abbrev pub view_layer : LentLayer → Layer
-view_layer (layer.Wraps h) = Wraps (view_header h)
+view_layer (layer.Wraps h c) = Wraps (view_carried h c)
 view_layer (layer.Holds d) = Holds (view_datagram d)
 view_layer layer.Unknown = Unknown
 

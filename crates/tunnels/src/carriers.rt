@@ -10,19 +10,19 @@ use crate::gtp::parse_gtp;
 use crate::labels::parse_mpls;
 use crate::overlay::{parse_geneve, parse_vxlan};
 use crate::teredo::parse_teredo;
-use crate::tunnel::{Header, IPV4, IPV6, Tunnel, TunnelKind, carrying};
+use crate::tunnel::{Header, IPV4, IPV6, TunnelKind, carrying};
 use layouts::{ErrorKind, IResult, refused};
 
 /// The UDP port of Teredo.
-const TEREDO: u16 = 3544;
+pub(crate) const TEREDO: u16 = 3544;
 
 /// Parses the tunnel header that an IP protocol carries.
 pub(crate) fn by_protocol(i: &[u8], protocol: u8) -> IResult<&[u8], Header>
     ensures { Gives view_header (by_protocol_layout protocol) i.now result }
 {
     match protocol {
-        4 => carrying(i, Tunnel::new(TunnelKind::Ipv4, None), IPV4),
-        41 => carrying(i, Tunnel::new(TunnelKind::Ipv6, None), IPV6),
+        4 => carrying(i, TunnelKind::Ipv4, None, IPV4),
+        41 => carrying(i, TunnelKind::Ipv6, None, IPV6),
         47 => parse_gre(i),
         137 => parse_mpls(i),
         _ => refused(i, ErrorKind::Switch),

@@ -65,7 +65,7 @@ fn find<'a>(
         return None;
     }
     match read {
-        Ok((_, Layer::Wraps(header))) => find(
+        Ok((_, Layer::Wraps(header, _))) => find(
             inner_fragment(header.inside, header.kind),
             inner_layer(header.inside, header.kind),
             most - 1,
@@ -94,7 +94,7 @@ pub fn fragment_in<'a>(datagram: IpDatagram<'a>, tunnels: &Tunnels) -> Option<Ip
         (view_datagram datagram.entry) }
 {
     match datagram_layer(datagram) {
-        Layer::Wraps(header) => find(
+        Layer::Wraps(header, _) => find(
             inner_fragment(header.inside, header.kind),
             inner_layer(header.inside, header.kind),
             7_usize.saturating_sub(tunnels.count) as u8,

@@ -5,9 +5,9 @@
 ghost use Rattle.std.specs.Prelude.{◌≡◌};
 ghost use Rattle.layouts.specs.Answers.{Gives};
 ghost use Rattle.tunnels.specs.Tunnel.{view_header};
-ghost use Rattle.tunnels.specs.Gre.{gre, gre_payload as gre_payload_layout, erspan as erspan_layout, erspan2 as erspan2_layout, erspan3 as erspan3_layout, copied as copied_layout, key_if as key_if_layout, is_plain as is_plain_flags, erspan_tunnel as erspan_tunnel_of};
+ghost use Rattle.tunnels.specs.Gre.{gre, gre_payload as gre_payload_layout, erspan as erspan_layout, erspan2 as erspan2_layout, erspan3 as erspan3_layout, copied as copied_layout, key_if as key_if_layout, is_plain as is_plain_flags};
 
-use crate::tunnel::{ETHERNET, Header, Tunnel, TunnelKind, carrying, skipped_if, version_type};
+use crate::tunnel::{ETHERNET, Header, TunnelKind, carrying, skipped_if, version_type};
 use layouts::{ErrorKind, IResult, block, number2, number4, parsed, refused};
 
 /// The GRE protocol of ERSPAN types I and II.
@@ -34,13 +34,6 @@ fn key_if(i: &[u8], present: bool) -> IResult<&[u8], Option<u32>>
     Ok((i, None))
 }
 
-/// Returns the tunnel of an ERSPAN session.
-fn erspan_tunnel(id: Option<u32>) -> Tunnel
-    ensures { result ≡ erspan_tunnel_of id }
-{
-    Tunnel::new(TunnelKind::Erspan, id)
-}
-
 /// Parses an ERSPAN type II header.
 fn erspan2(i: &[u8]) -> IResult<&[u8], Header>
     ensures { Gives view_header erspan2_layout i.now result }
@@ -51,7 +44,8 @@ fn erspan2(i: &[u8]) -> IResult<&[u8], Header>
     }
     let (i, session) = parsed!(number2(i));
     let (i, _) = parsed!(block(i, 4));
-    carrying(i, erspan_tunnel(Some(u32::from(session % 1024))), ETHERNET)
+    let id = Some(u32::from(session % 1024));
+    carrying(i, TunnelKind::Erspan, id, ETHERNET)
 }
 
 /// Parses ERSPAN type II if GRE has a sequence number, or else type I, which has no header.
@@ -61,7 +55,7 @@ fn erspan(i: &[u8], is_numbered: bool) -> IResult<&[u8], Header>
     if is_numbered {
         return erspan2(i);
     }
-    carrying(i, erspan_tunnel(None), ETHERNET)
+    carrying(i, TunnelKind::Erspan, None, ETHERNET)
 }
 
 /// Returns the EtherType of a type III copy, by its frame type; 0 for an unknown one.
@@ -89,7 +83,8 @@ fn erspan3(i: &[u8]) -> IResult<&[u8], Header>
     let (i, last) = parsed!(number2(i));
     let (i, _) = parsed!(skipped_if(i, last % 2 == 1, 8));
     let (i, kind) = parsed!(copied(i, last / 1024 % 32));
-    carrying(i, erspan_tunnel(Some(u32::from(session % 1024))), kind)
+    let id = Some(u32::from(session % 1024));
+    carrying(i, TunnelKind::Erspan, id, kind)
 }
 
 /// Parses what follows the GRE header, by its protocol.
@@ -104,10 +99,7 @@ fn gre_payload(
     match protocol {
         ERSPAN => erspan(i, is_numbered),
         ERSPAN3 => erspan3(i),
-        _ => {
-            let tunnel = Tunnel::new(TunnelKind::Gre, key);
-            carrying(i, tunnel, protocol)
-        }
+        _ => carrying(i, TunnelKind::Gre, key, protocol),
     }
 }
 

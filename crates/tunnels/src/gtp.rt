@@ -6,7 +6,7 @@ ghost use Rattle.layouts.specs.Answers.{Gives};
 ghost use Rattle.tunnels.specs.Tunnel.{view_header};
 ghost use Rattle.tunnels.specs.Gtp.{extension as extension_layout, extensions as extensions_layout, extensions_if as extensions_if_layout, further_extension, gtp, gtp_payload as gtp_payload_layout, optional_fields as optional_fields_layout};
 
-use crate::tunnel::{Header, Tunnel, TunnelKind, carrying, version_type};
+use crate::tunnel::{Header, TunnelKind, carrying, version_type};
 use layouts::{
     Err, ErrorKind, IResult, InPlace, Items, block, number1, number2, number4, parsed, refused,
 };
@@ -85,8 +85,7 @@ fn gtp_payload(i: &[u8], flags: u8, id: u32) -> IResult<&[u8], Header>
 {
     let (i, _) = parsed!(optional_fields(i, flags));
     let (i, kind) = parsed!(version_type(i));
-    let tunnel = Tunnel::new(TunnelKind::GtpU, Some(id));
-    carrying(i, tunnel, kind)
+    carrying(i, TunnelKind::GtpU, Some(id), kind)
 }
 
 /// Skips the optional fields and extension headers and parses the datagram, in all of `i`. If they

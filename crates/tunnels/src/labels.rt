@@ -6,7 +6,7 @@ ghost use Rattle.layouts.specs.Answers.{Gives};
 ghost use Rattle.tunnels.specs.Tunnel.{view_header};
 ghost use Rattle.tunnels.specs.Labels.{backbone, mpls, type_behind_labels as type_behind, upper_label};
 
-use crate::tunnel::{ETHERNET, Header, Tunnel, TunnelKind, carrying, skipped_if, type_of_version};
+use crate::tunnel::{ETHERNET, Header, TunnelKind, carrying, skipped_if, type_of_version};
 use layouts::{ErrorKind, IResult, InPlace, Items, number1, number4, parsed, refused};
 
 /// A label with another behind it.
@@ -53,8 +53,8 @@ pub fn parse_mpls(i: &[u8]) -> IResult<&[u8], Header>
     let (i, entry) = parsed!(number4(Items::<UpperLabel>::new(i).rest()));
     let (_, first) = parsed!(number1(i));
     let (i, _) = parsed!(skipped_if(i, first / 16 == 0, 4));
-    let tunnel = Tunnel::new(TunnelKind::Mpls, Some(entry / 4096));
-    carrying(i, tunnel, type_behind_labels(first / 16))
+    let kind = type_behind_labels(first / 16);
+    carrying(i, TunnelKind::Mpls, Some(entry / 4096), kind)
 }
 
 /// Parses an I-TAG behind its type (IEEE 802.1Q, section 9.7): 4 bytes, whose lower 3 are the
@@ -66,6 +66,6 @@ pub fn parse_backbone(i: &[u8]) -> IResult<&[u8], Header>
     ensures { Gives view_header backbone i.now result }
 {
     let (i, control) = parsed!(number4(i));
-    let tunnel = Tunnel::new(TunnelKind::Backbone, Some(control % 0x0100_0000));
-    carrying(i, tunnel, ETHERNET)
+    let id = Some(control % 0x0100_0000);
+    carrying(i, TunnelKind::Backbone, id, ETHERNET)
 }

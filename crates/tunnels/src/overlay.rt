@@ -6,7 +6,7 @@ ghost use Rattle.layouts.specs.Answers.{Gives};
 ghost use Rattle.tunnels.specs.Tunnel.{view_header};
 ghost use Rattle.tunnels.specs.Overlay.{geneve, geneve_front as geneve_front_layout, is_overlaid as is_overlaid_type, vxlan};
 
-use crate::tunnel::{ETHERNET, Header, IPV4, IPV6, Tunnel, TunnelKind, carrying};
+use crate::tunnel::{ETHERNET, Header, IPV4, IPV6, TunnelKind, carrying};
 use layouts::{ErrorKind, IResult, block, number1, number2, number3, parsed, refused};
 
 /// Parses a VXLAN header (RFC 7348, section 5), 8 bytes, and the Ethernet frame behind it.
@@ -23,8 +23,7 @@ pub fn parse_vxlan(i: &[u8]) -> IResult<&[u8], Header>
     let (i, _) = parsed!(block(i, 3));
     let (i, network) = parsed!(number3(i));
     let (i, _) = parsed!(block(i, 1));
-    let tunnel = Tunnel::new(TunnelKind::Vxlan, Some(network));
-    carrying(i, tunnel, ETHERNET)
+    carrying(i, TunnelKind::Vxlan, Some(network), ETHERNET)
 }
 
 /// Returns whether GENEVE payloads of this EtherType are parsed.
@@ -64,6 +63,5 @@ pub fn parse_geneve(i: &[u8]) -> IResult<&[u8], Header>
     let (i, (words, kind)) = parsed!(geneve_front(i));
     let (i, network) = parsed!(number3(i));
     let (i, _) = parsed!(block(i, words as usize * 4 + 1));
-    let tunnel = Tunnel::new(TunnelKind::Geneve, Some(network));
-    carrying(i, tunnel, kind)
+    carrying(i, TunnelKind::Geneve, Some(network), kind)
 }

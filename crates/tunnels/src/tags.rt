@@ -35,7 +35,7 @@ fn add_inner(read: IResult<&[u8], Layer>, tags: &mut VlanTags, most: u8)
         (found_in tags.old ++ inner_vlans most (answer_of view_layer read.entry)) }
 {
     match read {
-        Ok((_, Layer::Wraps(header))) if most > 0 => {
+        Ok((_, Layer::Wraps(header, _))) if most > 0 => {
             add_of_frame(&header, tags);
             add_inner(inner_layer(header.inside, header.kind), tags, most - 1);
         }

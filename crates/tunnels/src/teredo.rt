@@ -5,7 +5,7 @@ ghost use Rattle.layouts.specs.Answers.{Gives};
 ghost use Rattle.tunnels.specs.Tunnel.{view_header};
 ghost use Rattle.tunnels.specs.Teredo.{authentication as authentication_layout, authentication_if as authentication_if_layout, teredo};
 
-use crate::tunnel::{Header, IPV6, Tunnel, TunnelKind, carrying, skipped_if};
+use crate::tunnel::{Header, IPV6, TunnelKind, carrying, skipped_if};
 use layouts::{ErrorKind, IResult, block, number1, number2, parsed, refused};
 
 /// Skips an authentication header.
@@ -46,6 +46,5 @@ pub fn parse_teredo(i: &[u8]) -> IResult<&[u8], Header>
     if first / 16 != 6 {
         return refused(i, ErrorKind::Verify);
     }
-    let tunnel = Tunnel::new(TunnelKind::Teredo, None);
-    carrying(i, tunnel, IPV6)
+    carrying(i, TunnelKind::Teredo, None, IPV6)
 }

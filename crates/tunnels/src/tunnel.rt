@@ -4,7 +4,7 @@
 ghost use Rattle.std.specs.Prelude.{◌≡◌, ◌≤◌, ◌<◌, ◌+◌, ◌++◌, ◌∷◌, ◌==◌, [], length, map};
 ghost use Rattle.layouts.specs.Answers.{Gives};
 ghost use Rattle.capture.specs.Ip.{view_address};
-ghost use Rattle.tunnels.specs.Tunnel.{address_number as number_of_address, carried_between, carrying as carrying_layout, endpoints_between, listed, no_endpoints, shared as shared_of, shared_id as shared_id_of, skipped_if as skipped_if_layout, tunnel_of, version_type as version_type_layout, type_of_version as type_of_version_number, view_header};
+ghost use Rattle.tunnels.specs.Tunnel.{address_number as number_of_address, carrying as carrying_layout, endpoints_between, listed, shared as shared_of, shared_id as shared_id_of, skipped_if as skipped_if_layout, tunnel_of, version_type as version_type_layout, type_of_version as type_of_version_number, view_carried, view_header};
 
 use capture::Address;
 use layouts::{IResult, block, number1, parsed, rest};
@@ -140,11 +140,16 @@ impl Tunnel {
     }
 }
 
+/// The source and destination of the datagram that carries a tunnel, if one does.
+pub(crate) type Carrier = Option<(Address, Address)>;
+
 /// A tunnel header and its payload.
 #[derive(Clone, Copy, Debug, PartialEq)]
 pub struct Header<'a> {
-    /// The tunnel.
-    pub tunnel: Tunnel,
+    /// The tunnel's protocol.
+    pub tunnel: TunnelKind,
+    /// The tunnel's identifier, if the header has one.
+    pub id: Option<u32>,
     /// The payload's EtherType: 0x0800 for IPv4, 0x86dd for IPv6, [`ETHERNET`] for a frame; 0 if
     /// unknown.
     pub kind: u16,
@@ -152,19 +157,19 @@ pub struct Header<'a> {
     pub inside: &'a [u8],
 }
 
-impl<'a> Header<'a> {
-    /// Returns the header as a datagram between these addresses carries it.
-    pub(crate) fn carried_between(self, source: Address, destination: Address) -> Header<'a>
-        ensures { view_header result ≡ carried_between (view_address source)
-            (view_address destination) (view_header self.entry) }
+impl Header<'_> {
+    /// Returns the tunnel that begins with this header in this carrier.
+    pub(crate) fn tunnel_in(&self, carrier: Carrier) -> Tunnel
+        ensures { result ≡ (view_carried self.now carrier).tunnel }
     {
+        let tunnel = Tunnel::new(self.tunnel, self.id);
+        let Some((source, destination)) = carrier else {
+            return tunnel;
+        };
         let endpoints = Endpoints::between(source, destination);
-        Header {
-            tunnel: Tunnel {
-                endpoints,
-                ..self.tunnel
-            },
-            ..self
+        Tunnel {
+            endpoints,
+            ..tunnel
         }
     }
 }
@@ -240,15 +245,21 @@ impl Tunnels {
     }
 }
 
-/// Takes all of `i` as the payload of this tunnel.
-pub(crate) fn carrying(i: &[u8], tunnel: Tunnel, kind: u16) -> IResult<&[u8], Header>
-    ensures { Gives view_header (carrying_layout tunnel kind) i.now result }
+/// Takes all of `i` as the payload of a tunnel.
+pub(crate) fn carrying(
+    i: &[u8],
+    tunnel: TunnelKind,
+    id: Option<u32>,
+    kind: u16,
+) -> IResult<&[u8], Header>
+    ensures { Gives view_header (carrying_layout (tunnel_of tunnel id) kind) i.now result }
 {
     let (i, inside) = parsed!(rest(i));
     Ok((
         i,
         Header {
             tunnel,
+            id,
             kind,
             inside,
         },

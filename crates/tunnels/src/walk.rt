@@ -1,16 +1,16 @@
 //! The walk from a packet's link header to its innermost datagram.
 #![tactic(auto, using(layouts::proofs::OneAnswerLemmas::read_allowed), unfolding(crate::specs::Walk::layer_of_type, crate::specs::Walk::packet_layer, crate::specs::Walk::inner_layer))]
 
-ghost use Rattle.std.specs.Prelude.{◌≡◌, ◌≤◌, ◌+◌, [], IfSome};
+ghost use Rattle.std.specs.Prelude.{◌≡◌, ◌≤◌, ◌+◌, [], false, IfSome};
 ghost use Rattle.layouts.specs.Answers.{Gives, IsAnswer, answer_of};
 ghost use Rattle.layouts.specs.Reading.{reading};
 ghost use Rattle.capture.specs.Ip.{view_datagram};
 ghost use Rattle.tunnels.specs.Tunnel.{listed, view_header};
-ghost use Rattle.tunnels.specs.Walk.{Held, datagram_layer as datagram_layer_of, followed, inner_layer as inner_layer_layout, layer_of_type as layer_of_type_layout, packet_layer as packet_layer_layout, unwrapped, view_inside, view_layer, view_unwrapped, wrapped_or as wrapped_or_by};
+ghost use Rattle.tunnels.specs.Walk.{Held, Holds, datagram_layer as datagram_layer_of, followed, inner_layer as inner_layer_layout, layer_of_type as layer_of_type_layout, packet_layer as packet_layer_layout, unwrapped, view_inside, view_layer, view_unwrapped, wrapped_or as wrapped_or_by};
 
-use crate::carriers::{by_ports, by_protocol};
+use crate::carriers::{TEREDO, by_ports, by_protocol};
 use crate::labels::{parse_backbone, parse_mpls};
-use crate::tunnel::{ETHERNET, Header, IPV4, IPV6, MAX_TUNNELS, Tunnels};
+use crate::tunnel::{Carrier, ETHERNET, Header, IPV4, IPV6, MAX_TUNNELS, Tunnels};
 use capture::{Content, IpDatagram, parse_ipv4, parse_ipv6, parse_link};
 use layouts::{IResult, parsed};
 
@@ -34,8 +34,8 @@ const HEADERS_LEN: u16 = 40;
 /// One layer of a packet.
 #[derive(Drop)]
 pub(crate) enum Layer<'a> {
-    /// A tunnel header.
-    Wraps(Header<'a>),
+    /// A tunnel header, and what carries it.
+    Wraps(Header<'a>, Carrier),
     /// A datagram without a tunnel header in it.
     Holds(IpDatagram<'a>),
     /// Another protocol.
@@ -72,9 +72,7 @@ fn wrapped_or<'a>(datagram: IpDatagram<'a>, header: IResult<&'a [u8], Header<'a>
         (answer_of view_header header.entry) }
 {
     match header {
-        Ok((_, header)) => {
-            Layer::Wraps(header.carried_between(datagram.source, datagram.destination))
-        }
+        Ok((_, header)) => Layer::Wraps(header, Some((datagram.source, datagram.destination))),
         Err(_) => Layer::Holds(datagram),
     }
 }
@@ -112,11 +110,11 @@ fn layer_of_type(i: &[u8], kind: u16) -> IResult<&[u8], Layer>
         }
         MPLS | MPLS_TO_MANY => {
             let (i, header) = parsed!(parse_mpls(i));
-            Ok((i, Layer::Wraps(header)))
+            Ok((i, Layer::Wraps(header, None)))
         }
         BACKBONE => {
             let (i, header) = parsed!(parse_backbone(i));
-            Ok((i, Layer::Wraps(header)))
+            Ok((i, Layer::Wraps(header, None)))
         }
         _ => Ok((i, Layer::Unknown)),
     }
@@ -158,11 +156,11 @@ pub(crate) fn follow<'a>(
         Err(_) => Inside::Unread,
         Ok((_, Layer::Unknown)) => Inside::Other,
         Ok((_, Layer::Holds(datagram))) => Inside::Datagram(datagram),
-        Ok((_, Layer::Wraps(header))) => {
+        Ok((_, Layer::Wraps(header, carrier))) => {
             if most == 0 {
                 return Inside::Deeper;
             }
-            tunnels.push(header.tunnel);
+            tunnels.push(header.tunnel_in(carrier));
             follow(inner_layer(header.inside, header.kind), tunnels, most - 1)
         }
     }
@@ -189,8 +187,25 @@ pub fn innermost(i: &[u8], link_type: u16) -> Unwrapped
     Unwrapped { tunnels, inside }
 }
 
-/// Returns what a packet holds whose IPv4 datagram is at the front. `tunnels` is empty. TCP comes
-/// first, since most packets hold it.
+/// Returns whether a datagram may carry a tunnel, by its protocol or ports.
+#[tactic(auto, unfolding(crate::specs::Carriers::by_protocol, crate::specs::Carriers::by_ports))]
+#[inline(always)]
+fn may_carry(datagram: &IpDatagram<'_>) -> bool
+    ensures { result ≡ false → datagram_layer_of (view_datagram datagram.now)
+        ≡ Holds (view_datagram datagram.now) }
+{
+    match &datagram.content {
+        Content::Udp(udp) => match udp.destination {
+            4789 | 8472 | 6081 | 2152 | TEREDO => true,
+            _ => udp.source == TEREDO,
+        },
+        Content::Other(protocol, _) => matches!(*protocol, 4 | 41 | 47 | 137),
+        Content::Tcp(_) | Content::Fragment => false,
+    }
+}
+
+/// Returns what a packet holds whose IPv4 datagram is at the front. `tunnels` is empty. Most
+/// datagrams carry no tunnel, and aren't copied into a layer.
 #[tactic(auto, using(crate::proofs::WalkLemmas::refused, crate::proofs::WalkLemmas::holds), unfolding(crate::specs::Walk::layer_of_type))]
 #[inline(always)]
 fn inside_ipv4<'a>(i: &'a [u8], tunnels: &mut Tunnels) -> Inside<'a>
@@ -201,7 +216,27 @@ fn inside_ipv4<'a>(i: &'a [u8], tunnels: &mut Tunnels) -> Inside<'a>
     let Ok((i, datagram)) = parse_ipv4(i) else {
         return Inside::Unread;
     };
-    if matches!(datagram.content, Content::Tcp(_)) {
+    if !may_carry(&datagram) {
+        return Inside::Datagram(datagram);
+    }
+    follow(
+        Ok((i, datagram_layer(datagram))),
+        tunnels,
+        MAX_TUNNELS as u8,
+    )
+}
+
+/// Returns what a packet holds whose IPv6 datagram is at the front. `tunnels` is empty.
+#[tactic(auto, using(crate::proofs::WalkLemmas::refused, crate::proofs::WalkLemmas::holds), unfolding(crate::specs::Walk::layer_of_type))]
+fn inside_ipv6<'a>(i: &'a [u8], tunnels: &mut Tunnels) -> Inside<'a>
+    requires { tunnels.old.count ≡ 0 }
+    ensures { followed 8 (listed tunnels.old) (reading (layer_of_type_layout 0x86dd) i.now)
+        ≡ record { tunnels = listed tunnels.new; inside = view_inside result } }
+{
+    let Ok((i, datagram)) = parse_ipv6(i) else {
+        return Inside::Unread;
+    };
+    if !may_carry(&datagram) {
         return Inside::Datagram(datagram);
     }
     follow(
@@ -297,6 +332,7 @@ pub fn innermost_into<'a>(i: &'a [u8], link_type: u16, tunnels: &mut Tunnels) ->
     };
     match kind {
         IPV4 => inside_ipv4(i, tunnels),
+        IPV6 => inside_ipv6(i, tunnels),
         _ => inside_other(i, kind, tunnels),
     }
 }
