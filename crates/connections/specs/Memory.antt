@@ -57,6 +57,17 @@ module _ {T : Type 0} where
       + (with_bytes_of c.waiting 0 + PENDING_ROOM * PENDING_COST)
       + M c.attachment + CONNECTION_COST
 
+  -- A number of bytes bounds the memory that a connection takes: it is at least those that its
+  -- streams store, as long as no machine has more, and at most what was captured of it can take.
+  abbrev pub IsWeight : (T → ℕ) → Connection T → ℕ → Type 0
+  IsWeight M c n = (held_by c < 2 ^ 64 → held_by c ≤ n) × (n ≤ most_weight M c)
+
+  -- Such a number, if another one is accounted for the connection. If none is given, the accounted
+  -- one is one.
+  abbrev pub IsChangedWeight : (T → ℕ) → Connection T → Option ℕ → Type 0
+  IsChangedWeight M c None = IsWeight M c c.weight
+  IsChangedWeight M c (Some n) = (n ≡ c.weight → ⊥) × IsWeight M c n
+
   -- The connection's accounted memory is at least the bytes that its streams store, as long as no
   -- machine has more, and at most what was captured of it can take. Everything else stays.
   pub record IsSettledAs (M : T → ℕ) (e : FiveTuple) (c w : Connection T)

@@ -3,7 +3,7 @@ ghost use Rattle.std.specs.Prelude.{◌≡◌, ◌<◌, ◌≤◌, ◌^◌, IfSo
 ghost use Rattle.connections.specs.Connection.{held_by};
 ghost use Rattle.std.specs.Option.{option_map};
 ghost use Rattle.connections.specs.Table.{at, others};
-ghost use Rattle.connections.specs.Memory.{closed_count, closed_part, is_over_limit as over_limit, most_of, most_weight, open_part, total, FitsClosed, IsAccounted, IsSettled, IsTakenOut};
+ghost use Rattle.connections.specs.Memory.{closed_count, closed_part, is_over_limit as over_limit, most_of, most_weight, open_part, total, FitsClosed, IsAccounted, IsChangedWeight, IsSettled, IsTakenOut};
 
 use crate::by_five_tuple::ByFiveTuple;
 use crate::connection::{Attachment, CONNECTION_COST, Connection};
@@ -86,13 +86,16 @@ impl<T: Attachment> Connection<T> {
         streams.saturating_add(others)
     }
 
-    /// Returns whether the table accounts for the memory that it takes.
-    pub fn is_settled(&self) -> bool
-        ensures within { result ≡ true → self.now.weight ≤ most_weight T.most_bytes self.now }
-        ensures enough { result ≡ true → held_by self.now < 2 ^ 64
-            → held_by self.now ≤ self.now.weight }
+    /// Returns the memory that it takes in bytes, if the table accounts for another number.
+    pub fn changed_weight(&self) -> Option<usize>
+        ensures { IsChangedWeight T.most_bytes self.now result }
     {
-        self.weight == self.capacity()
+        let weight = self.capacity();
+        if weight == self.weight {
+            None
+        } else {
+            Some(weight)
+        }
     }
 
     /// Updates the memory that the table accounts for it, up to `room`.
@@ -115,7 +118,7 @@ impl<T: Attachment> Connections<T> {
     }
 
     /// Updates the memory that is accounted for a connection. Call it after each packet that
-    /// changes that ([`Connection::is_settled`]).
+    /// changes that ([`Connection::changed_weight`]).
     pub fn settle(&mut self, five_tuple: &FiveTuple)
         ensures settled { IsSettled T.most_bytes five_tuple.now
             (at five_tuple.now self.old.live) self.old self.new }

@@ -1,5 +1,6 @@
--- What counting the connections that are over leaves as it was.
-use Rattle.std.proofs.Common.{◌≡◌, refl, sym, ap, ◌∙◌, subst, Bool, true, false}
+-- What counting the connections that are over does, and what it leaves as it was.
+use Rattle.std.proofs.Common.{◌≡◌, refl, sym, ◌∙◌, subst, Bool, true, false, List, [], ◌∷◌, ◌++◌, Option, Some}
+use Rattle.std.specs.Option.{option_map}
 use Rattle.arrivals.specs.declared.counts.Counts.{Counts}
 use Rattle.arrivals.specs.declared.reader.ArrivalReader.{ArrivalReader}
 use Rattle.connections.specs.declared.connection.Connection.{Connection}
@@ -7,8 +8,8 @@ use Rattle.connections.specs.declared.five_tuple.Protocol.{Protocol}
 use Rattle.connections.specs.declared.five_tuple.Protocol.TheVariants.{Tcp, Udp}
 use Rattle.tls_flow.specs.declared.state.Outcome.{Outcome}
 use Rattle.tls_flow.specs.declared.state.Outcome.TheVariants as outcome
-use Rattle.log_connections.specs.Found.{HasCut, IsCounted, MayCountEarly, counts_none, counts_tls, with_gap, with_outcome, with_protocol}
-use Rattle.log_connections.specs.Log.{counting_early}
+use Rattle.log_connections.specs.Found.{AreCounted, HasCut, IsCounted, counts_none, counts_tls, with_early, with_gap, with_other_connection, with_outcome, with_protocol}
+use Rattle.log_connections.specs.Sink.{as_list}
 use Rattle.log_connections.specs.declared.analysis.TlsAnalysis.{TlsAnalysis}
 
 abbrev LeavesCut : Counts → Counts → Type 0
@@ -34,38 +35,55 @@ leaves_gap : (b : Bool) (c : Counts) → LeavesCut c (with_gap b c)
 leaves_gap true c = (refl, refl, refl)
 leaves_gap false c = (refl, refl, refl)
 
-leaves_early : (c d : Counts) → MayCountEarly c d → LeavesCut c d
-leaves_early c d same = (
-  ap (λ x. x.late) same,
-  ap (λ x. x.evicted) same,
-  ap (λ x. x.cut_short) same,
-)
+leaves_early : (b : Bool) (c : Counts) → LeavesCut c (with_early b c)
+leaves_early true c = (refl, refl, refl)
+leaves_early false c = (refl, refl, refl)
 
 leaves_counted : {K : Type 0} (c : Connection (TlsAnalysis K)) (old new : Counts)
     → IsCounted c old new → LeavesCut old new
 leaves_counted c old new (counts_tls o gap is has lacks same) =
-    let first = with_protocol c.protocol old in let second = with_outcome o first in
+    let early = with_early c.attachment.is_ended_early old in
+    let first = with_protocol c.protocol early in let second = with_outcome o first in
     subst (LeavesCut old) (sym same)
-    (leaves_then old first (with_gap gap second) (leaves_protocol c.protocol old)
+    (leaves_then old early (with_gap gap second)
+    (leaves_early c.attachment.is_ended_early old)
+    (leaves_then early first (with_gap gap second) (leaves_protocol c.protocol early)
     (leaves_then first second (with_gap gap second) (leaves_outcome o first)
-    (leaves_gap gap second)))
+    (leaves_gap gap second))))
 leaves_counted c old new (counts_none is same) =
-    subst (LeavesCut old) (sym same) (refl, refl, refl)
+    let early = with_early c.attachment.is_ended_early old in
+    subst (LeavesCut old) (sym same)
+    (leaves_then old early (with_other_connection early)
+    (leaves_early c.attachment.is_ended_early old) (refl, refl, refl))
 
 cut_then : (r : ArrivalReader) (c d : Counts) → HasCut r c → LeavesCut c d → HasCut r d
 cut_then r c d h k = (k.0 ∙ h.0, k.1 ∙ h.1, k.2 ∙ h.2)
 
-pub early_counts : (b : Bool) (r s : ArrivalReader) → s ≡ counting_early b r
-    → MayCountEarly r.counts s.counts
-early_counts true r s same =
-    subst (λ x. MayCountEarly r.counts x.counts) (sym same) refl
-early_counts false r s same =
-    subst (λ x. MayCountEarly r.counts x.counts) (sym same) refl
-
-pub cut_early : (r : ArrivalReader) (c d : Counts) → HasCut r c → MayCountEarly c d → HasCut r d
-cut_early r c d h same = cut_then r c d h (leaves_early c d same)
-
 pub cut_counted : {K : Type 0} (r : ArrivalReader) (over : Connection (TlsAnalysis K))
-    (c d e : Counts) → HasCut r c → MayCountEarly c d → IsCounted over d e → HasCut r e
-cut_counted r over c d e h same counted =
-    cut_then r d e (cut_early r c d h same) (leaves_counted over d e counted)
+    (c d : Counts) → HasCut r c → IsCounted over c d → HasCut r d
+cut_counted r over c d h counted = cut_then r c d h (leaves_counted over c d counted)
+
+-- Connections are counted one after another.
+module _ {K : Type 0} where
+  pub counted_one : (c : Connection (TlsAnalysis K)) (old new : Counts) → IsCounted c old new
+      → AreCounted (c ∷ []) old new
+  counted_one c old new counted = (new, counted, refl)
+
+  pub counted_both : (xs ys : List (Connection (TlsAnalysis K))) (old mid new : Counts)
+      → AreCounted xs old mid → AreCounted ys mid new → AreCounted (xs ++ ys) old new
+  counted_both [] ys old mid new first second =
+      subst (λ k. AreCounted ys k new) first second
+  counted_both (x ∷ xs) ys old mid new first second =
+      (first.0, first.1, counted_both xs ys first.0 mid new first.2 second)
+
+  -- From the same counts on.
+  pub counted_from : (xs : List (Connection (TlsAnalysis K))) (old mid new : Counts) → mid ≡ old
+      → AreCounted xs mid new → AreCounted xs old new
+  counted_from xs old mid new same counted = subst (λ k. AreCounted xs k new) same counted
+
+-- The one connection that a call removed is counted.
+pub one_counted : {K B : Type 0} (value : B → Connection (TlsAnalysis K)) (taken : Option B) (b : B)
+    (old new : Counts) → taken ≡ Some b → IsCounted (value b) old new
+    → AreCounted (as_list (option_map value taken)) old new
+one_counted value taken b old new is counted =
+    subst (λ t. AreCounted (as_list (option_map value t)) old new) (sym is) (new, counted, refl)

@@ -1,5 +1,5 @@
 -- What a packet does to a log.
-use Rattle.std.proofs.Common.{◌≡◌, ◌⊎◌, inl, inr, refl, sym, ap, subst, Option, Some, None, List, [], ◌∷◌, Bool, true, false, ℕ}
+use Rattle.std.proofs.Common.{◌≡◌, ◌⊎◌, inl, inr, refl, sym, ap, subst, Option, Some, None, List, [], ◌∷◌, ◌++◌, Bool, true, false, ℕ}
 use Rattle.std.specs.Prelude.{Result, Ok, Err, IfErr, IsErrAnd, OnErr, OnOk, is_some, not, ◌&&◌, ◌||◌}
 use Rattle.packets.specs.Section.{Packet}
 use Rattle.tunnels.specs.Walk.{unwrapped}
@@ -8,16 +8,20 @@ use Rattle.arrivals.specs.Fragments.{Joins, LeavesOutFound}
 use Rattle.arrivals.specs.Reader.{Reads, ReadsInside}
 use Rattle.arrivals.specs.declared.arrival.Arrival.{Arrival}
 use Rattle.arrivals.specs.declared.fragments.CompletedDatagram.{CompletedDatagram}
+use Rattle.arrivals.specs.declared.counts.Counts.{Counts}
 use Rattle.arrivals.specs.declared.reader.ArrivalReader.{ArrivalReader}
 use Rattle.std.specs.Option.{option_map}
 use Rattle.connections.specs.Table.{Table, at, others, with_other}
 use Rattle.connections.specs.declared.connection.Connection.{Connection}
 use Rattle.connections.specs.declared.five_tuple.FiveTuple.{FiveTuple}
+use Rattle.log_connections.proofs.FoundLemmas.{counted_both}
 use Rattle.log_connections.proofs.LogLemmas.{lent_unchanged}
 use Rattle.log_connections.proofs.SinkLemmas.{adds_none, adds_still, adds_then}
-use Rattle.log_connections.specs.Packet.{HandlesBy, IsLent, StopsBy, at_content, at_reader, lent_if}
+use Rattle.log_connections.specs.Found.{AreCounted}
+use Rattle.log_connections.specs.Packet.{HandlesBy, IsLent, Lending, StopsBy, at_content, at_reader, lent_before, lent_by, lent_if, passes_on}
 use Rattle.log_connections.specs.Reading.{Content, Holds, NeedsMemory, Nothing, joined, one}
 use Rattle.log_connections.specs.Sink.{Adds, EndsAs, EndsLast, EndsRefused, IsOfSink, Receives, StaysSound, StopsRefused, TakesPieces, as_list, at_oldest, at_own}
+use Rattle.log_connections.specs.declared.analysis.PieceKind.{PieceKind}
 use Rattle.log_connections.specs.declared.analysis.TlsAnalysis.{TlsAnalysis}
 use Rattle.log_connections.specs.declared.sink.LogError.{LogError}
 use Rattle.log_connections.specs.declared.sink.LogError.TheVariants.{OutOfMemory, Sink}
@@ -65,22 +69,31 @@ module _ {K B : Type 0} (value : B → Connection (TlsAnalysis K)) where
 
   pub refused_ends : (e : FiveTuple) (t u w : Table (TlsAnalysis K)) (own oldest : Option B)
       (has_own has_oldest : Bool) (r s q : Option (List (Connection (TlsAnalysis K))))
+      (k l m : Counts)
       → EndsAs true (at e t.live) (option_map value own) → u.live ≡ others e t.live
       → EndsLast true u.live w.live (option_map value oldest)
       → has_own ≡ is_some own → has_oldest ≡ is_some oldest
       → (not has_own && not has_oldest) ≡ false
       → Adds r s (as_list (option_map value own)) → Adds s q (as_list (option_map value oldest))
-      → EndsRefused e t.live w.live r q
-  refused_ends e t u w own oldest has_own has_oldest r s q ends same last p o h
-      received received_too = record {
-        own = option_map value own;
-        oldest = option_map value oldest;
-        own_ends = ends;
-        oldest_ends = subst (λ l. EndsLast true l w.live (option_map value oldest)) same last;
-        are_some = some_ended own oldest has_own has_oldest p o h;
-        received = adds_then r s q (as_list (option_map value own)) (as_list (option_map value oldest))
-            received received_too;
-      }
+      → AreCounted (as_list (option_map value own)) k l
+      → AreCounted (as_list (option_map value oldest)) l m
+      → (ended : EndsRefused e t.live w.live r q)
+      × AreCounted (as_list ended.own ++ as_list ended.oldest) k m
+  refused_ends e t u w own oldest has_own has_oldest r s q k l m ends same last p o h
+      received received_too counted counted_too = (
+        record {
+          own = option_map value own;
+          oldest = option_map value oldest;
+          own_ends = ends;
+          oldest_ends = subst (λ l. EndsLast true l w.live (option_map value oldest)) same last;
+          are_some = some_ended own oldest has_own has_oldest p o h;
+          received =
+              adds_then r s q (as_list (option_map value own)) (as_list (option_map value oldest))
+              received received_too;
+        },
+        counted_both (as_list (option_map value own)) (as_list (option_map value oldest)) k l m
+            counted counted_too,
+      )
 
 -- A sink refused one of those that end without memory.
 module _ {K B E : Type 0} (value : B → Connection (TlsAnalysis K)) (e : FiveTuple)
@@ -173,59 +186,86 @@ pub leaves_found : (time : ℕ) (found : _) (old new : ArrivalReader)
 leaves_found time None old new leaves = absurd leaves
 leaves_found time (Some f) old new leaves = refl
 
-module _ {K : Type 0} (M : K → ℕ) (limit : ℕ) where
+module _ {K : Type 0} (M : K → ℕ) (limit : ℕ) (passes : Bool) where
   -- What is found in a step is found in all.
   pub handled_by : (P Q : ArrivalReader → Content → Type 0) (reader : ArrivalReader)
-      (old new : Table (TlsAnalysis K)) (r s : Option (List (Connection (TlsAnalysis K))))
+      (old new : Table (TlsAnalysis K)) (r s l m : Option (List (Connection (TlsAnalysis K))))
       → ((read : ArrivalReader) (c : Content) → P read c → Q read c)
-      → HandlesBy M P limit reader old new r s → HandlesBy M Q limit reader old new r s
-  handled_by P Q reader old new r s f h = record {
-    content = h.content;
-    read = h.read;
-    finds = f h.read h.content h.finds;
-    is_read = h.is_read;
-    handles = h.handles;
-  }
+      → Lending (HandlesBy M P limit reader old new r s) (lent_by passes) l m
+      → Lending (HandlesBy M Q limit reader old new r s) (lent_by passes) l m
+  handled_by P Q reader old new r s l m f h = (
+    record {
+      content = h.0.content;
+      read = h.0.read;
+      finds = f h.0.read h.0.content h.0.finds;
+      handles = h.0.handles;
+      is_read = h.0.is_read;
+    },
+    h.1,
+  )
 
   pub handled_none : (Q : ArrivalReader → Content → Type 0) (reader : ArrivalReader)
-      (old new : Table (TlsAnalysis K)) (r s : Option (List (Connection (TlsAnalysis K))))
-      → Q reader Nothing → new ≡ old → s ≡ r → HandlesBy M Q limit reader old new r s
-  handled_none Q reader old new r s finds same received = record {
-    content = Nothing;
-    read = reader;
-    finds = finds;
-    is_read = refl;
-    handles = (same, subst (λ x. Adds r x []) (sym received) (adds_none r));
-  }
+      (old new : Table (TlsAnalysis K)) (r s l m : Option (List (Connection (TlsAnalysis K))))
+      → Q reader Nothing → new ≡ old → s ≡ r → m ≡ l
+      → Lending (HandlesBy M Q limit reader old new r s) (lent_by passes) l m
+  handled_none Q reader old new r s l m finds same received lent = (
+    record {
+      content = Nothing;
+      read = reader;
+      finds = finds;
+      handles = (same, subst (λ x. Adds r x []) (sym received) (adds_none r));
+      is_read = refl;
+    },
+    subst (λ x. Adds l x []) (sym lent) (adds_none l),
+  )
 
-  pub stopped_by : {E : Type 0} (P Q : ArrivalReader → Content → Type 0) (N O : Type 0)
+  module _ {E : Type 0} (P Q : ArrivalReader → Content → Type 0) (N O : Type 0)
       (error : LogError E) (old new : Table (TlsAnalysis K))
-      (r s : Option (List (Connection (TlsAnalysis K))))
-      → ((read : ArrivalReader) (c : Content) → P read c → Q read c) → (N → O)
-      → StopsBy M P N limit error old new r s → StopsBy M Q O limit error old new r s
-  stopped_by P Q N O error old new r s f n (at_reader memory needs same received) =
-      at_reader memory (n needs) same received
-  stopped_by P Q N O error old new r s f n (at_content c read finds stops) =
-      at_content c read (f read c finds) stops
+      (r s l m : Option (List (Connection (TlsAnalysis K))))
+      (f : (read : ArrivalReader) (c : Content) → P read c → Q read c) (n : N → O) where
+    stopped_as : (h : StopsBy M P N limit error old new r s) → Adds l m (lent_before passes h)
+        → Lending (StopsBy M Q O limit error old new r s) (lent_before passes) l m
+    stopped_as (at_reader memory needs same received) lent =
+        (at_reader memory (n needs) same received, lent)
+    stopped_as (at_content c read finds stops) lent =
+        (at_content c read (f read c finds) stops, lent)
+
+    pub stopped_by : Lending (StopsBy M P N limit error old new r s) (lent_before passes) l m
+        → Lending (StopsBy M Q O limit error old new r s) (lent_before passes) l m
+    stopped_by h = stopped_as h.0 h.1
 
 -- Nothing changed before.
 module _ {K : Type 0} (M : K → ℕ) (Q : ArrivalReader → Content → Type 0) where
-  pub handled_in : (n m : ℕ) (reader : ArrivalReader) (old mid new : Table (TlsAnalysis K))
-      (r s q : Option (List (Connection (TlsAnalysis K)))) → m ≡ n → mid ≡ old → s ≡ r
-      → HandlesBy M Q m reader mid new s q → HandlesBy M Q n reader old new r q
-  handled_in n m reader old mid new r s q memory connections received handles =
-      subst (λ l. HandlesBy M Q l reader old new r q) memory
-      (subst (λ t. HandlesBy M Q m reader t new r q) connections
-      (subst (λ x. HandlesBy M Q m reader mid new x q) received handles))
+  pub handled_in : (n m : ℕ) (o p : Option PieceKind) (reader : ArrivalReader)
+      (old mid new : Table (TlsAnalysis K))
+      (r s q a b d : Option (List (Connection (TlsAnalysis K)))) → m ≡ n → p ≡ o → mid ≡ old
+      → s ≡ r → b ≡ a
+      → Lending (HandlesBy M Q m reader mid new s q) (lent_by (passes_on p)) b d
+      → Lending (HandlesBy M Q n reader old new r q) (lent_by (passes_on o)) a d
+  handled_in n m o p reader old mid new r s q a b d memory kept connections received lent handles =
+      subst (λ x. Lending (HandlesBy M Q n reader old new r q) (lent_by (passes_on o)) x d) lent
+      (subst (λ x. Lending (HandlesBy M Q n reader old new r q) (lent_by (passes_on x)) b d) kept
+      (subst (λ l. Lending (HandlesBy M Q l reader old new r q) (lent_by (passes_on p)) b d) memory
+      (subst (λ t. Lending (HandlesBy M Q m reader t new r q) (lent_by (passes_on p)) b d)
+      connections
+      (subst (λ x. Lending (HandlesBy M Q m reader mid new x q) (lent_by (passes_on p)) b d)
+      received handles))))
 
   pub stopped_in : {E : Type 0} (N : Type 0) (error : LogError E) (n m : ℕ)
-      (old mid new : Table (TlsAnalysis K)) (r s q : Option (List (Connection (TlsAnalysis K))))
-      → m ≡ n → mid ≡ old → s ≡ r → StopsBy M Q N m error mid new s q
-      → StopsBy M Q N n error old new r q
-  stopped_in N error n m old mid new r s q memory connections received stops =
-      subst (λ l. StopsBy M Q N l error old new r q) memory
-      (subst (λ t. StopsBy M Q N m error t new r q) connections
-      (subst (λ x. StopsBy M Q N m error mid new x q) received stops))
+      (o p : Option PieceKind) (old mid new : Table (TlsAnalysis K))
+      (r s q a b d : Option (List (Connection (TlsAnalysis K))))
+      → m ≡ n → p ≡ o → mid ≡ old → s ≡ r → b ≡ a
+      → Lending (StopsBy M Q N m error mid new s q) (lent_before (passes_on p)) b d
+      → Lending (StopsBy M Q N n error old new r q) (lent_before (passes_on o)) a d
+  stopped_in N error n m o p old mid new r s q a b d memory kept connections received lent stops =
+      subst (λ x. Lending (StopsBy M Q N n error old new r q) (lent_before (passes_on o)) x d) lent
+      (subst (λ x. Lending (StopsBy M Q N n error old new r q) (lent_before (passes_on x)) b d) kept
+      (subst (λ l. Lending (StopsBy M Q N l error old new r q) (lent_before (passes_on p)) b d)
+      memory
+      (subst (λ t. Lending (StopsBy M Q N m error t new r q) (lent_before (passes_on p)) b d)
+      connections
+      (subst (λ x. Lending (StopsBy M Q N m error mid new x q) (lent_before (passes_on p)) b d)
+      received stops))))
 
 -- The tunnels of an earlier packet make no difference.
 reads_behind : (p : Packet) (old mid new : ArrivalReader) (a : Option Arrival)

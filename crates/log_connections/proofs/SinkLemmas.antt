@@ -1,12 +1,15 @@
 -- What a sink received of the connections that ended.
-use Rattle.std.proofs.Common.{◌≡◌, List, [], ◌∷◌, ◌++◌, Option, Some, None, Bool, true, false, sym, subst, ◌∙◌, ap, append_assoc}
+use Rattle.std.proofs.Common.{◌≡◌, List, [], ◌∷◌, ◌++◌, Option, Some, None, Bool, true, false, refl, sym, subst, ◌∙◌, ap, append_assoc}
 use Rattle.std.proofs.lemmas.List.{append-nil}
 use Rattle.std.specs.Prelude.{IfSome, IfNone, OnOk, Result, Ok, Err, ℕ, ◌<◌, ◌≤◌}
 use Rattle.std.specs.Option.{option_map}
+use Rattle.arrivals.specs.declared.counts.Counts.{Counts}
 use Rattle.connections.specs.Memory.{IsAccounted, IsTakenOut, open_part, total}
 use Rattle.connections.specs.Table.{IsOver, NoneIsOver, Table, WasLast}
 use Rattle.connections.specs.declared.five_tuple.FiveTuple.{FiveTuple}
 use Rattle.connections.specs.declared.connection.Connection.{Connection}
+use Rattle.log_connections.proofs.FoundLemmas.{counted_both, counted_from, counted_one}
+use Rattle.log_connections.specs.Found.{AreCounted, IsCounted}
 use Rattle.log_connections.specs.Sink.{Adds, EndsAs, Evicts, EndsIdle, EndsLast, IsOverLimit, IsEnded, IsLastEnded, PassesAllButLast, PassesEnded, Receives, cut_off, marked, none, one, wholly}
 use Rattle.log_connections.specs.declared.analysis.TlsAnalysis.{TlsAnalysis}
 
@@ -14,6 +17,9 @@ module _ {X : Type 0} where
   pub adds_none : (r : Option (List X)) → Adds r r []
   adds_none None = tt
   adds_none (Some xs) = sym (append-nil xs)
+
+  pub adds_same : (r s : Option (List X)) → s ≡ r → Adds r s []
+  adds_same r s is = subst (λ x. Adds r x []) (sym is) (adds_none r)
 
   pub adds_then : (a b c : Option (List X)) (xs ys : List X) → Adds a b xs → Adds b c ys
       → Adds a c (xs ++ ys)
@@ -28,6 +34,11 @@ module _ {X : Type 0} where
       → Adds a c xs
   adds_still a b c xs h k = subst (Adds a c) (append-nil xs) (adds_then a b c xs [] h k)
 
+  -- Something was lent between.
+  pub adds_between : (a b c d : Option (List X)) (xs : List X) → Adds a b [] → Adds b c xs
+      → Adds c d [] → Adds a d xs
+  adds_between a b c d xs h k l = adds_still a c d xs (adds_then a b c [] xs h k) l
+
   -- What follows from what a sink received.
   pub received_then : {E P : Type 0} (r : Result Unit E) (a b : Option (List X)) (x : X)
       → (Adds a b (x ∷ []) → P) → Receives a b r x → OnOk r P
@@ -37,18 +48,34 @@ module _ {X : Type 0} where
 module _ {K : Type 0} (early : Bool)
     (Is : List (FiveTuple × Connection (TlsAnalysis K)) → Connection (TlsAnalysis K) → Type 0) where
   pub none_ended : (xs : List (FiveTuple × Connection (TlsAnalysis K)))
-      (r : Option (List (Connection (TlsAnalysis K)))) → PassesEnded early Is xs xs r r
-  none_ended xs r = record { outs = []; ended = none; received = adds_none r }
+      (r : Option (List (Connection (TlsAnalysis K)))) (k : Counts)
+      → (ended : PassesEnded early Is xs xs r r) × AreCounted ended.outs k k
+  none_ended xs r k = (record { outs = []; ended = none; received = adds_none r }, refl)
 
   pub one_more_ended : (xs ys zs : List (FiveTuple × Connection (TlsAnalysis K)))
       (c c' : Connection (TlsAnalysis K)) (r s t : Option (List (Connection (TlsAnalysis K))))
-      → PassesEnded early Is xs ys r s → Is ys c → IsLastEnded early ys zs c c' → Adds s t (c' ∷ [])
-      → PassesEnded early Is xs zs r t
-  one_more_ended xs ys zs c c' r s t before is last received = record {
-    outs = before.outs ++ c' ∷ [];
-    ended = one ys zs before.outs c c' before.ended is last;
-    received = adds_then r s t before.outs (c' ∷ []) before.received received;
-  }
+      (k l m n : Counts)
+      → ((ended : PassesEnded early Is xs ys r s) × AreCounted ended.outs k l) → Is ys c
+      → IsLastEnded early ys zs c c' → Adds s t (c' ∷ []) → m ≡ l → IsCounted c' m n
+      → (ended : PassesEnded early Is xs zs r t) × AreCounted ended.outs k n
+  one_more_ended xs ys zs c c' r s t k l m n before is last received same counted = (
+    record {
+      outs = before.0.outs ++ c' ∷ [];
+      ended = one ys zs before.0.outs c c' before.0.ended is last;
+      received = adds_then r s t before.0.outs (c' ∷ []) before.0.received received;
+    },
+    counted_both before.0.outs (c' ∷ []) k l n before.1
+        (counted_from (c' ∷ []) l m n same (counted_one c' m n counted)),
+  )
+
+  pub ended_still : (xs ys zs : List (FiveTuple × Connection (TlsAnalysis K)))
+      (r s : Option (List (Connection (TlsAnalysis K)))) (k l m : Counts)
+      → ((ended : PassesEnded early Is xs ys r s) × AreCounted ended.outs k l) → zs ≡ ys → m ≡ l
+      → (ended : PassesEnded early Is xs zs r s) × AreCounted ended.outs k m
+  ended_still xs ys zs r s k l m before live counts =
+      subst (λ n. (ended : PassesEnded early Is xs zs r s) × AreCounted ended.outs k n) (sym counts)
+      (subst (λ v. (ended : PassesEnded early Is xs v r s) × AreCounted ended.outs k l) (sym live)
+      before)
 
   pub all_but_last : (xs ys zs : List (FiveTuple × Connection (TlsAnalysis K)))
       (c c' : Connection (TlsAnalysis K)) (r s t : Option (List (Connection (TlsAnalysis K))))

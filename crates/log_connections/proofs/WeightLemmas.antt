@@ -1,5 +1,5 @@
 -- Which memory is accounted for the connections after a step, and which closed ones are forgotten.
-use Rattle.std.proofs.Common.{◌≡◌, refl, sym, ap, ◌∙◌, subst, Option, Some, None, List, [], ◌∷◌, length, take, Bool, true, false, ℕ, ◌+◌, ◌-◌, ◌<◌, ◌≤◌, ◌^◌, arith}
+use Rattle.std.proofs.Common.{◌≡◌, refl, sym, ap, ◌∙◌, subst, Option, Some, None, List, [], ◌∷◌, length, take, Bool, true, false, ℕ, ◌+◌, ◌-◌, arith}
 use Rattle.std.proofs.lemmas.Bool.{ltb-false}
 use Rattle.std.proofs.lemmas.List.{take_all}
 use Rattle.std.specs.Prelude.{nat_lt, IfNone, IfSome, OnOk, Result, Ok, Err, is_some, not, ◌&&◌, ◌||◌}
@@ -7,9 +7,9 @@ use Rattle.std.specs.Map.{set_value}
 use Rattle.std.specs.Option.{option_map}
 use Rattle.connections.proofs.MemoryLemmas.{front_of_front}
 use Rattle.connections.proofs.TableLemmas.{is_five_tuple-refl}
-use Rattle.connections.specs.Connection.{dropped_from, held_by, is_datagram_damaged, lets_in}
+use Rattle.connections.specs.Connection.{dropped_from, is_kept, lets_in}
 use Rattle.connections.specs.FiveTuple.{is_five_tuple}
-use Rattle.connections.specs.Memory.{FitsClosed, IsSettled, closed_count, is_over_limit, most_weight, open_part}
+use Rattle.connections.specs.Memory.{FitsClosed, IsChangedWeight, IsSettled, closed_count, is_over_limit, open_part}
 use Rattle.connections.specs.Segment.{begins, begins_one, five_tuple_of, has_data}
 use Rattle.connections.specs.Table.{IsForgotten, Puts, Table, at, belongs, ended}
 use Rattle.connections.specs.Table.IsForgotten.{none, one}
@@ -24,27 +24,29 @@ use Rattle.connections.specs.declared.receiver.Judgement.TheVariants as judgemen
 use Rattle.connections.specs.declared.segment.Segment.{Segment}
 use Rattle.arrivals.specs.declared.arrival.Arrival.{Arrival}
 use Rattle.arrivals.specs.declared.arrival.Arrival.TheVariants as arrival
+use Rattle.arrivals.specs.declared.counts.Counts.{Counts}
+use Rattle.arrivals.specs.declared.reader.ArrivalReader.{ArrivalReader}
 use Rattle.log_connections.specs.Capacity.{IsWeighed, IsWeighedAt, most_bytes_of}
-use Rattle.log_connections.specs.Log.{EndsAfter, EndsClosed, IsWeighedUnless, Settles, WhereBegun, WhereDatagram, WhereJudged, WhereLetIn, WhereSegment, WhereWeighed, disagreeing_from, is_damaged_in, verdict_in}
+use Rattle.log_connections.specs.Log.{EndsAfter, EndsClosed, IsWeighedUnless, Settles, WhereBegun, WhereDatagram, WhereJudged, WhereLetIn, WhereSegment, WhereWeighed, counting, damaged_if, disagreeing_from, is_damaged_in, stray_unless, verdict_in, with_datagram, with_judged_if, with_segment, with_verdict}
 use Rattle.log_connections.specs.Sink.{EndsAs}
 use Rattle.log_connections.specs.declared.analysis.TlsAnalysis.{TlsAnalysis}
 
 -- A connection that comes first accounts for what it takes, unless that is due.
 module _ {K : Type 0} (M : K → ℕ) (e : FiveTuple) where
   pub weighed_first : (t : Table (TlsAnalysis K)) (c : Connection (TlsAnalysis K))
-      (xs : List (FiveTuple × Connection (TlsAnalysis K))) (settled : Bool)
-      → t.live ≡ (e, c) ∷ xs
-      → (settled ≡ true → c.weight ≤ most_weight (most_bytes_of M) c)
-      → (settled ≡ true → held_by c < 2 ^ 64 → held_by c ≤ c.weight)
-      → settled ≡ true → IsWeighedAt M e t
-  weighed_first t c xs settled stands within enough is =
+      (xs : List (FiveTuple × Connection (TlsAnalysis K))) (changed : Option ℕ) (due : Bool)
+      → t.live ≡ (e, c) ∷ xs → IsChangedWeight (most_bytes_of M) c changed
+      → due ≡ is_some changed → IsWeighedUnless M due e t
+  weighed_first t c xs None due stands is same = λ h.
       let first : at e ((e, c) ∷ xs) ≡ Some c = rw (is_five_tuple-refl e) in
       let found : at e t.live ≡ Some c = ap (at e) stands ∙ first in
       subst (λ o. IfSome o (λ d. IsWeighed M (t.held - d.weight) d)) (sym found)
       (record {
-        enough = λ few. enough is (omega (arith, few));
-        within = within is;
+        enough = λ few. is.0 (omega (arith, few));
+        within = is.1;
       })
+  weighed_first t c xs (Some n) due stands is same = λ h.
+      let wrong : true ≡ false = sym same ∙ h in cc
 
   pub none_weighed : (t : Table (TlsAnalysis K)) → None ≡ at e t.live → IsWeighedAt M e t
   none_weighed t h = subst (λ o. IfSome o (λ d. IsWeighed M (t.held - d.weight) d)) h tt
@@ -79,12 +81,6 @@ module _ {K : Type 0} (M : K → ℕ) (e : FiveTuple) where
       → IsWeighedUnless M due e old → IsWeighedAt M e new
   settled_weighed true old new is unless = updated_weighed (at e old.live) old new refl is
   settled_weighed false old new same unless = subst (IsWeighedAt M e) (sym same) (unless refl)
-
-  pub weighed_unless : (t : Table (TlsAnalysis K)) (settled : Bool)
-      → (settled ≡ true → IsWeighedAt M e t)
-      → IsWeighedUnless M (not settled) e t
-  weighed_unless t true f = λ h. f refl
-  weighed_unless t false f = λ h. let no : true ≡ false = h in cc
 
 -- Where none is open, none is weighed.
 pub some_of : {X : Type 0} (o : Option X) (b : Bool) → (is_some o || b) ≡ false → o ≡ None
@@ -194,35 +190,58 @@ datagram_more W V f None w = f w
 datagram_more W V f (Some true) w = tt
 datagram_more W V f (Some false) w = f w
 
--- Only a segment that isn't let in is counted.
-pub let_in_counts : (o : Option Verdict) (P : Verdict → Type 0)
-    → option_map lets_in o ≡ Some true → IfSome o (λ v. lets_in v ≡ false → P v)
-let_in_counts None P h = tt
-let_in_counts (Some v) P h = λ missed. cc
+-- What a segment adds to the counts, by its verdict. One that is let in adds nothing.
+let_in_adds : (j : Judgement) (another acknowledges damage : Bool) (c : Counts)
+    → (is_kept j && (not another && (not acknowledges && not damage))) ≡ true
+    → with_judged_if damage another j c ≡ c
+let_in_adds j another acknowledges true c h = refl
+let_in_adds j true acknowledges false c h = refl
+let_in_adds judgement.Taken false acknowledges false c h = refl
+let_in_adds judgement.Again false acknowledges false c h = refl
+let_in_adds (judgement.Waiting r) false acknowledges false c h = cc
+let_in_adds (judgement.Dropped r) false acknowledges false c h = cc
 
-pub none_counts : (o : Option Verdict) (P : Verdict → Type 0) → o ≡ None
-    → IfSome o (λ v. lets_in v ≡ false → P v)
-none_counts None P h = tt
-none_counts (Some v) P h = cc
+let_in_adds_none : (o : Option Verdict) (b : Bool) (s : Segment) (c : Counts)
+    → option_map lets_in o ≡ Some true → with_segment o b s c ≡ c
+let_in_adds_none None b s c h = cc
+let_in_adds_none (Some v) b s c h =
+    let is : lets_in v ≡ true = cc in
+    let_in_adds v.judgement v.begins_another v.acknowledges v.shows_damage c is
 
-pub judged_counts : (o : Option Verdict) (v : Verdict) (P : Verdict → Type 0) → o ≡ Some v → P v
-    → IfSome o (λ w. lets_in w ≡ false → P w)
-judged_counts o v P is p =
-    subst (λ q. IfSome q (λ w. lets_in w ≡ false → P w)) (sym is) (λ missed. p)
+pub let_in_counts : (o : Option Verdict) (b : Bool) (s : Segment) (old new : ArrivalReader)
+    → option_map lets_in o ≡ Some true → new ≡ old → new ≡ counting (with_segment o b s) old
+let_in_counts o b s old new is same =
+    same ∙ sym (ap (λ k. record old { counts = k }) (let_in_adds_none o b s old.counts is))
 
--- One that is let in, or judged, has an open connection.
-pub let_in_open : {W : Type 0} (o : Option Verdict) → option_map lets_in o ≡ Some true → o ≡ None
-    → W
-let_in_open None h missed = cc
-let_in_open (Some v) h missed = cc
+pub none_counts : (o : Option Verdict) (b belongs : Bool) (s : Segment)
+    (old mid new : ArrivalReader) → o ≡ None → belongs ≡ b → mid ≡ old
+    → new ≡ counting (stray_unless belongs s) mid → new ≡ counting (with_segment o b s) old
+none_counts o b belongs s old mid new is same before counts =
+    counts ∙ ap (λ r. counting (stray_unless belongs s) r) before
+    ∙ ap (λ x. counting (stray_unless x s) old) same
+    ∙ sym (ap (λ p. counting (with_segment p b s) old) is)
 
--- What holds if there is none.
-pub given_none : {A : Type 0} (o : Option A) (W : Type 0) → IfNone o W → is_some o ≡ false → W
-given_none None W h is = h
-given_none (Some x) W h is = cc
+pub judged_counts : (o : Option Verdict) (v : Verdict) (b : Bool) (s : Segment)
+    (old mid new : ArrivalReader) → o ≡ Some v → mid ≡ old → new ≡ counting (with_verdict v) mid
+    → new ≡ counting (with_segment o b s) old
+judged_counts o v b s old mid new is before counts =
+    counts ∙ ap (λ r. counting (with_verdict v) r) before
+    ∙ sym (ap (λ p. counting (with_segment p b s) old) is)
 
-pub judged_open : {W : Type 0} (o : Option Verdict) (v : Verdict) → o ≡ Some v → o ≡ None → W
-judged_open o v is missed = cc
+-- What a datagram adds, by its open exchange, or without one.
+pub datagram_counts : (o : Option Bool) (damaged wrong : Bool) (old mid new : ArrivalReader)
+    → o ≡ Some damaged → mid ≡ old → new ≡ counting (damaged_if damaged) mid
+    → new ≡ counting (with_datagram o wrong) old
+datagram_counts o damaged wrong old mid new is before counts =
+    counts ∙ ap (λ r. counting (damaged_if damaged) r) before
+    ∙ sym (ap (λ p. counting (with_datagram p wrong) old) is)
+
+pub alone_counts : (o : Option Bool) (wrong : Bool) (old mid new : ArrivalReader)
+    → o ≡ None → mid ≡ old → new ≡ counting (damaged_if wrong) mid
+    → new ≡ counting (with_datagram o wrong) old
+alone_counts o wrong old mid new is before counts =
+    counts ∙ ap (λ r. counting (damaged_if wrong) r) before
+    ∙ sym (ap (λ p. counting (with_datagram p wrong) old) is)
 
 pub datagram_weighs : (W : Type 0) (o : Option Bool) → W → WhereDatagram o W
 datagram_weighs W None w = w

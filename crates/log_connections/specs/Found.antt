@@ -1,5 +1,5 @@
 -- How a connection that is over counts.
-use Rattle.std.specs.Prelude.{◌≡◌, Bool, true, false, ◌||◌, length}
+use Rattle.std.specs.Prelude.{◌≡◌, Bool, true, false, ◌||◌, List, [], ◌∷◌, length}
 use Rattle.arrivals.specs.Counts.{one_more}
 use Rattle.arrivals.specs.declared.counts.Counts.{Counts}
 use Rattle.arrivals.specs.declared.reader.ArrivalReader.{ArrivalReader}
@@ -30,9 +30,12 @@ abbrev pub with_gap : Bool → Counts → Counts
 with_gap true c = record c { gaps = one_more c.gaps }
 with_gap false c = c
 
--- Only connections that ended early may be counted.
-abbrev pub MayCountEarly : Counts → Counts → Type 0
-MayCountEarly old new = new ≡ record old { ended_early = new.ended_early }
+abbrev pub with_other_connection : Counts → Counts
+with_other_connection c = record c { other_connections = one_more c.other_connections }
+
+abbrev pub with_early : Bool → Counts → Counts
+with_early true c = record c { ended_early = one_more c.ended_early }
+with_early false c = c
 
 -- The datagrams that were dropped or cut short in reassembly are counted, as the reader has them.
 abbrev pub HasCut : ArrivalReader → Counts → Type 0
@@ -53,13 +56,20 @@ module _ {K : Type 0} where
         || (lacks c.from_responder c.from_responder.reading || (one || other)))
 
   -- A connection counts by its protocol, its outcome and its gaps, or as one that is neither TLS
-  -- nor DTLS.
+  -- nor DTLS; and, either way, if it ended early.
   pub data IsCounted (c : Connection (TlsAnalysis K)) (old new : Counts) : Type 0 where
     counts_tls :
         (o : Outcome) (gap : Bool) → IsTlsBy true c.attachment.is_turned c.attachment.transport
         → HasOutcome o c.attachment.transport → HasGap gap c
-        → new ≡ with_gap gap (with_outcome o (with_protocol c.protocol old)) → IsCounted c old new
+        → new ≡ with_gap gap (with_outcome o (with_protocol c.protocol
+        (with_early c.attachment.is_ended_early old)))
+        → IsCounted c old new
     counts_none :
         IsTlsBy false c.attachment.is_turned c.attachment.transport
-        → new ≡ record old { other_connections = one_more old.other_connections }
+        → new ≡ with_other_connection (with_early c.attachment.is_ended_early old)
         → IsCounted c old new
+
+  -- Connections that are over are counted one after another.
+  abbrev pub AreCounted : List (Connection (TlsAnalysis K)) → Counts → Counts → Type 0
+  AreCounted [] old new = new ≡ old
+  AreCounted (c ∷ cs) old new = (mid : Counts) × IsCounted c old mid × AreCounted cs mid new

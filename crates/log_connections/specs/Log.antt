@@ -67,15 +67,18 @@ IsClosedAs (reception.Received closed) is_closed = closed ≡ is_closed
 IsClosedAs (reception.Judged verdict) is_closed = ⊤
 IsClosedAs reception.NoneOpen is_closed = ⊤
 
+-- The reader counts more.
+abbrev pub counting : (Counts → Counts) → ArrivalReader → ArrivalReader
+counting adds r = record r { counts = adds r.counts }
+
 -- A packet that its receiver drops for a wrong checksum counts as damaged. One that belongs to no
 -- connection does, or counts as stray if it has data.
 abbrev pub damaged_if : Bool → Counts → Counts
 damaged_if true c = record c { damaged = one_more c.damaged }
 damaged_if false c = c
 
-abbrev pub counting_dropped : DropReason → ArrivalReader → ArrivalReader
-counting_dropped reason r =
-    record r { counts = damaged_if (is_for_checksum reason) r.counts }
+abbrev pub with_dropped : DropReason → Counts → Counts
+with_dropped reason c = damaged_if (is_for_checksum reason) c
 
 abbrev pub stray_if : Bool → Counts → Counts
 stray_if true c = record c { stray_segments = one_more c.stray_segments }
@@ -85,30 +88,36 @@ abbrev pub with_stray : Segment → Counts → Counts
 with_stray s c =
     if is_refused s.checksum then damaged_if true c else stray_if (has_data s) c
 
-abbrev pub counting_stray : Segment → ArrivalReader → ArrivalReader
-counting_stray s r = record r { counts = with_stray s r.counts }
-
--- A connection that ended early is counted, unless it was before.
-abbrev pub counting_early : Bool → ArrivalReader → ArrivalReader
-counting_early true r = r
-counting_early false r =
-    record r { counts = record r.counts { ended_early = one_more r.counts.ended_early } }
+abbrev pub stray_unless : Bool → Segment → Counts → Counts
+stray_unless true s c = c
+stray_unless false s c = with_stray s c
 
 -- A segment that its open connection's receiver drops, or that waits, is counted by the reason
--- against it.
-abbrev pub CountsJudged : Judgement → ArrivalReader → ArrivalReader → Type 0
-CountsJudged judgement.Taken r r' = ⊤
-CountsJudged judgement.Again r r' = ⊤
-CountsJudged (judgement.Waiting reason) r r' = r' ≡ counting_dropped reason r
-CountsJudged (judgement.Dropped reason) r r' = r' ≡ counting_dropped reason r
+-- against it. No other is counted.
+abbrev pub with_judged : Judgement → Counts → Counts
+with_judged judgement.Taken c = c
+with_judged judgement.Again c = c
+with_judged (judgement.Waiting reason) c = with_dropped reason c
+with_judged (judgement.Dropped reason) c = with_dropped reason c
 
-abbrev pub CountsIf : Bool → Bool → Judgement → ArrivalReader → ArrivalReader → Type 0
-CountsIf true begins_another j r r' = ⊤
-CountsIf false true j r r' = ⊤
-CountsIf false false j r r' = CountsJudged j r r'
+abbrev pub with_judged_if : Bool → Bool → Judgement → Counts → Counts
+with_judged_if true begins_another j c = c
+with_judged_if false true j c = c
+with_judged_if false false j c = with_judged j c
 
-abbrev pub CountsBy : Verdict → ArrivalReader → ArrivalReader → Type 0
-CountsBy v r r' = CountsIf v.shows_damage v.begins_another v.judgement r r'
+abbrev pub with_verdict : Verdict → Counts → Counts
+with_verdict v c = with_judged_if v.shows_damage v.begins_another v.judgement c
+
+-- So a segment counts by its open connection's verdict, or without one by whether it belongs to a
+-- connection; and a datagram by whether its checksum counts as wrong in its open exchange, or
+-- without one by whether it is wrong.
+abbrev pub with_segment : Option Verdict → Bool → Segment → Counts → Counts
+with_segment None belongs s c = stray_unless belongs s c
+with_segment (Some v) belongs s c = with_verdict v c
+
+abbrev pub with_datagram : Option Bool → Bool → Counts → Counts
+with_datagram None is_wrong c = damaged_if is_wrong c
+with_datagram (Some damaged) is_wrong c = damaged_if damaged c
 
 module _ {K : Type 0} where
   -- The segment's connection takes it, and the next bytes of its sender's stream are analyzed. One
@@ -364,14 +373,14 @@ module _ {K : Type 0} where
   BeginsUnless true d old new = new ≡ old
   BeginsUnless false d old new = LogsDatagram IsReady d old new
 
-  -- Another exchange begins with the datagram in place of the open one.
+  -- Another exchange begins with the datagram in place of the open one, which ends.
   pub record LogsInAnother (d : Datagram) (old new : Table (TlsAnalysis K))
       (over : Option (Connection (TlsAnalysis K))) : Type 0 where
     pub mid : Table (TlsAnalysis K)
     pub begins : BeginsAfter d (at (five_tuple_of_datagram d) old.live) old mid
     pub begun : HasBegun IsBegun Udp (five_tuple_of_datagram d) mid.live
     pub logs : LogsDatagram IsReady d mid new
-    pub was : over ≡ at (five_tuple_of_datagram d) old.live
+    pub ends : EndsAs false (at (five_tuple_of_datagram d) old.live) over
 
   abbrev pub AcceptsDelivered : Delivery → Datagram → Table (TlsAnalysis K) → Table (TlsAnalysis K)
       → Option (Connection (TlsAnalysis K)) → Type 0
@@ -389,15 +398,16 @@ module _ {K : Type 0} where
     pub accepts : AcceptsDelivered way d old new over
 
   -- Memory was refused for a datagram that begins another association, before or behind the moment
-  -- when its exchange took the place of the open one, which is over then.
+  -- when its exchange took the place of the open one, which ended then.
   pub data RefusesInNext (d : Datagram) (old new : Table (TlsAnalysis K))
       : Option (Connection (TlsAnalysis K)) → Type 0 where
     before_next : new ≡ old → RefusesInNext d old new None
     behind_next :
-        (mid : Table (TlsAnalysis K))
+        (over : Option (Connection (TlsAnalysis K))) (mid : Table (TlsAnalysis K))
         → BeginsAfter d (at (five_tuple_of_datagram d) old.live) old mid
+        → EndsAs false (at (five_tuple_of_datagram d) old.live) over
         → KeepsOthers (five_tuple_of_datagram d) mid.live new.live
-        → RefusesInNext d old new (at (five_tuple_of_datagram d) old.live)
+        → RefusesInNext d old new over
 
   -- Memory was refused for a datagram. An exchange is over by it only if another one took its
   -- place.
@@ -423,6 +433,12 @@ module _ {K : Type 0} where
       → Option (Connection (TlsAnalysis K)) → Type 0
   Takes (arrival.Segment s) old new over = AcceptsSegment s old new over
   Takes (arrival.Datagram d) old new over = AcceptsDatagram d old new over
+
+  -- What an arrival adds to the counts, by the connections that are open before it.
+  abbrev pub with_arrival : Arrival → Table (TlsAnalysis K) → Counts → Counts
+  with_arrival (arrival.Segment s) old c = with_segment (verdict_in s old) (belongs s old) s c
+  with_arrival (arrival.Datagram d) old c =
+      with_datagram (is_damaged_in d old) (is_refused d.checksum) c
 
   -- Bytes that disagreed in a datagram's fragments are counted for the sender of the arrival
   -- inside.

@@ -1,15 +1,18 @@
 //! Counts the segments that no connection takes, and bytes that disagreed in fragments.
-ghost use Rattle.std.specs.Prelude.{◌≡◌, is_some};
+ghost use Rattle.std.specs.Prelude.{◌≡◌, IfOk, is_some};
+ghost use Rattle.std.specs.Option.{option_map};
 ghost use Rattle.arrivals.specs.Arrival.{five_tuple_in};
 ghost use Rattle.connections.specs.Connection.{side_of};
 ghost use Rattle.connections.specs.Memory.{IsAccounted};
+ghost use Rattle.connections.specs.Segment.{five_tuple_of};
 ghost use Rattle.connections.specs.Table.{at};
-ghost use Rattle.log_connections.specs.Log.{counting_dropped, counting_stray, disagreeing_from, uncounted, with_disagreeing};
+ghost use Rattle.log_connections.specs.Log.{EndsAfter, KeepsOthers, counting, disagreeing_from, stray_unless, with_disagreeing, with_dropped, with_stray};
 
 use crate::analysis::{PieceCollector, TlsAnalysis};
 use crate::log::Log;
 use arrivals::{Arrival, add_one};
 use connections::{Checksum, Connection, DropReason, End, Segment, Side};
+use std::alloc::AllocError;
 
 /// Counts bytes that disagreed in the fragments of a packet of this sender.
 fn count_disagreeing<K: PieceCollector>(
@@ -31,7 +34,7 @@ impl<K: PieceCollector> Log<K> {
     /// acknowledgement of a closed connection loses nothing.)
     pub(crate) fn count_stray(&mut self, segment: &Segment<'_>)
         ensures { self.new ≡ record self.old
-            { arrivals = counting_stray segment.now self.old.arrivals } }
+            { arrivals = counting (with_stray segment.now) self.old.arrivals } }
     {
         if segment.checksum == Checksum::Refused {
             add_one(&mut self.arrivals.counts.damaged);
@@ -43,7 +46,7 @@ impl<K: PieceCollector> Log<K> {
     /// Counts a segment as damaged if its checksum is the reason against it.
     pub(crate) fn count_dropped(&mut self, reason: DropReason)
         ensures { self.new ≡ record self.old
-            { arrivals = counting_dropped reason self.old.arrivals } }
+            { arrivals = counting (with_dropped reason) self.old.arrivals } }
     {
         if reason == DropReason::Checksum {
             add_one(&mut self.arrivals.counts.damaged);
@@ -61,12 +64,40 @@ impl<K: PieceCollector> Log<K> {
             → IsAccounted self.new.connections }
         ensures memory { self.new.memory ≡ self.old.memory }
         ensures kept { self.new.kept ≡ self.old.kept }
-        ensures reader { uncounted self.new.arrivals ≡ uncounted self.old.arrivals }
+        ensures arrivals { self.new.arrivals ≡ self.old.arrivals }
     {
         let Some(connection) = self.connections.get_mut(&arrival.between()) else {
             return false;
         };
         count_disagreeing(connection, arrival.source(), count);
         true
+    }
+
+    /// Removes and returns the connection of an analyzed segment if it is closed. A segment without
+    /// a connection is counted.
+    pub(crate) fn end_or_count(
+        &mut self,
+        segment: &Segment<'_>,
+        analysis: Option<bool>,
+    ) -> Result<Option<Box<Connection<TlsAnalysis<K>>>>, AllocError>
+        ensures ended { IfOk result (λ over. EndsAfter analysis segment.now self.old.connections
+            self.new.connections (option_map (λ b. b.value) over)) }
+        ensures others { KeepsOthers (five_tuple_of segment.now) self.old.connections.live
+            self.new.connections.live }
+        ensures unsettled { self.new.is_unsettled ≡ self.old.is_unsettled }
+        ensures accounted { IsAccounted self.old.connections
+            → IsAccounted self.new.connections }
+        ensures memory { self.new.memory ≡ self.old.memory }
+        ensures kept { self.new.kept ≡ self.old.kept }
+        ensures counted { self.new.arrivals
+            ≡ counting (stray_unless (is_some analysis) segment.now) self.old.arrivals }
+    {
+        match analysis {
+            Some(_) => self.end_analyzed(segment, analysis),
+            None => {
+                self.count_stray(segment);
+                Ok(None)
+            }
+        }
     }
 }

@@ -1,14 +1,14 @@
 //! What drives a log: [`Log::packet`] for each packet, and [`Log::finish`] at the end.
-ghost use Rattle.std.specs.Prelude.{◌≡◌, ◌≤◌, ⊤, false, true, [], IfErr, IfOk, OnErr, OnOk, is_some};
+ghost use Rattle.std.specs.Prelude.{◌≡◌, ◌≤◌, ◌++◌, ⊤, false, true, [], IfErr, IfOk, OnErr, OnOk, is_some};
 ghost use Rattle.std.specs.Option.{option_map};
 ghost use Rattle.packets.specs.Section.{view_packet};
 ghost use Rattle.arrivals.specs.Arrival.{five_tuple_in};
-ghost use Rattle.arrivals.specs.Fragments.{fragment_in};
+ghost use Rattle.arrivals.specs.Fragments.{counting_cut, fragment_in};
 ghost use Rattle.connections.specs.Memory.{FitsClosed, IsAccounted, open_part, total};
 ghost use Rattle.connections.specs.Table.{IsForgotten, NoneIsOver, NoneToForget, at};
-ghost use Rattle.log_connections.specs.Found.{HasCut, IsCounted};
+ghost use Rattle.log_connections.specs.Found.{AreCounted, HasCut, IsCounted};
 ghost use Rattle.log_connections.specs.Log.{uncounted};
-ghost use Rattle.log_connections.specs.Packet.{Arrives, Handles, HandlesBy, HandlesInside, IsLent, Lends, Processes, Stops, StopsArriving, StopsBy, StopsHandling, lent_if, noted_if, passes_on};
+ghost use Rattle.log_connections.specs.Packet.{Arrives, CountsArrival, CountsProcessed, Handles, HandlesBy, HandlesInside, IsLent, Lending, Processes, Stops, StopsArriving, StopsBy, StopsHandling, lent_at, lent_before, lent_by, lent_if, lent_in, lent_until, noted_if, passes_on};
 ghost use Rattle.log_connections.specs.Reading.{HoldsFragment, HoldsInside, HoldsWhole};
 ghost use Rattle.log_connections.specs.Sink.{Adds, EndsAfterRefusal, EndsRefused, IsOverLimit, IsIdle, IsOfSink, IsOpen, PassesAllButLast, PassesEnded, Receives, StaysSound, StopsAfterRefusal, StopsRefused, as_list};
 
@@ -33,14 +33,16 @@ impl<K: PieceCollector> Log<K> {
         packet: Packet<'_>,
         sink: &mut S,
     ) -> Result<(), LogError<S::Error>>
-        ensures handled { OnOk result
+        ensures handled { OnOk result (Lending
             (Handles K.most_bytes (view_packet packet.entry) self.old.memory self.old.arrivals
             self.new.arrivals self.old.connections self.new.connections (S.received sink.old)
-            (S.received sink.new)) }
-        ensures stopped { IfErr result
-            (λ error. StopsHandling K.most_bytes (view_packet packet.entry) self.old.memory
+            (S.received sink.new)) (lent_by (passes_on self.old.kept))
+            (S.lent sink.old) (S.lent sink.new)) }
+        ensures stopped { IfErr result (λ error. Lending
+            (StopsHandling K.most_bytes (view_packet packet.entry) self.old.memory
             self.old.arrivals error self.old.connections self.new.connections
-            (S.received sink.old) (S.received sink.new)) }
+            (S.received sink.old) (S.received sink.new)) (lent_before (passes_on self.old.kept))
+            (S.lent sink.old) (S.lent sink.new)) }
         ensures accounted { IsAccounted self.old.connections
             → IsAccounted self.new.connections }
         ensures memory { self.new.memory ≡ self.old.memory }
@@ -61,14 +63,16 @@ impl<K: PieceCollector> Log<K> {
         packet: Packet<'_>,
         sink: &mut S,
     ) -> Result<(), LogError<S::Error>>
-        ensures handled { OnOk result
+        ensures handled { OnOk result (Lending
             (Handles K.most_bytes (view_packet packet.entry) self.old.memory self.old.arrivals
             self.new.arrivals self.old.connections self.new.connections (S.received sink.old)
-            (S.received sink.new)) }
-        ensures stopped { IfErr result
-            (λ error. StopsHandling K.most_bytes (view_packet packet.entry) self.old.memory
+            (S.received sink.new)) (lent_by (passes_on self.old.kept))
+            (S.lent sink.old) (S.lent sink.new)) }
+        ensures stopped { IfErr result (λ error. Lending
+            (StopsHandling K.most_bytes (view_packet packet.entry) self.old.memory
             self.old.arrivals error self.old.connections self.new.connections
-            (S.received sink.old) (S.received sink.new)) }
+            (S.received sink.old) (S.received sink.new)) (lent_before (passes_on self.old.kept))
+            (S.lent sink.old) (S.lent sink.new)) }
         ensures accounted { IsAccounted self.old.connections
             → IsAccounted self.new.connections }
         ensures memory { self.new.memory ≡ self.old.memory }
@@ -87,16 +91,17 @@ impl<K: PieceCollector> Log<K> {
         packet: Packet<'_>,
         sink: &mut S,
     ) -> Result<(), LogError<S::Error>>
-        ensures handled { OnOk result
+        ensures handled { OnOk result (Lending
             (HandlesBy K.most_bytes (HoldsFragment (view_packet packet.entry) self.old.arrivals)
             self.old.memory self.new.arrivals self.old.connections self.new.connections
-            (S.received sink.old) (S.received sink.new)) }
-        ensures stopped { IfErr result
-            (λ error. StopsBy K.most_bytes
-            (HoldsFragment (view_packet packet.entry) self.old.arrivals)
+            (S.received sink.old) (S.received sink.new)) (lent_by (passes_on self.old.kept))
+            (S.lent sink.old) (S.lent sink.new)) }
+        ensures stopped { IfErr result (λ error. Lending
+            (StopsBy K.most_bytes (HoldsFragment (view_packet packet.entry) self.old.arrivals)
             (is_some (fragment_in (view_packet packet.entry)) ≡ true) self.old.memory error
             self.old.connections self.new.connections (S.received sink.old)
-            (S.received sink.new)) }
+            (S.received sink.new)) (lent_before (passes_on self.old.kept))
+            (S.lent sink.old) (S.lent sink.new)) }
         ensures accounted { IsAccounted self.old.connections
             → IsAccounted self.new.connections }
         ensures memory { self.new.memory ≡ self.old.memory }
@@ -114,16 +119,18 @@ impl<K: PieceCollector> Log<K> {
         joined: Option<CompletedDatagram>,
         sink: &mut S,
     ) -> Result<(), LogError<S::Error>>
-        ensures handled { OnOk result
+        ensures handled { OnOk result (Lending
             (HandlesBy K.most_bytes
             (HoldsWhole (view_packet packet.entry) self.old.arrivals joined) self.old.memory
             self.new.arrivals self.old.connections self.new.connections (S.received sink.old)
-            (S.received sink.new)) }
-        ensures stopped { IfErr result
-            (λ error. StopsBy K.most_bytes
+            (S.received sink.new)) (lent_by (passes_on self.old.kept))
+            (S.lent sink.old) (S.lent sink.new)) }
+        ensures stopped { IfErr result (λ error. Lending
+            (StopsBy K.most_bytes
             (HoldsWhole (view_packet packet.entry) self.old.arrivals joined)
             (is_some joined ≡ true) self.old.memory error self.old.connections
-            self.new.connections (S.received sink.old) (S.received sink.new)) }
+            self.new.connections (S.received sink.old) (S.received sink.new))
+            (lent_before (passes_on self.old.kept)) (S.lent sink.old) (S.lent sink.new)) }
         ensures accounted { IsAccounted self.old.connections
             → IsAccounted self.new.connections }
         ensures memory { self.new.memory ≡ self.old.memory }
@@ -151,14 +158,16 @@ impl<K: PieceCollector> Log<K> {
         sink: &mut S,
     ) -> Result<bool, LogError<S::Error>>
         ensures processed { IfOk result
-            (λ holds_one. HandlesInside K.most_bytes holds_one (view_packet packet.entry) joined.now
-            self.old.memory self.old.arrivals self.new.arrivals self.old.connections
-            self.new.connections (S.received sink.old) (S.received sink.new)) }
-        ensures stopped { IfErr result
-            (λ error. StopsBy K.most_bytes
+            (λ holds_one. HandlesInside K.most_bytes (passes_on self.old.kept) holds_one
+            (view_packet packet.entry) joined.now self.old.memory self.old.arrivals
+            self.new.arrivals self.old.connections self.new.connections (S.received sink.old)
+            (S.received sink.new) (S.lent sink.old) (S.lent sink.new)) }
+        ensures stopped { IfErr result (λ error. Lending
+            (StopsBy K.most_bytes
             (HoldsInside (view_packet packet.entry) joined.now self.old.arrivals) ⊤
             self.old.memory error self.old.connections self.new.connections
-            (S.received sink.old) (S.received sink.new)) }
+            (S.received sink.old) (S.received sink.new)) (lent_before (passes_on self.old.kept))
+            (S.lent sink.old) (S.lent sink.new)) }
         ensures accounted { IsAccounted self.old.connections
             → IsAccounted self.new.connections }
         ensures memory { self.new.memory ≡ self.old.memory }
@@ -183,7 +192,7 @@ impl<K: PieceCollector> Log<K> {
             → IsAccounted self.new.connections }
         ensures memory { self.new.memory ≡ self.old.memory }
         ensures kept { self.new.kept ≡ self.old.kept }
-        ensures reader { uncounted self.new.arrivals ≡ uncounted self.old.arrivals }
+        ensures arrivals { self.new.arrivals ≡ self.old.arrivals }
     {
         if !is_noted {
             self.note_disagreeing(arrival, count);
@@ -197,11 +206,15 @@ impl<K: PieceCollector> Log<K> {
         sink: &mut S,
     ) -> Result<(), LogError<S::Error>>
         ensures processed { OnOk result
-            (Processes K.most_bytes arrival.now self.old.memory self.old.connections
-            self.new.connections (S.received sink.old) (S.received sink.new)) }
-        ensures stopped { IfErr result
-            (λ error. Stops K.most_bytes arrival.now self.old.memory error self.old.connections
-            self.new.connections (S.received sink.old) (S.received sink.new)) }
+            ((processes : Processes K.most_bytes arrival.now self.old.memory self.old.connections
+            self.new.connections (S.received sink.old) (S.received sink.new))
+            × CountsProcessed processes self.old.arrivals.counts self.new.arrivals.counts
+            × Adds (S.lent sink.old) (S.lent sink.new)
+            (lent_in (passes_on self.old.kept) processes.arrives)) }
+        ensures stopped { IfErr result (λ error. Lending
+            (Stops K.most_bytes arrival.now self.old.memory error self.old.connections
+            self.new.connections (S.received sink.old) (S.received sink.new))
+            (lent_until (passes_on self.old.kept)) (S.lent sink.old) (S.lent sink.new)) }
         ensures accounted { IsAccounted self.old.connections
             → IsAccounted self.new.connections }
         ensures memory { self.new.memory ≡ self.old.memory }
@@ -222,13 +235,15 @@ impl<K: PieceCollector> Log<K> {
         sink: &mut S,
     ) -> Result<(), LogError<S::Error>>
         ensures arrives { OnOk result
-            (Arrives K.most_bytes arrival.now self.old.connections self.new.connections
-            (S.received sink.old) (S.received sink.new)) }
-        ensures lends { Lends K.most_bytes (passes_on self.old.kept) arrival.now
-            self.old.connections (S.lent sink.old) (S.lent sink.new) }
-        ensures stopped { IfErr result
-            (λ error. StopsArriving K.most_bytes arrival.now error self.old.connections
-            self.new.connections (S.received sink.old) (S.received sink.new)) }
+            ((arrives : Arrives K.most_bytes arrival.now self.old.connections self.new.connections
+            (S.received sink.old) (S.received sink.new))
+            × CountsArrival arrives self.old.arrivals.counts self.new.arrivals.counts
+            × Adds (S.lent sink.old) (S.lent sink.new)
+            (lent_in (passes_on self.old.kept) arrives)) }
+        ensures stopped { IfErr result (λ error. Lending
+            (StopsArriving K.most_bytes arrival.now error self.old.connections
+            self.new.connections (S.received sink.old) (S.received sink.new))
+            (lent_at (passes_on self.old.kept)) (S.lent sink.old) (S.lent sink.new)) }
         ensures accounted { IsAccounted self.old.connections
             → IsAccounted self.new.connections }
         ensures memory { self.new.memory ≡ self.old.memory }
@@ -261,20 +276,22 @@ impl<K: PieceCollector> Log<K> {
     {
         add_connection(&mut self.arrivals.counts, &over);
         hand_over(over, time, sink)?;
-        self.spare();
+        let _ = self.spare();
         Ok(())
     }
 
     /// Ends the connections that timed out by this time.
     fn end_idle<S: Sink<K>>(&mut self, time: u64, sink: &mut S) -> Result<(), LogError<S::Error>>
         ensures ended { OnOk result
-            (PassesEnded false (IsIdle time) self.old.connections.live self.new.connections.live
-            (S.received sink.old) (S.received sink.new)) }
+            ((ended : PassesEnded false (IsIdle time) self.old.connections.live
+            self.new.connections.live (S.received sink.old) (S.received sink.new))
+            × AreCounted ended.outs self.old.arrivals.counts self.new.arrivals.counts) }
         ensures none { OnOk result (NoneIsOver time self.new.connections.live) }
         ensures stopped { OnErr result
             (PassesAllButLast false (IsIdle time) self.old.connections.live
             self.new.connections.live
             (S.received sink.old) (S.received sink.new)) }
+        ensures lent { Adds (S.lent sink.old) (S.lent sink.new) [] }
         ensures failed { IfErr result (λ error. IsOfSink error) }
         ensures forgotten { IsForgotten time self.old.connections.closed
             self.new.connections.closed }
@@ -311,7 +328,7 @@ impl<K: PieceCollector> Log<K> {
             → IsAccounted self.new.connections }
         ensures memory { self.new.memory ≡ self.old.memory }
         ensures kept { self.new.kept ≡ self.old.kept }
-        ensures reader { uncounted self.new.arrivals ≡ uncounted self.old.arrivals }
+        ensures arrivals { self.new.arrivals ≡ self.old.arrivals }
         ensures failed { IfErr result (λ error. IsOfSink error) }
         ensures sound { StaysSound (S.is_sound sink.old) (S.is_sound sink.new) result }
     {
@@ -327,13 +344,15 @@ impl<K: PieceCollector> Log<K> {
     /// Ends the longest-idle connections until the rest fit the memory limit.
     fn evict<S: Sink<K>>(&mut self, time: u64, sink: &mut S) -> Result<(), LogError<S::Error>>
         ensures ended { OnOk result
-            (PassesEnded true (IsOverLimit self.old.connections self.old.memory)
+            ((ended : PassesEnded true (IsOverLimit self.old.connections self.old.memory)
             self.old.connections.live self.new.connections.live
-            (S.received sink.old) (S.received sink.new)) }
+            (S.received sink.old) (S.received sink.new))
+            × AreCounted ended.outs self.old.arrivals.counts self.new.arrivals.counts) }
         ensures stopped { OnErr result
             (PassesAllButLast true (IsOverLimit self.old.connections self.old.memory)
             self.old.connections.live self.new.connections.live
             (S.received sink.old) (S.received sink.new)) }
+        ensures lent { Adds (S.lent sink.old) (S.lent sink.new) [] }
         ensures failed { IfErr result (λ error. IsOfSink error) }
         ensures closed { OnOk result (FitsClosed self.old.memory self.old.connections.closed
             self.new.connections.closed) }
@@ -361,9 +380,12 @@ impl<K: PieceCollector> Log<K> {
     ) -> Result<bool, LogError<S::Error>>
         ensures received { OnOk result (Adds (S.received sink.old) (S.received sink.new)
             (as_list (option_map (λ b. b.value) removed))) }
+        ensures counted { AreCounted (as_list (option_map (λ b. b.value) removed))
+            self.old.arrivals.counts self.new.arrivals.counts }
         ensures was { IfOk result (λ was_one. was_one ≡ is_some removed) }
         ensures stopped { OnErr result (is_some removed ≡ true
             × Adds (S.received sink.old) (S.received sink.new) []) }
+        ensures lent { Adds (S.lent sink.old) (S.lent sink.new) [] }
         ensures failed { IfErr result (λ error. IsOfSink error) }
         ensures same { self.new ≡ record self.old
             { arrivals = self.new.arrivals; spare = self.new.spare } }
@@ -388,13 +410,17 @@ impl<K: PieceCollector> Log<K> {
         sink: &mut S,
     ) -> Result<(), LogError<S::Error>>
         ensures ended { OnOk result
-            (EndsAfterRefusal (five_tuple_in arrival.now) (option_map (λ b. b.value) over)
-            self.old.connections.live self.new.connections.live (S.received sink.old)
-            (S.received sink.new)) }
+            ((ended : EndsAfterRefusal (five_tuple_in arrival.now)
+            (option_map (λ b. b.value) over) self.old.connections.live self.new.connections.live
+            (S.received sink.old) (S.received sink.new))
+            × AreCounted (as_list (option_map (λ b. b.value) over)
+            ++ (as_list ended.2.own ++ as_list ended.2.oldest))
+            self.old.arrivals.counts self.new.arrivals.counts) }
         ensures stopped { IfErr result
             (λ error. StopsAfterRefusal (five_tuple_in arrival.now)
             (option_map (λ b. b.value) over) self.old.connections self.new.connections
             (S.received sink.old) (S.received sink.new) error) }
+        ensures lent { Adds (S.lent sink.old) (S.lent sink.new) [] }
         ensures accounted { IsAccounted self.old.connections
             → IsAccounted self.new.connections }
         ensures memory { self.new.memory ≡ self.old.memory }
@@ -414,11 +440,14 @@ impl<K: PieceCollector> Log<K> {
         sink: &mut S,
     ) -> Result<(), LogError<S::Error>>
         ensures ended { OnOk result
-            (EndsRefused (five_tuple_in arrival.now) self.old.connections.live
-            self.new.connections.live (S.received sink.old) (S.received sink.new)) }
+            ((ended : EndsRefused (five_tuple_in arrival.now) self.old.connections.live
+            self.new.connections.live (S.received sink.old) (S.received sink.new))
+            × AreCounted (as_list ended.own ++ as_list ended.oldest)
+            self.old.arrivals.counts self.new.arrivals.counts) }
         ensures stopped { IfErr result
             (λ error. StopsRefused (five_tuple_in arrival.now) self.old.connections.live
             self.new.connections.live (S.received sink.old) (S.received sink.new) error) }
+        ensures lent { Adds (S.lent sink.old) (S.lent sink.new) [] }
         ensures accounted { IsAccounted self.old.connections
             → IsAccounted self.new.connections }
         ensures memory { self.new.memory ≡ self.old.memory }
@@ -441,13 +470,16 @@ impl<K: PieceCollector> Log<K> {
     /// at the end of the capture.
     pub fn finish<S: Sink<K>>(&mut self, sink: &mut S) -> Result<(), LogError<S::Error>>
         ensures ended { OnOk result
-            (PassesEnded false IsOpen self.old.connections.live self.new.connections.live
-            (S.received sink.old) (S.received sink.new)) }
+            ((ended : PassesEnded false IsOpen self.old.connections.live
+            self.new.connections.live (S.received sink.old) (S.received sink.new))
+            × AreCounted ended.outs (counting_cut self.old.arrivals).counts
+            self.new.arrivals.counts) }
         ensures none { OnOk result (self.new.connections.live ≡ []) }
         ensures cut { HasCut self.old.arrivals self.new.arrivals.counts }
         ensures stopped { OnErr result
             (PassesAllButLast false IsOpen self.old.connections.live self.new.connections.live
             (S.received sink.old) (S.received sink.new)) }
+        ensures lent { Adds (S.lent sink.old) (S.lent sink.new) [] }
         ensures failed { IfErr result (λ error. IsOfSink error) }
         ensures sound { StaysSound (S.is_sound sink.old) (S.is_sound sink.new) result }
         ensures accounted { IsAccounted self.old.connections

@@ -1,12 +1,10 @@
 //! How connections end: what still counts of those that are removed from the table.
-ghost use Rattle.std.specs.Prelude.{◌≡◌, ◌<◌, IfOk, IfSome, OnErr, OnOk, false, length};
+ghost use Rattle.std.specs.Prelude.{◌≡◌, ◌<◌, ◌≤◌, IfOk, IfSome, OnErr, OnOk, false, length, true, vec_capacity};
 ghost use Rattle.std.specs.Option.{option_map};
 ghost use Rattle.connections.specs.Connection.{side_of};
 ghost use Rattle.connections.specs.Memory.{IsAccounted};
 ghost use Rattle.connections.specs.Table.{IsForgotten, NoneToForget};
 ghost use Rattle.log_connections.specs.AtEnd.{AnalyzesAllAtEnd, AnalyzesOneAtEnd, RefusesKept, RefusesOneAtEnd, RefusesSomeAtEnd};
-ghost use Rattle.log_connections.specs.Found.{MayCountEarly};
-ghost use Rattle.log_connections.specs.Log.{uncounted};
 ghost use Rattle.log_connections.specs.Sides.{AnalyzesKept, AnalyzesSender, ChangesAnalysis, IsOnItsOwn};
 ghost use Rattle.log_connections.specs.Sink.{AnalyzesLast, AnalyzesRest, EndsAs, EndsIdle, EndsLast, IsCutOff, IsCutShort, IsEnded};
 
@@ -139,7 +137,7 @@ impl<K: PieceCollector> Log<K> {
             → IsAccounted self.new.connections }
         ensures memory { self.new.memory ≡ self.old.memory }
         ensures kept { self.new.kept ≡ self.old.kept }
-        ensures reader { uncounted self.new.arrivals ≡ uncounted self.old.arrivals }
+        ensures arrivals { self.new.arrivals ≡ self.old.arrivals }
     {
         if !self.connections.has_idle(time) {
             return None;
@@ -160,7 +158,7 @@ impl<K: PieceCollector> Log<K> {
             → IsAccounted self.new.connections }
         ensures memory { self.new.memory ≡ self.old.memory }
         ensures kept { self.new.kept ≡ self.old.kept }
-        ensures reader { uncounted self.new.arrivals ≡ uncounted self.old.arrivals }
+        ensures arrivals { self.new.arrivals ≡ self.old.arrivals }
     {
         let taken = self.connections.take_idle(time);
         self.with_last(taken)
@@ -170,7 +168,7 @@ impl<K: PieceCollector> Log<K> {
     pub(crate) fn take_remaining(&mut self) -> Option<Box<Connection<TlsAnalysis<K>>>>
         ensures last { EndsLast false self.old.connections.live self.new.connections.live
             (option_map (λ b. b.value) result) }
-        ensures counted { MayCountEarly self.old.arrivals.counts self.new.arrivals.counts }
+        ensures arrivals { self.new.arrivals ≡ self.old.arrivals }
         ensures fewer { IfSome result (λ _.
             length self.new.connections.live < length self.old.connections.live) }
         ensures accounted { IsAccounted self.old.connections
@@ -188,12 +186,14 @@ impl<K: PieceCollector> Log<K> {
     ) -> Option<Box<Connection<TlsAnalysis<K>>>>
         ensures ended { EndsAs false (option_map (λ b. b.value) taken)
             (option_map (λ b. b.value) result) }
-        ensures counted { MayCountEarly self.old.arrivals.counts self.new.arrivals.counts }
+        ensures freed { IfSome result (λ over. over.value.attachment.is_ended_early ≡ true
+            → vec_capacity self.new.spare ≡ 0) }
+        ensures spare { vec_capacity self.new.spare ≤ vec_capacity self.old.spare }
         ensures connections { self.new.connections ≡ self.old.connections }
         ensures unsettled { self.new.is_unsettled ≡ self.old.is_unsettled }
         ensures memory { self.new.memory ≡ self.old.memory }
         ensures kept { self.new.kept ≡ self.old.kept }
-        ensures reader { uncounted self.new.arrivals ≡ uncounted self.old.arrivals }
+        ensures arrivals { self.new.arrivals ≡ self.old.arrivals }
     {
         let mut over = taken?;
         self.analyze_removed(&mut over);
@@ -203,18 +203,20 @@ impl<K: PieceCollector> Log<K> {
     /// Analyzes the rest of a connection that was removed from the table.
     fn analyze_removed(&mut self, over: &mut Connection<TlsAnalysis<K>>)
         ensures ended { IsEnded false over.old over.new }
-        ensures counted { MayCountEarly self.old.arrivals.counts self.new.arrivals.counts }
+        ensures freed { over.new.attachment.is_ended_early ≡ true
+            → vec_capacity self.new.spare ≡ 0 }
+        ensures spare { vec_capacity self.new.spare ≤ vec_capacity self.old.spare }
         ensures connections { self.new.connections ≡ self.old.connections }
         ensures unsettled { self.new.is_unsettled ≡ self.old.is_unsettled }
         ensures memory { self.new.memory ≡ self.old.memory }
         ensures kept { self.new.kept ≡ self.old.kept }
-        ensures reader { uncounted self.new.arrivals ≡ uncounted self.old.arrivals }
+        ensures arrivals { self.new.arrivals ≡ self.old.arrivals }
     {
         match analyze_last(over, &mut self.known) {
             Ok(()) => over.attachment.is_ended_early = false,
             Err(_) => {
                 self.spare = Vec::new(self.alloc);
-                self.mark_early(over);
+                over.attachment.is_ended_early = true;
             }
         }
     }

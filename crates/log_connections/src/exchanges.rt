@@ -6,7 +6,7 @@ ghost use Rattle.connections.specs.Memory.{IsAccounted};
 ghost use Rattle.connections.specs.Segment.{is_refused};
 ghost use Rattle.connections.specs.Table.{at};
 ghost use Rattle.log_connections.specs.Analysis.{IsPrepared};
-ghost use Rattle.log_connections.specs.Log.{AcceptsDatagram, BeginsUnless, AnalyzesFrom, IsDelivered, IsPreparedAt, IsReady, IsWeighedUnless, KeepsOthers, LogsDatagram, LogsExchange, LogsInAnother, RefusesDatagram, RefusesInNext, WhereDatagram, WhereDelivered, is_damaged_in, uncounted};
+ghost use Rattle.log_connections.specs.Log.{AcceptsDatagram, BeginsUnless, AnalyzesFrom, IsDelivered, IsPreparedAt, IsReady, IsWeighedUnless, KeepsOthers, LogsDatagram, LogsExchange, LogsInAnother, RefusesDatagram, RefusesInNext, WhereDatagram, WhereDelivered, counting, damaged_if, is_damaged_in, with_datagram};
 ghost use Rattle.log_connections.specs.declared.exchanges.Delivery.TheVariants as delivered;
 
 use crate::analysis::{PieceCollector, PieceKind, TlsAnalysis};
@@ -72,7 +72,7 @@ impl<K: PieceCollector> Log<K> {
             → IsAccounted self.new.connections }
         ensures memory { self.new.memory ≡ self.old.memory }
         ensures kept { self.new.kept ≡ self.old.kept }
-        ensures reader { uncounted self.new.arrivals ≡ uncounted self.old.arrivals }
+        ensures arrivals { self.new.arrivals ≡ self.old.arrivals }
     {
         let five_tuple = datagram.between();
         let Some(exchange) = self.connections.get_mut(&five_tuple) else {
@@ -94,7 +94,7 @@ impl<K: PieceCollector> Log<K> {
             &self.arrivals.tunnels,
             &mut self.known,
         )?;
-        self.is_unsettled = !exchange.is_settled();
+        self.is_unsettled = exchange.changed_weight().is_some();
         self.connections.promote(&five_tuple);
         Ok(Delivery::Received)
     }
@@ -118,7 +118,9 @@ impl<K: PieceCollector> Log<K> {
             → IsAccounted self.new.connections }
         ensures memory { self.new.memory ≡ self.old.memory }
         ensures kept { self.new.kept ≡ self.old.kept }
-        ensures reader { uncounted self.new.arrivals ≡ uncounted self.old.arrivals }
+        ensures counted { self.new.arrivals ≡ counting (with_datagram
+            (is_damaged_in datagram.now self.old.connections) (is_refused datagram.now.checksum))
+            self.old.arrivals }
     {
         match self.analyze_exchange(datagram)? {
             Delivery::Received => Ok(None),
@@ -134,7 +136,8 @@ impl<K: PieceCollector> Log<K> {
         }
     }
 
-    /// Removes and returns the exchange of a datagram, and analyzes the datagram in another one.
+    /// Removes and returns the exchange of a datagram, which ends, and analyzes the datagram in
+    /// another one.
     fn replace_exchange(
         &mut self,
         datagram: &Datagram<'_>,
@@ -151,9 +154,10 @@ impl<K: PieceCollector> Log<K> {
             → IsAccounted self.new.connections }
         ensures memory { self.new.memory ≡ self.old.memory }
         ensures kept { self.new.kept ≡ self.old.kept }
-        ensures reader { uncounted self.new.arrivals ≡ uncounted self.old.arrivals }
+        ensures arrivals { self.new.arrivals ≡ self.old.arrivals }
     {
-        let over = self.connections.take_exchange(datagram)?;
+        let taken = self.connections.take_exchange(datagram)?;
+        let over = self.with_last(taken);
         match self.accept_datagram(datagram) {
             Ok(()) => Ok(over),
             Err(_) => Err(Refused { over }),
@@ -174,7 +178,8 @@ impl<K: PieceCollector> Log<K> {
             → IsAccounted self.new.connections }
         ensures memory { self.new.memory ≡ self.old.memory }
         ensures kept { self.new.kept ≡ self.old.kept }
-        ensures reader { uncounted self.new.arrivals ≡ uncounted self.old.arrivals }
+        ensures counted { self.new.arrivals
+            ≡ counting (damaged_if (is_refused datagram.now.checksum)) self.old.arrivals }
     {
         if datagram.checksum == Checksum::Refused {
             add_one(&mut self.arrivals.counts.damaged);
@@ -198,7 +203,7 @@ impl<K: PieceCollector> Log<K> {
             → IsAccounted self.new.connections }
         ensures memory { self.new.memory ≡ self.old.memory }
         ensures kept { self.new.kept ≡ self.old.kept }
-        ensures reader { uncounted self.new.arrivals ≡ uncounted self.old.arrivals }
+        ensures arrivals { self.new.arrivals ≡ self.old.arrivals }
     {
         self.connections.accept_datagram(datagram)?;
         match self.connections.get_mut(&datagram.between()) {
@@ -210,7 +215,7 @@ impl<K: PieceCollector> Log<K> {
                     &self.arrivals.tunnels,
                     &mut self.known,
                 )?;
-                self.is_unsettled = !exchange.is_settled();
+                self.is_unsettled = exchange.changed_weight().is_some();
                 Ok(())
             }
             None => Ok(()),

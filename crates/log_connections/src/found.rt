@@ -1,6 +1,6 @@
 //! Counts the connections that are over.
 ghost use Rattle.std.specs.Prelude.{◌≡◌};
-ghost use Rattle.log_connections.specs.Found.{HasGap, IsCounted, with_gap, with_outcome, with_protocol};
+ghost use Rattle.log_connections.specs.Found.{HasGap, IsCounted, with_early, with_gap, with_outcome, with_protocol};
 
 use crate::analysis::{PieceCollector, TlsAnalysis};
 use arrivals::{Counts, add_one};
@@ -50,6 +50,15 @@ fn add_gap(counts: &mut Counts, has_gap: bool)
     }
 }
 
+/// Counts a connection that ended early, for lack of memory.
+fn add_early(counts: &mut Counts, is_ended_early: bool)
+    ensures { counts.new ≡ with_early is_ended_early counts.old }
+{
+    if is_ended_early {
+        add_one(&mut counts.ended_early);
+    }
+}
+
 /// Counts a connection that is over, by its protocol and outcome.
 pub(crate) fn add_connection<K: PieceCollector>(
     counts: &mut Counts,
@@ -58,6 +67,7 @@ pub(crate) fn add_connection<K: PieceCollector>(
     ensures { IsCounted connection.now counts.old counts.new }
 {
     let analysis = &connection.attachment;
+    add_early(counts, analysis.is_ended_early);
     if !analysis.is_tls_or_dtls() {
         add_one(&mut counts.other_connections);
         return;

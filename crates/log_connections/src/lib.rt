@@ -9,8 +9,9 @@
 //!
 //! Promise: `Log` in `specs/` defines which connection an arrival changes and which bytes its
 //! analysis gets, `TlsAnalysis` what the analysis does with them, `Fronts` where TLS begins in a
-//! stream, `Tds` how it is taken out of packets, and `Sink` which connections are passed on.
-//! What a collector keeps of its pieces has no clauses, only tests.
+//! stream, `Tds` how it is taken out of packets, `Sink` which connections are passed on, and
+//! `Packet` which are lent and counted. What a collector keeps of its pieces has no clauses, only
+//! tests.
 #![tactic(auto)]
 
 mod analysis;

@@ -1,5 +1,5 @@
 //! What a capture's arrivals add to the log.
-ghost use Rattle.std.specs.Prelude.{◌≡◌, ◌-◌, ◌^◌, [], IfErr, IfNone, IfOk, IfSome, OnErr, OnOk, Some, None, false, is_some, true};
+ghost use Rattle.std.specs.Prelude.{◌≡◌, ◌≤◌, ◌-◌, ◌^◌, [], IfErr, IfNone, IfOk, IfSome, OnErr, OnOk, Some, None, false, is_some, true, vec_capacity};
 ghost use Rattle.std.specs.Option.{option_map};
 ghost use Rattle.arrivals.specs.Arrival.{five_tuple_in};
 ghost use Rattle.arrivals.specs.Reader.{IsNew};
@@ -8,8 +8,9 @@ ghost use Rattle.connections.specs.Memory.{IsAccounted};
 ghost use Rattle.connections.specs.Segment.{begins, five_tuple_of};
 ghost use Rattle.connections.specs.Table.{belongs, with_dropped_segment, with_waiting_segment};
 ghost use Rattle.log_connections.specs.Analysis.{AnalyzesNext, AnalyzesOn, IsPrepared};
-ghost use Rattle.log_connections.specs.Log.{Accepts, AcceptsBy, AcceptsJudged, AcceptsSegment, EndsAfter, EndsClosed, IsWeighedUnless, AnalyzesAllAcknowledged, AnalyzesOne, AnalyzesPending, AnalyzesSide, IsClosedAs, IsReceived, KeepsOthers, Logs, LogsOpen, Refuses, RefusesIf, RefusesInAnother, RefusesSegment, Settles, Takes, TakesAnew, TakesBehind, TakesIn, TakesInAnother, WhereBegun, WhereJudged, WhereReceived, WhereSegment, WhereWeighed, counting_dropped, counting_stray, is_closed_in, uncounted, verdict_in, AnalyzesSender, CountsBy, CountsJudged, IsPreparedIf, IsReady, is_received};
+ghost use Rattle.log_connections.specs.Log.{Accepts, AcceptsBy, AcceptsJudged, AcceptsSegment, EndsAfter, EndsClosed, IsWeighedUnless, AnalyzesAllAcknowledged, AnalyzesOne, AnalyzesPending, AnalyzesSide, IsClosedAs, IsReceived, KeepsOthers, Logs, LogsOpen, Refuses, RefusesIf, RefusesInAnother, RefusesSegment, Settles, Takes, TakesAnew, TakesBehind, TakesIn, TakesInAnother, WhereBegun, WhereJudged, WhereReceived, WhereSegment, WhereWeighed, counting, is_closed_in, verdict_in, with_arrival, with_dropped, with_judged, with_segment, with_verdict, AnalyzesSender, IsPreparedIf, IsReady, is_received};
 ghost use Rattle.log_connections.specs.Packet.{passes_on};
+ghost use Rattle.log_connections.specs.declared.memory.TheConstants.{SPARE};
 
 use crate::analysis::{PieceCollector, PieceKind, TlsAnalysis};
 use crate::following::follow_front;
@@ -174,6 +175,7 @@ impl<K: PieceCollector> Log<K> {
         ensures kept { IfOk result (λ log. log.kept ≡ kept) }
         ensures memory { IfOk result (λ log. log.memory ≡ 2 ^ 64 - 1) }
         ensures arrivals { IfOk result (λ log. IsNew log.arrivals) }
+        ensures reserve { IfOk result (λ log. SPARE ≤ vec_capacity log.spare) }
     {
         Ok(Log {
             alloc,
@@ -206,7 +208,8 @@ impl<K: PieceCollector> Log<K> {
             → IsAccounted self.new.connections }
         ensures memory { self.new.memory ≡ self.old.memory }
         ensures kept { self.new.kept ≡ self.old.kept }
-        ensures reader { uncounted self.new.arrivals ≡ uncounted self.old.arrivals }
+        ensures counted { self.new.arrivals
+            ≡ counting (with_arrival arrival.now self.old.connections) self.old.arrivals }
     {
         self.is_unsettled = false;
         let over = self.analyze_arrival(arrival)?;
@@ -222,7 +225,7 @@ impl<K: PieceCollector> Log<K> {
             → IsAccounted self.new.connections }
         ensures memory { self.new.memory ≡ self.old.memory }
         ensures kept { self.new.kept ≡ self.old.kept }
-        ensures reader { uncounted self.new.arrivals ≡ uncounted self.old.arrivals }
+        ensures arrivals { self.new.arrivals ≡ self.old.arrivals }
     {
         if !self.is_unsettled {
             return;
@@ -249,7 +252,8 @@ impl<K: PieceCollector> Log<K> {
             → IsAccounted self.new.connections }
         ensures memory { self.new.memory ≡ self.old.memory }
         ensures kept { self.new.kept ≡ self.old.kept }
-        ensures reader { uncounted self.new.arrivals ≡ uncounted self.old.arrivals }
+        ensures counted { self.new.arrivals
+            ≡ counting (with_arrival arrival.now self.old.connections) self.old.arrivals }
     {
         match arrival {
             Arrival::Segment(segment) => self.accept_segment(segment),
@@ -279,7 +283,7 @@ impl<K: PieceCollector> Log<K> {
             → IsAccounted self.new.connections }
         ensures memory { self.new.memory ≡ self.old.memory }
         ensures kept { self.new.kept ≡ self.old.kept }
-        ensures reader { uncounted self.new.arrivals ≡ uncounted self.old.arrivals }
+        ensures arrivals { self.new.arrivals ≡ self.old.arrivals }
     {
         // (mostly there is a connection already, which is looked up once)
         if let Some(connection) = self.connections.get_first_mut(&segment.between()) {
@@ -291,7 +295,7 @@ impl<K: PieceCollector> Log<K> {
                 &self.arrivals.tunnels,
                 &mut self.known,
             )?;
-            self.is_unsettled = !connection.is_settled();
+            self.is_unsettled = connection.changed_weight().is_some();
             return Ok(Some(connection.is_closed()));
         }
         self.analyze_first(segment)
@@ -308,6 +312,7 @@ impl<K: PieceCollector> Log<K> {
             self.old.connections self.new.connections) }
         ensures belongs { IfOk result
             (λ analyzed. is_some analyzed ≡ belongs segment.now self.old.connections) }
+        ensures refused { OnErr result (belongs segment.now self.old.connections ≡ true) }
         ensures closed { IfOk result (λ analyzed. IfSome analyzed
             (λ closed. closed ≡ is_closed_in segment.now self.new.connections)) }
         ensures others { KeepsOthers (five_tuple_of segment.now) self.old.connections.live
@@ -332,7 +337,7 @@ impl<K: PieceCollector> Log<K> {
                     &self.arrivals.tunnels,
                     &mut self.known,
                 )?;
-                self.is_unsettled = !connection.is_settled();
+                self.is_unsettled = connection.changed_weight().is_some();
                 Ok(Some(connection.is_closed()))
             }
             None => Ok(None),
@@ -358,7 +363,7 @@ impl<K: PieceCollector> Log<K> {
             → IsAccounted self.new.connections }
         ensures memory { self.new.memory ≡ self.old.memory }
         ensures kept { self.new.kept ≡ self.old.kept }
-        ensures reader { uncounted self.new.arrivals ≡ uncounted self.old.arrivals }
+        ensures arrivals { self.new.arrivals ≡ self.old.arrivals }
     {
         let Some(connection) = self.connections.get_first_mut(five_tuple) else {
             return Ok(());
@@ -383,7 +388,7 @@ impl<K: PieceCollector> Log<K> {
             → IsAccounted self.new.connections }
         ensures memory { self.new.memory ≡ self.old.memory }
         ensures kept { self.new.kept ≡ self.old.kept }
-        ensures reader { uncounted self.new.arrivals ≡ uncounted self.old.arrivals }
+        ensures arrivals { self.new.arrivals ≡ self.old.arrivals }
     {
         self.is_unsettled = true;
         'waiting: for count in 0..MAX_PENDING {
@@ -405,7 +410,7 @@ impl<K: PieceCollector> Log<K> {
             → IsAccounted self.new.connections }
         ensures memory { self.new.memory ≡ self.old.memory }
         ensures kept { self.new.kept ≡ self.old.kept }
-        ensures reader { uncounted self.new.arrivals ≡ uncounted self.old.arrivals }
+        ensures arrivals { self.new.arrivals ≡ self.old.arrivals }
     {
         match self.connections.take_pending(segment) {
             Some(PendingOutcome::Taken(kept)) => {
@@ -434,15 +439,14 @@ impl<K: PieceCollector> Log<K> {
             → IsAccounted self.new.connections }
         ensures memory { self.new.memory ≡ self.old.memory }
         ensures kept { self.new.kept ≡ self.old.kept }
-        ensures reader { uncounted self.new.arrivals ≡ uncounted self.old.arrivals }
+        ensures arrivals { self.new.arrivals ≡ self.old.arrivals }
     {
         let analysis = self.analyze_segment(segment)?;
         self.end_analyzed(segment, analysis)
     }
 
-    /// Removes and returns the connection of an analyzed segment if it is closed. A segment without
-    /// a connection is counted.
-    fn end_analyzed(
+    /// Removes and returns the connection of an analyzed segment if it is closed.
+    pub(crate) fn end_analyzed(
         &mut self,
         segment: &Segment<'_>,
         analysis: Option<bool>,
@@ -451,22 +455,17 @@ impl<K: PieceCollector> Log<K> {
             self.new.connections (option_map (λ b. b.value) over)) }
         ensures others { KeepsOthers (five_tuple_of segment.now) self.old.connections.live
             self.new.connections.live }
-        ensures stray { IfNone analysis
-            (self.new.arrivals ≡ counting_stray segment.now self.old.arrivals) }
         ensures unsettled { self.new.is_unsettled ≡ self.old.is_unsettled }
         ensures accounted { IsAccounted self.old.connections
             → IsAccounted self.new.connections }
         ensures memory { self.new.memory ≡ self.old.memory }
         ensures kept { self.new.kept ≡ self.old.kept }
-        ensures reader { uncounted self.new.arrivals ≡ uncounted self.old.arrivals }
+        ensures arrivals { self.new.arrivals ≡ self.old.arrivals }
     {
         match analysis {
             Some(true) => self.take_closed(segment),
             Some(false) => Ok(None),
-            None => {
-                self.count_stray(segment);
-                Ok(None)
-            }
+            None => Ok(None),
         }
     }
 
@@ -484,7 +483,7 @@ impl<K: PieceCollector> Log<K> {
             → IsAccounted self.new.connections }
         ensures memory { self.new.memory ≡ self.old.memory }
         ensures kept { self.new.kept ≡ self.old.kept }
-        ensures reader { uncounted self.new.arrivals ≡ uncounted self.old.arrivals }
+        ensures arrivals { self.new.arrivals ≡ self.old.arrivals }
     {
         let taken = self.connections.take_closed(segment)?;
         Ok(self.with_last(taken))
@@ -508,7 +507,7 @@ impl<K: PieceCollector> Log<K> {
             → IsAccounted self.new.connections }
         ensures memory { self.new.memory ≡ self.old.memory }
         ensures kept { self.new.kept ≡ self.old.kept }
-        ensures reader { uncounted self.new.arrivals ≡ uncounted self.old.arrivals }
+        ensures arrivals { self.new.arrivals ≡ self.old.arrivals }
     {
         let taken = self.connections.take_replaced(segment)?;
         let over = self.with_last(taken);
@@ -561,7 +560,7 @@ impl<K: PieceCollector> Log<K> {
             &mut self.known,
         )?;
         // (without data the memory doesn't grow)
-        self.is_unsettled = segment.has_data() && !connection.is_settled();
+        self.is_unsettled = segment.has_data() && connection.changed_weight().is_some();
         let is_closed = connection.is_closed();
         self.connections.promote(&five_tuple);
         Ok(Reception::Received(is_closed))
@@ -583,23 +582,20 @@ impl<K: PieceCollector> Log<K> {
             (IsWeighedUnless K.most_bytes self.new.is_unsettled
             (five_tuple_of segment.now) self.new.connections)
             (verdict_in segment.now self.old.connections) segment.now) }
-        ensures counted { IfSome (verdict_in segment.now self.old.connections) (λ v.
-            lets_in v ≡ false → CountsBy v self.old.arrivals self.new.arrivals) }
-        ensures stray { OnOk result (verdict_in segment.now self.old.connections ≡ None
-            → belongs segment.now self.old.connections ≡ false
-            → self.new.arrivals ≡ counting_stray segment.now self.old.arrivals) }
+        ensures counted { self.new.arrivals ≡ counting (with_segment
+            (verdict_in segment.now self.old.connections)
+            (belongs segment.now self.old.connections) segment.now) self.old.arrivals }
         ensures accounted { IsAccounted self.old.connections
             → IsAccounted self.new.connections }
         ensures memory { self.new.memory ≡ self.old.memory }
         ensures kept { self.new.kept ≡ self.old.kept }
-        ensures reader { uncounted self.new.arrivals ≡ uncounted self.old.arrivals }
     {
         match self.analyze_open(segment)? {
             Reception::Received(false) => Ok(None),
             Reception::Received(true) => Ok(self.take_closed(segment)?),
             Reception::NoneOpen => {
                 let analysis = self.analyze_first(segment)?;
-                Ok(self.end_analyzed(segment, analysis)?)
+                Ok(self.end_or_count(segment, analysis)?)
             }
             Reception::Judged(verdict) => self.accept_by(segment, verdict),
         }
@@ -622,12 +618,12 @@ impl<K: PieceCollector> Log<K> {
             (IsWeighedUnless K.most_bytes self.new.is_unsettled
             (five_tuple_of segment.now) self.new.connections)
             verdict.shows_damage verdict.begins_another verdict.judgement segment.now) }
-        ensures counted { CountsBy verdict self.old.arrivals self.new.arrivals }
+        ensures counted { self.new.arrivals
+            ≡ counting (with_verdict verdict) self.old.arrivals }
         ensures accounted { IsAccounted self.old.connections
             → IsAccounted self.new.connections }
         ensures memory { self.new.memory ≡ self.old.memory }
         ensures kept { self.new.kept ≡ self.old.kept }
-        ensures reader { uncounted self.new.arrivals ≡ uncounted self.old.arrivals }
     {
         if verdict.shows_damage {
             return Ok(self.take_anew(segment)?);
@@ -655,7 +651,7 @@ impl<K: PieceCollector> Log<K> {
             → IsAccounted self.new.connections }
         ensures memory { self.new.memory ≡ self.old.memory }
         ensures kept { self.new.kept ≡ self.old.kept }
-        ensures reader { uncounted self.new.arrivals ≡ uncounted self.old.arrivals }
+        ensures arrivals { self.new.arrivals ≡ self.old.arrivals }
     {
         self.connections.restart(segment);
         self.take_segment(segment)
@@ -677,12 +673,12 @@ impl<K: PieceCollector> Log<K> {
             (IsWeighedUnless K.most_bytes self.new.is_unsettled
             (five_tuple_of segment.now) self.new.connections)
             judgement segment.now) }
-        ensures counted { CountsJudged judgement self.old.arrivals self.new.arrivals }
+        ensures counted { self.new.arrivals
+            ≡ counting (with_judged judgement) self.old.arrivals }
         ensures accounted { IsAccounted self.old.connections
             → IsAccounted self.new.connections }
         ensures memory { self.new.memory ≡ self.old.memory }
         ensures kept { self.new.kept ≡ self.old.kept }
-        ensures reader { uncounted self.new.arrivals ≡ uncounted self.old.arrivals }
     {
         match judgement {
             Judgement::Dropped(reason) => {
@@ -705,12 +701,12 @@ impl<K: PieceCollector> Log<K> {
         ensures others { KeepsOthers (five_tuple_of segment.now) self.old.connections.live
             self.new.connections.live }
         ensures due { self.new.is_unsettled ≡ begins segment.now }
-        ensures damaged { self.new.arrivals ≡ counting_dropped reason self.old.arrivals }
+        ensures damaged { self.new.arrivals
+            ≡ counting (with_dropped reason) self.old.arrivals }
         ensures accounted { IsAccounted self.old.connections
             → IsAccounted self.new.connections }
         ensures memory { self.new.memory ≡ self.old.memory }
         ensures kept { self.new.kept ≡ self.old.kept }
-        ensures reader { uncounted self.new.arrivals ≡ uncounted self.old.arrivals }
     {
         self.count_dropped(reason);
         self.is_unsettled = segment.begins();
@@ -725,12 +721,12 @@ impl<K: PieceCollector> Log<K> {
         ensures others { KeepsOthers (five_tuple_of segment.now) self.old.connections.live
             self.new.connections.live }
         ensures due { self.new.is_unsettled ≡ true }
-        ensures damaged { self.new.arrivals ≡ counting_dropped reason self.old.arrivals }
+        ensures damaged { self.new.arrivals
+            ≡ counting (with_dropped reason) self.old.arrivals }
         ensures accounted { IsAccounted self.old.connections
             → IsAccounted self.new.connections }
         ensures memory { self.new.memory ≡ self.old.memory }
         ensures kept { self.new.kept ≡ self.old.kept }
-        ensures reader { uncounted self.new.arrivals ≡ uncounted self.old.arrivals }
     {
         self.count_dropped(reason);
         self.is_unsettled = true;
@@ -756,7 +752,7 @@ impl<K: PieceCollector> Log<K> {
             → IsAccounted self.new.connections }
         ensures memory { self.new.memory ≡ self.old.memory }
         ensures kept { self.new.kept ≡ self.old.kept }
-        ensures reader { uncounted self.new.arrivals ≡ uncounted self.old.arrivals }
+        ensures arrivals { self.new.arrivals ≡ self.old.arrivals }
     {
         if !acknowledges {
             return self.take_segment(segment);

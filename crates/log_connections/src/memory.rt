@@ -1,20 +1,28 @@
 //! Evicts connections when memory runs short.
-ghost use Rattle.std.specs.Prelude.{◌≡◌, ◌<◌, IfSome, length, true};
+ghost use Rattle.std.specs.Prelude.{◌≡◌, ◌<◌, ◌≤◌, IfSome, OnErr, OnOk, length, true, vec_capacity};
 ghost use Rattle.std.specs.Option.{option_map};
 ghost use Rattle.arrivals.specs.Arrival.{five_tuple_in};
 ghost use Rattle.connections.specs.Memory.{FitsClosed, IsAccounted};
 ghost use Rattle.connections.specs.Table.{at, others};
-ghost use Rattle.log_connections.specs.Log.{counting_early, uncounted};
 ghost use Rattle.log_connections.specs.Sink.{EndsAs, Evicts, EndsLast, marked};
+ghost use Rattle.log_connections.specs.declared.memory.TheConstants.{SPARE};
 
 use crate::analysis::{PieceCollector, TlsAnalysis};
 use crate::log::Log;
-use arrivals::{Arrival, add_one};
+use arrivals::Arrival;
 use connections::Connection;
+use std::alloc::AllocError;
 
 /// The memory reserved for ending connections when the system refuses more, in bytes: enough for a
 /// line and its parts.
 pub(crate) const SPARE: usize = 1_048_576;
+
+/// Marks a connection as ended early.
+fn mark_early<K>(over: &mut Connection<TlsAnalysis<K>>)
+    ensures { over.new ≡ marked true over.old }
+{
+    over.attachment.is_ended_early = true;
+}
 
 impl<K: PieceCollector> Log<K> {
     /// Sets the memory limit for connections in bytes. The default is none.
@@ -24,25 +32,7 @@ impl<K: PieceCollector> Log<K> {
         self.memory = memory;
     }
 
-    /// Marks a connection as ended early, and counts it, unless it was marked before.
-    pub(crate) fn mark_early(&mut self, over: &mut Connection<TlsAnalysis<K>>)
-        ensures marked { over.new ≡ marked true over.old }
-        ensures counted { self.new.arrivals
-            ≡ counting_early over.old.attachment.is_ended_early self.old.arrivals }
-        ensures connections { self.new.connections ≡ self.old.connections }
-        ensures unsettled { self.new.is_unsettled ≡ self.old.is_unsettled }
-        ensures memory { self.new.memory ≡ self.old.memory }
-        ensures kept { self.new.kept ≡ self.old.kept }
-        ensures reader { uncounted self.new.arrivals ≡ uncounted self.old.arrivals }
-    {
-        if over.attachment.is_ended_early {
-            return;
-        }
-        over.attachment.is_ended_early = true;
-        add_one(&mut self.arrivals.counts.ended_early);
-    }
-
-    /// Ends a removed connection early, and counts it.
+    /// Marks a removed connection as ended early, and analyzes the rest of it.
     fn end_early(
         &mut self,
         taken: Option<Box<Connection<TlsAnalysis<K>>>>,
@@ -50,12 +40,13 @@ impl<K: PieceCollector> Log<K> {
         ensures ended { EndsAs true (option_map (λ b. b.value) taken)
             (option_map (λ b. b.value) result) }
         ensures connections { self.new.connections ≡ self.old.connections }
+        ensures spare { vec_capacity self.new.spare ≤ vec_capacity self.old.spare }
         ensures memory { self.new.memory ≡ self.old.memory }
         ensures kept { self.new.kept ≡ self.old.kept }
-        ensures reader { uncounted self.new.arrivals ≡ uncounted self.old.arrivals }
+        ensures arrivals { self.new.arrivals ≡ self.old.arrivals }
     {
         let mut over = self.with_last(taken)?;
-        self.mark_early(&mut over);
+        mark_early(&mut over);
         Some(over)
     }
 
@@ -70,7 +61,7 @@ impl<K: PieceCollector> Log<K> {
         ensures accounted { IsAccounted self.old.connections → IsAccounted self.new.connections }
         ensures memory { self.new.memory ≡ self.old.memory }
         ensures kept { self.new.kept ≡ self.old.kept }
-        ensures reader { uncounted self.new.arrivals ≡ uncounted self.old.arrivals }
+        ensures arrivals { self.new.arrivals ≡ self.old.arrivals }
     {
         if !self.connections.is_over_limit(self.memory) {
             return None;
@@ -89,11 +80,12 @@ impl<K: PieceCollector> Log<K> {
             (option_map (λ b. b.value) result) }
         ensures others { self.new.connections.live ≡ others (five_tuple_in arrival.now)
             self.old.connections.live }
+        ensures freed { vec_capacity self.new.spare ≡ 0 }
         ensures accounted { IsAccounted self.old.connections
             → IsAccounted self.new.connections }
         ensures memory { self.new.memory ≡ self.old.memory }
         ensures kept { self.new.kept ≡ self.old.kept }
-        ensures reader { uncounted self.new.arrivals ≡ uncounted self.old.arrivals }
+        ensures arrivals { self.new.arrivals ≡ self.old.arrivals }
     {
         self.spare = Vec::new(self.alloc);
         let taken = self.connections.take(&arrival.between());
@@ -108,21 +100,22 @@ impl<K: PieceCollector> Log<K> {
             → IsAccounted self.new.connections }
         ensures memory { self.new.memory ≡ self.old.memory }
         ensures kept { self.new.kept ≡ self.old.kept }
-        ensures reader { uncounted self.new.arrivals ≡ uncounted self.old.arrivals }
+        ensures arrivals { self.new.arrivals ≡ self.old.arrivals }
     {
         let taken = self.connections.take_remaining();
         self.end_early(taken)
     }
 
-    /// Allocates the reserve again if it was freed, and there is enough memory.
-    pub(crate) fn spare(&mut self)
-        ensures { self.new ≡ record self.old { spare = self.new.spare } }
+    /// Allocates the reserve again if it was freed. If there isn't enough memory, nothing changes.
+    pub(crate) fn spare(&mut self) -> Result<(), AllocError>
+        ensures enough { OnOk result (SPARE ≤ vec_capacity self.new.spare) }
+        ensures lacks { OnErr result (vec_capacity self.old.spare < SPARE) }
+        ensures refused { OnErr result (self.new ≡ self.old) }
+        ensures same { self.new ≡ record self.old { spare = self.new.spare } }
     {
-        if self.spare.capacity() >= SPARE {
-            return;
+        if self.spare.capacity() < SPARE {
+            self.spare = Vec::with_capacity(self.alloc, SPARE)?;
         }
-        if let Ok(spare) = Vec::with_capacity(self.alloc, SPARE) {
-            self.spare = spare;
-        }
+        Ok(())
     }
 }

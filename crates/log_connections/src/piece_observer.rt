@@ -1,8 +1,10 @@
 //! The observer of a connection's events.
-use crate::analysis::PieceCollector;
-use std::alloc::AllocError;
+ghost use Rattle.std.specs.Prelude.{◌≡◌};
+
+use crate::analysis::{PieceCollector, PieceKind};
+use std::alloc::{AllocError, Global};
 use tls_flow::{Direction, HandshakeMessage};
-use tls_observer::Observer;
+use tls_observer::{NoObserver, Observer};
 use tls_stream::SideEvent;
 use tls_summary::CertificateCache;
 
@@ -36,5 +38,20 @@ impl<K: PieceCollector> Observer for PieceObserver<'_, K> {
 
     fn certificate_cache(&mut self) -> Option<&mut CertificateCache> {
         Some(&mut *self.known)
+    }
+}
+
+/// Keeps no pieces, for a log that needs none.
+impl PieceCollector for NoObserver {
+    ghost most_bytes = { λ _. 0 };
+
+    fn begin(alloc: Global, pieces: PieceKind) -> NoObserver {
+        NoObserver
+    }
+
+    fn capacity(&self) -> usize
+        ensures { result ≡ 0 }
+    {
+        0
     }
 }

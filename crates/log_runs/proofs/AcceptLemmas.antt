@@ -322,9 +322,10 @@ module _ {K : Type 0} (e : FiveTuple) where
     after_count : (old mid new : Table (TlsAnalysis K))
         (over : Option (Connection (TlsAnalysis K))) (c : Connection (TlsAnalysis K))
         → at (five_tuple_of_datagram d) old.live ≡ Some c → BeginsAfter d (Some c) old mid
-        → LogsDatagram IsReady d mid new → over ≡ Some c
+        → LogsDatagram IsReady d mid new → EndsAs false (Some c) over
         → Balances (five_tuple_of_datagram d) true old new over
-    after_count old mid new over c found begins logs out =
+    after_count old mid new None c found begins logs ends = absurd ends
+    after_count old mid new (Some c') c found begins logs ends =
         omega (
           arith,
           logged_count mid new (Some begins.0)
@@ -332,7 +333,6 @@ module _ {K : Type 0} (e : FiveTuple) where
               ∙ at_written (five_tuple_of_datagram d) old.live c begins.0 found) logs,
           ap (λ t. count_of e t.live) begins.2,
           count-written e (five_tuple_of_datagram d) old.live begins.0,
-          ap (λ o. count_of e (entry_of (five_tuple_of_datagram d) o)) out,
         )
 
     begins_unless : (refused : Bool) (old new : Table (TlsAnalysis K))
@@ -367,7 +367,8 @@ module _ {K : Type 0} (e : FiveTuple) where
     delivered_count delivery.BeginsAnother old new over is h =
         let its = is_open (at (five_tuple_of_datagram d) old.live) false is.0 in
         after_count old h.mid new over its.0 its.1
-        (subst (λ o. BeginsAfter d o old h.mid) its.1 h.begins) h.logs (h.was ∙ its.1)
+        (subst (λ o. BeginsAfter d o old h.mid) its.1 h.begins) h.logs
+        (subst (λ o. EndsAs false o over) its.1 h.ends)
     delivered_count delivery.NoneOpen old new over is h =
         begins_unless (is_refused d.checksum) old new over
         (is_missing (at (five_tuple_of_datagram d) old.live) is) h.0 h.1

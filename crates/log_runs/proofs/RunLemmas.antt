@@ -2,7 +2,7 @@
 use Rattle.std.proofs.Common.{◌≡◌, ℕ, ◌+◌, Bool, true, false, Option, Some, None, List, [], ◌∷◌, ◌++◌, map, take, drop, refl, sym, ap, ◌∙◌, subst, append_assoc, arith}
 use Rattle.std.proofs.lemmas.List.{append-nil, map-append, take-append-drop}
 use Rattle.std.specs.Map.{values_of}
-use Rattle.std.specs.Prelude.{IfErr, IsErrAnd, OnErr, Result, Ok, Err, is_some}
+use Rattle.std.specs.Prelude.{IfErr, IsErrAnd, OnErr, OnOk, Result, Ok, Err, is_some}
 use Rattle.arrivals.specs.Arrival.{five_tuple_in}
 use Rattle.arrivals.specs.declared.arrival.Arrival.{Arrival}
 use Rattle.arrivals.specs.declared.reader.ArrivalReader.{ArrivalReader}
@@ -295,6 +295,26 @@ module _ {K : Type 0} (M : K → ℕ) where
       at_packet (map view_packet front) (map view_packet rest) (view_packet p) read mid between
       (ap (map view_packet) is ∙ map-append view_packet front (p ∷ rest)) h
       (subst (λ n. StopsHandling M (view_packet p) n read error mid new between after) same stops)
+
+  -- All packets were handled, and then the capture ended.
+  pub runs_to : {A E : Type 0} (limit : ℕ) (reader read : ArrivalReader)
+      (old last new : Table (TlsAnalysis K))
+      (before between after : Option (List (Connection (TlsAnalysis K))))
+      (packets : List Packet) (r : Result A (LogError E))
+      (P : PassesEnded false IsOpen last.live new.live between after → Type 0)
+      → HandlesEach M limit reader old before packets read last between
+      → OnOk r ((ended : PassesEnded false IsOpen last.live new.live between after) × P ended)
+      → OnOk r (new.live ≡ []) → OnOk r (IsRun M limit packets reader old new before after)
+  runs_to limit reader read old last new before between after packets (Ok x) P h ended none_left =
+      record {
+        read = read;
+        last = last;
+        between = between;
+        handles = h;
+        ends = ended.0;
+        none_open = none_left;
+      }
+  runs_to limit reader read old last new before between after packets (Err e) P h ended none_left = tt
 
   pub stops_last : {A E : Type 0} (limit : ℕ) (reader read : ArrivalReader)
       (old last new : Table (TlsAnalysis K))

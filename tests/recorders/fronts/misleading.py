@@ -117,6 +117,14 @@ def tls_in_packets() -> list[tuple[str, bytes]]:
     return [("c", hello), *handshake, *others[3:]]
 
 
+def of_responder(size: int) -> list[tuple[str, bytes]]:
+    """Turns the sides of the stored TLS: the TCP responder is its client. The first segment of its
+    ClientHello has this many bytes."""
+    (_, first), *others = stored_talk()
+    turned = [("s" if side == "c" else "c", part) for side, part in others]
+    return [("s", first[:size]), ("s", first[size:]), *turned]
+
+
 def client_hello() -> bytes:
     return stored_talk()[0][1]
 
@@ -130,6 +138,11 @@ def talks() -> dict[str, Talk]:
     connect = [
         ("c", b"CONNECT example.test:443 HTTP/1.1\r\nHost: example.test:443\r\n\r\n"),
         ("s", b"HTTP/1.1 200 Connection established\r\n\r\n"),
+    ]
+    # A device that calls home over a proxy: it is the TLS server (RFC 8071, sections 3.1 and 4.1).
+    home = [
+        ("c", b"CONNECT home.example.test:4335 HTTP/1.1\r\nHost: home.example.test:4335\r\n\r\n"),
+        connect[1],
     ]
     challenge = b"HTTP/1.1 407 Proxy Authentication Required\r\nContent-Length: " + str(
         len(FAKE)
@@ -195,6 +208,8 @@ def talks() -> dict[str, Talk]:
         "alert_behind_starttls": Talk(25, smtp, "smtp", [tls[0], ("s", ALERT)]),
         "alert_behind_connect": Talk(8080, connect, "http_connect", [tls[0], ("s", ALERT)]),
         "hello_alone_behind_starttls": Talk(25, smtp, "smtp", [tls[0]]),
+        "hello_of_responder_behind_connect": Talk(8080, home, "http_connect", of_responder(3)),
+        "hello_of_responder_behind_starttls": Talk(25, smtp, "smtp", of_responder(3)),
         "small_records_behind_starttls": Talk(25, smtp, "smtp", hello_in_small_records()),
         "upload_is_echoed": Talk(
             80,

@@ -2,7 +2,7 @@ use Rattle.std.proofs.Common.{refl, ◌∙◌, map}
 use Rattle.std.specs.Prelude.{IfErr}
 use Rattle.packets.specs.Section.{view_packet}
 use Rattle.std.proofs.lemmas.List.{take_all, take_more}
-use Rattle.log_runs.proofs.RunLemmas.{around, each_next, error_kept, sound_kept, stops_at, stops_last}
+use Rattle.log_runs.proofs.RunLemmas.{around, each_next, error_kept, runs_to, sound_kept, stops_at, stops_last}
 use Rattle.log_runs.specs.Runs.{StopsRun, none_yet}
 use Rattle.log_runs.proofs.runs.run.Goals as goal
 
@@ -13,7 +13,7 @@ pub loop-packet-preserved : goal.loop-packet-preserved
 loop-packet-preserved g c = record {
   handles =
       each_next g.K.PieceCollector.most_bytes _ _ _ _ _ _ _ _ _ _ _ _ _ _
-      c.loop-packet.invariant.handles c.in_ok-packet.ensures.handled
+      c.loop-packet.invariant.handles c.in_ok-packet.ensures.handled.0
       c.loop-packet.invariant.memory
       (take_more c.args.packets.now c.loop-packet.packet-index _ c.loop-packet-test.true);
   memory = c.in_ok-packet.ensures.memory ∙ c.loop-packet.invariant.memory;
@@ -31,7 +31,7 @@ returns-in_err-packet-clause-stopped g c =
     c.loop-packet.invariant.handles
     (around c.args.packets.now c.loop-packet.packet-index _
     (take_more c.args.packets.now c.loop-packet.packet-index _ c.loop-packet-test.true))
-    c.loop-packet.invariant.memory c.in_err-packet.ensures.stopped)
+    c.loop-packet.invariant.memory c.in_err-packet.ensures.stopped.0)
 
 pub returns-in_err-packet-clause-sound : goal.returns-in_err-packet-clause-sound
 returns-in_err-packet-clause-sound g c =
@@ -44,3 +44,9 @@ returns-clause-stopped g c =
     stops_last g.K.PieceCollector.most_bytes _ _ _ _ _ _ _ _ _ _ c.finish.result
     (rw (take_all c.loop-packet.packet-index c.args.packets.now c.loop-packet-test.false) at
     c.loop-packet.invariant.handles) c.finish.ensures.stopped c.finish.ensures.failed
+
+pub returns-clause-run : goal.returns-clause-run
+returns-clause-run g c =
+    runs_to g.K.PieceCollector.most_bytes _ _ _ _ _ _ _ _ _ _ c.finish.result _
+    (rw (take_all c.loop-packet.packet-index c.args.packets.now c.loop-packet-test.false) at
+    c.loop-packet.invariant.handles) c.finish.ensures.ended c.finish.ensures.none

@@ -1,6 +1,6 @@
 use Rattle.connections.specs.FiveTuple.{is_five_tuple}
 use Rattle.std.specs.Map.{set_value}
-use Rattle.log_connections.proofs.WeightLemmas.{weighed_first, weighed_unless}
+use Rattle.log_connections.proofs.WeightLemmas.{weighed_first}
 use Rattle.connections.proofs.MemoryLemmas.{accounted_with}
 use Rattle.connections.specs.Datagram.{five_tuple_of_datagram}
 use Rattle.connections.specs.Table.{with_other, TakesDatagram, others}
@@ -88,10 +88,10 @@ returns-in_ok-analyze_from-in-Some-clause-weighed g c =
     let its = c.analyze_from.new.exchange in
     let new = record mid { live = set_value (is_five_tuple e) mid.live its } in
     rw c.between.ensures
-    (weighed_unless g.K.PieceCollector.most_bytes e new c.is_settled.result
-    (weighed_first g.K.PieceCollector.most_bytes e new its (others e old.live) c.is_settled.result
+    (weighed_first g.K.PieceCollector.most_bytes e new its (others e old.live)
+    c.changed_weight.result c.is_some-self.result
     (written_first e (TakesDatagram d) old.live mid.live c.in_ok-accept_datagram.ensures.put its)
-    c.is_settled.ensures.within c.is_settled.ensures.enough))
+    c.changed_weight.ensures c.is_some-self.ensures)
 
 pub returns-in-None-clause-weighed : goal.returns-in-None-clause-weighed
 returns-in-None-clause-weighed g c =

@@ -1,7 +1,7 @@
 use Rattle.connections.specs.Table.{at}
 use Rattle.connections.specs.Connection.{is_datagram_damaged}
-use Rattle.log_connections.proofs.WeightLemmas.{damaged_weighs, datagram_weighs, none_open, ok_more}
-use Rattle.std.proofs.Common.{refl, subst, ap, sym, ◌∙◌}
+use Rattle.log_connections.proofs.WeightLemmas.{alone_counts, damaged_weighs, datagram_counts, datagram_weighs, none_open, ok_more}
+use Rattle.std.proofs.Common.{refl, subst, ap, sym, ◌∙◌, true, false, rules}
 use Rattle.std.proofs.lemmas.Result.{IfErr-weaker, IfOk-weaker}
 use Rattle.std.specs.Option.{option_map}
 use Rattle.connections.specs.Datagram.{five_tuple_of_datagram}
@@ -135,3 +135,49 @@ returns-in_ok-begin_exchange-in-NoneOpen-clause-accounted g c =
 pub returns-in-BeginsAnother-clause-accounted : goal.returns-in-BeginsAnother-clause-accounted
 returns-in-BeginsAnother-clause-accounted g c =
     λ h. c.replace_exchange.ensures.accounted (c.analyze_exchange.ensures.accounted h)
+
+pub returns-in_err-analyze_exchange-clause-counted : goal.returns-in_err-analyze_exchange-clause-counted
+returns-in_err-analyze_exchange-clause-counted g c =
+    datagram_counts (is_damaged_in c.args.datagram.now c.args.self.now.connections) false
+    (is_refused c.args.datagram.now.checksum) c.args.self.now.arrivals c.analyze_exchange.new.self.arrivals
+    c.analyze_exchange.new.self.arrivals c.in_err-analyze_exchange.ensures.refused.0
+    c.analyze_exchange.ensures.arrivals refl
+
+pub returns-in-Received-clause-counted : goal.returns-in-Received-clause-counted
+returns-in-Received-clause-counted g c =
+    datagram_counts (is_damaged_in c.args.datagram.now c.args.self.now.connections) false
+    (is_refused c.args.datagram.now.checksum) c.args.self.now.arrivals c.analyze_exchange.new.self.arrivals
+    c.analyze_exchange.new.self.arrivals
+    (rw c.in-Received.is at c.in_ok-analyze_exchange.ensures.delivered).0
+    c.analyze_exchange.ensures.arrivals refl
+
+pub returns-in-Damaged-clause-counted : goal.returns-in-Damaged-clause-counted
+returns-in-Damaged-clause-counted g c =
+    datagram_counts (is_damaged_in c.args.datagram.now c.args.self.now.connections) true
+    (is_refused c.args.datagram.now.checksum) c.args.self.now.arrivals c.analyze_exchange.new.self.arrivals
+    _ (rw c.in-Damaged.is at c.in_ok-analyze_exchange.ensures.delivered)
+    c.analyze_exchange.ensures.arrivals (search (rules))
+
+pub returns-in_err-begin_exchange-in-NoneOpen-clause-counted : goal.returns-in_err-begin_exchange-in-NoneOpen-clause-counted
+returns-in_err-begin_exchange-in-NoneOpen-clause-counted g c =
+    alone_counts (is_damaged_in c.args.datagram.now c.args.self.now.connections)
+    (is_refused c.args.datagram.now.checksum) c.args.self.now.arrivals c.analyze_exchange.new.self.arrivals
+    c.begin_exchange.new.self.arrivals
+    (rw c.in-NoneOpen.is at c.in_ok-analyze_exchange.ensures.delivered)
+    c.analyze_exchange.ensures.arrivals c.begin_exchange.ensures.counted
+
+pub returns-in_ok-begin_exchange-in-NoneOpen-clause-counted : goal.returns-in_ok-begin_exchange-in-NoneOpen-clause-counted
+returns-in_ok-begin_exchange-in-NoneOpen-clause-counted g c =
+    alone_counts (is_damaged_in c.args.datagram.now c.args.self.now.connections)
+    (is_refused c.args.datagram.now.checksum) c.args.self.now.arrivals c.analyze_exchange.new.self.arrivals
+    c.begin_exchange.new.self.arrivals
+    (rw c.in-NoneOpen.is at c.in_ok-analyze_exchange.ensures.delivered)
+    c.analyze_exchange.ensures.arrivals c.begin_exchange.ensures.counted
+
+pub returns-in-BeginsAnother-clause-counted : goal.returns-in-BeginsAnother-clause-counted
+returns-in-BeginsAnother-clause-counted g c =
+    datagram_counts (is_damaged_in c.args.datagram.now c.args.self.now.connections) false
+    (is_refused c.args.datagram.now.checksum) c.args.self.now.arrivals c.analyze_exchange.new.self.arrivals
+    c.replace_exchange.new.self.arrivals
+    (rw c.in-BeginsAnother.is at c.in_ok-analyze_exchange.ensures.delivered).0
+    c.analyze_exchange.ensures.arrivals c.replace_exchange.ensures.arrivals

@@ -13,7 +13,7 @@ waiting-init g c = record {
   accounted = λ h. h;
   memory = refl;
   kept = refl;
-  reader = refl;
+  arrivals = refl;
 }
 
 pub waiting-preserved : goal.waiting-preserved
@@ -33,7 +33,7 @@ waiting-preserved g c =
       accounted = λ h. c.analyze_one_acknowledged.ensures.accounted (c.waiting.invariant.accounted h);
       memory = c.analyze_one_acknowledged.ensures.memory ∙ c.waiting.invariant.memory;
       kept = c.analyze_one_acknowledged.ensures.kept ∙ c.waiting.invariant.kept;
-      reader = c.analyze_one_acknowledged.ensures.reader ∙ c.waiting.invariant.reader;
+      arrivals = c.analyze_one_acknowledged.ensures.arrivals ∙ c.waiting.invariant.arrivals;
     }
 
 pub returns-in_err-analyze_one_acknowledged-clause-others : goal.returns-in_err-analyze_one_acknowledged-clause-others

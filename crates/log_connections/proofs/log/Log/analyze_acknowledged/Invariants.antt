@@ -2,7 +2,7 @@ use Rattle.std.specs.Prelude.{◌≡◌, ◌-◌}
 use Rattle.connections.specs.Memory.{IsAccounted}
 use Rattle.connections.specs.Segment.{five_tuple_of}
 use Rattle.connections.specs.declared.pending.TheConstants.{MAX_PENDING}
-use Rattle.log_connections.specs.Log.{AnalyzesAcknowledged, AnalyzesAllAcknowledged, KeepsOthers, uncounted}
+use Rattle.log_connections.specs.Log.{AnalyzesAcknowledged, AnalyzesAllAcknowledged, KeepsOthers}
 use Rattle.log_connections.proofs.log.Log.analyze_acknowledged.Given as goal
 
 -- What is analyzed from here on, behind what was analyzed so far, is all.
@@ -15,5 +15,5 @@ invariant-waiting g l = record {
   accounted : IsAccounted l.initial.self.connections → IsAccounted l.self.connections;
   memory : l.self.memory ≡ l.initial.self.memory;
   kept : l.self.kept ≡ l.initial.self.kept;
-  reader : uncounted l.self.arrivals ≡ uncounted l.initial.self.arrivals;
+  arrivals : l.self.arrivals ≡ l.initial.self.arrivals;
 }

@@ -1,5 +1,5 @@
 use Rattle.connections.specs.Table.{others, promoting, with_other}
-use Rattle.log_connections.proofs.WeightLemmas.{dropped_weight, weighed_first, weighed_unless}
+use Rattle.log_connections.proofs.WeightLemmas.{dropped_weight, weighed_first}
 use Rattle.connections.proofs.MemoryLemmas.{accounted_with}
 use Rattle.std.proofs.Common.{refl, sym, ◌∙◌, ap}
 use Rattle.connections.specs.Datagram.{five_tuple_of_datagram}
@@ -136,8 +136,8 @@ returns-clause-weighed g c =
     let old = c.args.self.now.connections in let its = c.analyze_from.new.exchange in
     let new = promoting e (with_other e its old) in
     rw (c.promote.ensures.promoted, c.between-five_tuple.ensures)
-    (weighed_unless g.K.PieceCollector.most_bytes e new c.is_settled.result
-    (weighed_first g.K.PieceCollector.most_bytes e new its (others e old.live) c.is_settled.result
+    (weighed_first g.K.PieceCollector.most_bytes e new its (others e old.live)
+    c.changed_weight.result c.is_some-self.result
     (written_promoted e old.live c.in-Some.exchange.now its
     (sym (rw c.between-five_tuple.ensures at c.in-Some.ensures.value)))
-    c.is_settled.ensures.within c.is_settled.ensures.enough))
+    c.changed_weight.ensures c.is_some-self.ensures)

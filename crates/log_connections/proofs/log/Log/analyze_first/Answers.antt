@@ -1,6 +1,6 @@
 use Rattle.connections.specs.FiveTuple.{is_five_tuple}
 use Rattle.std.specs.Map.{set_value}
-use Rattle.log_connections.proofs.WeightLemmas.{none_belongs, none_weighed, weighed_first, weighed_unless}
+use Rattle.log_connections.proofs.WeightLemmas.{none_belongs, none_weighed, weighed_first}
 use Rattle.connections.proofs.MemoryLemmas.{accounted_with}
 use Rattle.std.proofs.Common.{◌∙◌}
 use Rattle.connections.specs.Segment.{five_tuple_of}
@@ -116,12 +116,12 @@ returns-in_ok-analyze-in-Some-clause-weighed g c =
     let e = five_tuple_of s in let mid = c.accept.new.self in let its = c.analyze.new.connection in
     let new = record mid { live = set_value (is_five_tuple e) mid.live its } in
     rw c.between.ensures
-    (weighed_unless g.K.PieceCollector.most_bytes e new c.is_settled.result
-    (weighed_first g.K.PieceCollector.most_bytes e new its (others e old.live) c.is_settled.result
+    (weighed_first g.K.PieceCollector.most_bytes e new its (others e old.live)
+    c.changed_weight.result c.is_some-self.result
     (written_first e (TakesSegment s) old.live mid.live
     (put_where_true c.in_ok-accept.field-0 s old mid c.if-not-branch.false
     c.in_ok-accept.ensures.put) its)
-    c.is_settled.ensures.within c.is_settled.ensures.enough))
+    c.changed_weight.ensures c.is_some-self.ensures)
 
 pub returns-in-None-clause-weighed : goal.returns-in-None-clause-weighed
 returns-in-None-clause-weighed g c =

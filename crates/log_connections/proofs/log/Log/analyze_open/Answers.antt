@@ -1,4 +1,4 @@
-use Rattle.log_connections.proofs.WeightLemmas.{weighed_first, weighed_unless}
+use Rattle.log_connections.proofs.WeightLemmas.{weighed_first}
 use Rattle.connections.proofs.MemoryLemmas.{accounted_with}
 use Rattle.std.proofs.Common.{◌≡◌, sym, true, false, ◌∙◌}
 use Rattle.connections.proofs.TableLemmas.{written_promoted}
@@ -125,12 +125,11 @@ returns-clause-weighed g c = λ has due.
     elim c.if-has_data.branch [
       | then-has_data w ↦
           rw (c.promote.ensures.promoted, c.between-five_tuple.ensures)
-          (weighed_unless g.K.PieceCollector.most_bytes e new w.is_settled.result
           (weighed_first g.K.PieceCollector.most_bytes e new its (others e old.live)
-          w.is_settled.result
+          w.changed_weight.result w.is_some-self.result
           (written_promoted e old.live c.in-Some.connection.now its
           (sym (rw c.between-five_tuple.ensures at c.in-Some.ensures.value)))
-          w.is_settled.ensures.within w.is_settled.ensures.enough) (sym w.self-is ∙ due))
+          w.changed_weight.ensures w.is_some-self.ensures (sym w.self-is ∙ due))
       | else-has_data w ↦
           let wrong : true ≡ false = sym has ∙ sym c.has_data.ensures ∙ w.if-has_data.false in cc
     ]

@@ -1,4 +1,4 @@
-use Rattle.log_connections.proofs.WeightLemmas.{weighed_first, weighed_unless}
+use Rattle.log_connections.proofs.WeightLemmas.{weighed_first}
 use Rattle.connections.proofs.MemoryLemmas.{accounted_written}
 use Rattle.std.proofs.Common.{refl, sym, ◌∙◌}
 use Rattle.connections.proofs.TableLemmas.{stands_first}
@@ -89,7 +89,7 @@ returns-in-Some-clause-weighed g c =
     let s = c.args.segment.now in let old = c.args.self.now.connections in
     let its = c.analyze.new.connection in let e = five_tuple_of s in
     rw c.between.ensures
-    (weighed_unless g.K.PieceCollector.most_bytes e (with_first e its old) c.is_settled.result
-    (weighed_first g.K.PieceCollector.most_bytes e (with_first e its old) its (others e old.live) c.is_settled.result
+    (weighed_first g.K.PieceCollector.most_bytes e (with_first e its old) its (others e old.live)
+    c.changed_weight.result c.is_some-self.result
     (stands_first e old c.in-Some.connection.now its (rw c.between.ensures at c.in-Some.ensures.value))
-    c.is_settled.ensures.within c.is_settled.ensures.enough))
+    c.changed_weight.ensures c.is_some-self.ensures)

@@ -4,4 +4,4 @@ pub returns-in_err-hand_over-clause-counted : goal.returns-in_err-hand_over-clau
 returns-in_err-hand_over-clause-counted g c = rw c.deref.ensures at c.add_connection.ensures
 
 pub returns-clause-counted : goal.returns-clause-counted
-returns-clause-counted g c = rw c.spare.ensures (rw c.deref.ensures at c.add_connection.ensures)
+returns-clause-counted g c = rw c.spare.ensures.same (rw c.deref.ensures at c.add_connection.ensures)

@@ -1,3 +1,5 @@
+use Rattle.std.proofs.Common.{[]}
+use Rattle.log_connections.proofs.SinkLemmas.{adds_still}
 use Rattle.arrivals.specs.Arrival.{five_tuple_in}
 use Rattle.log_connections.proofs.PacketLemmas.{given, not_neither, refused_ends, stops_oldest, stops_own}
 use Rattle.log_connections.proofs.log.Log.end_refused.Goals as goal
@@ -36,11 +38,15 @@ returns-clause-ended g c =
     c.take_refused-own.result c.take_oldest-oldest.result c.in_ok-has_own.has_own
     c.in_ok-has_oldest.has_oldest (g.S.Sink.received c.args.sink.now)
     (g.S.Sink.received c.end_removed.new.sink) (g.S.Sink.received c.end_removed-2.new.sink)
+    c.args.self.now.arrivals.counts c.end_removed.new.self.arrivals.counts
+    c.end_removed-2.new.self.arrivals.counts
     c.take_refused-own.ensures.own c.take_refused-own.ensures.others
     (rw c.in_ok-has_own.ensures.same at c.take_oldest-oldest.ensures.oldest)
     c.in_ok-has_own.ensures.was c.in_ok-has_oldest.ensures.was
     (not_neither c.in_ok-has_own.has_own c.in_ok-has_oldest.has_oldest c.else-not-has_own.either)
-    c.in_ok-has_own.ensures.received c.in_ok-has_oldest.ensures.received)
+    c.in_ok-has_own.ensures.received c.in_ok-has_oldest.ensures.received
+    (rw c.take_refused-own.ensures.arrivals at c.end_removed.ensures.counted)
+    (rw c.take_oldest-oldest.ensures.arrivals at c.end_removed-2.ensures.counted))
 
 pub returns-in_err-has_own-clause-accounted : goal.returns-in_err-has_own-clause-accounted
 returns-in_err-has_own-clause-accounted g c =
@@ -57,3 +63,15 @@ returns-clause-accounted g c =
     rw c.in_ok-has_oldest.ensures.same
     (λ h. (rw c.in_ok-has_own.ensures.same at c.take_oldest-oldest.ensures.accounted)
     (c.take_refused-own.ensures.accounted h))
+
+pub returns-in_err-has_oldest-clause-lent : goal.returns-in_err-has_oldest-clause-lent
+returns-in_err-has_oldest-clause-lent g c =
+    adds_still (g.S.Sink.lent c.args.sink.now) (g.S.Sink.lent c.end_removed.new.sink)
+    (g.S.Sink.lent c.end_removed-2.new.sink) [] c.end_removed.ensures.lent
+    c.end_removed-2.ensures.lent
+
+pub returns-clause-lent : goal.returns-clause-lent
+returns-clause-lent g c =
+    adds_still (g.S.Sink.lent c.args.sink.now) (g.S.Sink.lent c.end_removed.new.sink)
+    (g.S.Sink.lent c.end_removed-2.new.sink) [] c.end_removed.ensures.lent
+    c.end_removed-2.ensures.lent

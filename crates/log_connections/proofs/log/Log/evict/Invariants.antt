@@ -1,14 +1,18 @@
-use Rattle.std.specs.Prelude.{◌≡◌, true, length, take}
+use Rattle.std.specs.Prelude.{◌≡◌, true, length, take, []}
 use Rattle.connections.specs.Memory.{IsAccounted, closed_count}
 use Rattle.log_connections.specs.Log.{uncounted}
-use Rattle.log_connections.specs.Sink.{IsOverLimit, PassesEnded}
+use Rattle.log_connections.specs.Found.{AreCounted}
+use Rattle.log_connections.specs.Sink.{Adds, IsOverLimit, PassesEnded}
 use Rattle.log_connections.proofs.log.Log.evict.Given as goal
 
 -- The sink received those that ended so far, and is sound.
 abbrev pub invariant-loop-over : goal.invariant-loop-over
 invariant-loop-over g l = record {
-  ended : PassesEnded true (IsOverLimit l.initial.self.connections l.initial.self.memory) l.initial.self.connections.live l.self.connections.live
-      (g.S.Sink.received l.initial.sink) (g.S.Sink.received l.sink);
+  ended : (ended : PassesEnded true (IsOverLimit l.initial.self.connections l.initial.self.memory)
+      l.initial.self.connections.live l.self.connections.live (g.S.Sink.received l.initial.sink)
+      (g.S.Sink.received l.sink))
+      × AreCounted ended.outs l.initial.self.arrivals.counts l.self.arrivals.counts;
+  lent : Adds (g.S.Sink.lent l.initial.sink) (g.S.Sink.lent l.sink) [];
   accounted : IsAccounted l.initial.self.connections → IsAccounted l.self.connections;
   front : take (closed_count l.initial.self.memory) l.self.connections.closed
       ≡ take (closed_count l.initial.self.memory) l.initial.self.connections.closed;

@@ -19,5 +19,6 @@ invariant-inside g l = record {
   memory : l.self.memory ≡ l.initial.self.memory;
   kept : l.self.kept ≡ l.initial.self.kept;
   received : g.S.Sink.received l.sink ≡ g.S.Sink.received l.initial.sink;
+  lent : g.S.Sink.lent l.sink ≡ g.S.Sink.lent l.initial.sink;
   sound : g.S.Sink.is_sound l.initial.sink ≡ true → g.S.Sink.is_sound l.sink ≡ true;
 }
