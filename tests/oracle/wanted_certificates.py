@@ -3,6 +3,7 @@
 from __future__ import annotations
 
 import calendar
+import datetime
 import functools
 import hashlib
 import ipaddress
@@ -15,7 +16,7 @@ from tests.support.shapes import Line
 # Fields that are also logged if they are false or an empty name.
 ALWAYS = [
     "is_ca", "self_issued", "sni_matches_cert", "subject", "issuer", "client_subject",
-    "client_issuer", "validity_days",
+    "client_issuer", "validity_days", "cert_chain_order", "client_cert_chain_order",
 ]
 # Below these an RSA or DSA key, and one of a curve, has less than 112 bits of security (NIST SP
 # 800-57, part 1, table 2).
@@ -66,6 +67,21 @@ def is_weak(kind: str, bits: int | None) -> bool:
     return bits is not None and bits < limits.get(kind, 0)
 
 
+def milliseconds(text: str) -> int:
+    """A timestamp's time, as `Jun 11 13:05:34.268 2022 GMT`, in milliseconds since 1970."""
+    moment = datetime.datetime.strptime(text, "%b %d %H:%M:%S.%f %Y GMT")
+    since = moment - datetime.datetime(1970, 1, 1)
+    return since // datetime.timedelta(milliseconds=1)
+
+
+def timestamps(text: str) -> tuple[int, list[str], list[int]]:
+    """How many signed certificate timestamps a certificate has; their logs; their times."""
+    logs = re.findall(r"Log ID    : ([0-9A-F:\s]+)\n", text)
+    times = re.findall(r"Timestamp : (.*)$", text, re.MULTILINE)
+    ids = [re.sub(r"[:\s]", "", log).lower() for log in logs]
+    return len(ids), ids, [milliseconds(time) for time in times]
+
+
 @functools.lru_cache(maxsize=None)
 def of_certificate(der: bytes) -> Line:
     """The fields of one certificate."""
@@ -98,7 +114,20 @@ def of_certificate(der: bytes) -> Line:
         valid = seconds(said["not_after"]) - seconds(said["not_before"])
         said["validity_days"] = valid // DAY if valid >= 0 else None
     said["self_issued"] = said["subject"] == said["issuer"]
+    said["cert_scts"], said["cert_sct_logs"], said["cert_sct_times"] = timestamps(text)
     return said
+
+
+def is_chain_in_order(chain: list[bytes]) -> bool | None:
+    """Whether each certificate's issuer is the next one's subject, by openssl's hashes of names;
+    None for fewer than two certificates, or one that openssl can't read."""
+    if len(chain) < 2:
+        return None
+    try:
+        names = [openssl(der, "-subject_hash", "-issuer_hash").split() for der in chain]
+    except subprocess.CalledProcessError:
+        return None
+    return all(issuer == names[at + 1][0] for at, (_, issuer) in enumerate(names[:-1]))
 
 
 def is_name_of(host: str, name: str) -> bool:
@@ -222,6 +251,9 @@ def of_line(der: bytes, at: float) -> Line:
         "key_usage": listed(r"X509v3 Key Usage:.*\n\s+(.*)$", USAGES, text),
         "ext_key_usage": listed(r"X509v3 Extended Key Usage:.*\n\s+(.*)$", PURPOSES, text),
         "self_issued": own["self_issued"],
+        "scts": own["cert_scts"],
+        "sct_logs": own["cert_sct_logs"],
+        "sct_times": own["cert_sct_times"],
     }
     always = [
         "certificate.subject", "certificate.issuer", "basic_constraints.ca",

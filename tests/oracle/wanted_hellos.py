@@ -3,10 +3,12 @@ packet."""
 
 from __future__ import annotations
 
+import datetime
 import functools
 import hashlib
 import subprocess
 
+from tests.oracle import wanted_certificates
 from tests.support import log_columns, suite_names
 from tests.support.shapes import Line, Row
 
@@ -17,10 +19,15 @@ FIELDS = """
     handshake.p handshake.session_ticket_lifetime_hint
 """.split()
 # Fields that tshark has under the names of TLS alone, also of DTLS.
-SHARED = ["tls.extension.psk_ke_mode", "tls.sct.sct_length"]
+SHARED = [
+    "tls.extension.psk_ke_mode", "tls.sct.sct_length", "tls.sct.sct_logid",
+    "tls.sct.sct_timestamp",
+]
 # They follow the other fields in a line.
 ORDER = log_columns.names()[log_columns.names().index("client_version") :]
 TICKET, CERTIFICATE, CERTIFICATE_REQUEST, STATUS = "4", "11", "13", "22"
+# signed_certificate_timestamp (RFC 6962, section 3.3.1)
+TIMESTAMPS = 18
 LETTERS = {
     0x304: "13", 0x303: "12", 0x302: "11", 0x301: "10", 0x300: "s3", 2: "s2", 0xFEFF: "d1",
     0xFEFD: "d2", 0xFEFC: "d3",
@@ -164,6 +171,25 @@ def of_client(row: Row, layer: str, versions_by: dict[int, str]) -> Line:
     }
 
 
+def milliseconds(text: str) -> int:
+    """A time, as `Nov 18, 2026 11:06:40.001000000 UTC`, in milliseconds since 1970."""
+    moment = datetime.datetime.strptime(text.removesuffix("000 UTC"), "%b %d, %Y %H:%M:%S.%f")
+    since = moment - datetime.datetime(1970, 1, 1)
+    return since // datetime.timedelta(milliseconds=1)
+
+
+def timestamps(row: Row) -> Line:
+    """The signed certificate timestamps in a ServerHello. tshark's fields also have those in
+    certificates of the same packet."""
+    if TIMESTAMPS not in numbers(row, "handshake.extension.type"):
+        return {}
+    return {
+        "scts": len(row["tls.sct.sct_length"]),
+        "sct_logs": [plain(log) for log in row["tls.sct.sct_logid"]],
+        "sct_times": [milliseconds(time) for time in row["tls.sct.sct_timestamp"]],
+    }
+
+
 def of_server(row: Row, versions_by: dict[int, str]) -> Line:
     """The fields of a ServerHello."""
     extensions, _, groups = registries()
@@ -174,7 +200,7 @@ def of_server(row: Row, versions_by: dict[int, str]) -> Line:
         "comp_method": next(iter(numbers(row, "handshake.comp_method")), None),
         "ssl_server_exts": named(extensions, numbers(row, "handshake.extension.type")),
         "server_key_share_group": named(groups, share)[0] if share else None,
-        "scts": len(row["tls.sct.sct_length"]),
+        **timestamps(row),
         "ja3s": first(row, "handshake.ja3s"),
         "ja3s_string": first(row, "handshake.ja3s_full"),
     }
@@ -198,6 +224,7 @@ def of_messages(row: Row, side: bool) -> Line:
         said[front + "count"] = len(chain)
         said[front + "lengths"] = [len(one) for one in chain]
         said[whole] = [hashlib.sha256(one).hexdigest() for one in chain]
+        said[front + "chain_order"] = wanted_certificates.is_chain_in_order(chain)
     marks = {
         CERTIFICATE_REQUEST: "client_cert_requested",
         STATUS: "ocsp_stapled",

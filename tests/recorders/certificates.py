@@ -50,6 +50,30 @@ OTHER_NAMES = [
     "directoryName:3023310B30090603550406130244453114301206035504030C0B"
     + b"a directory".hex().upper(),
 ]
+
+
+def timestamp(log: str, milliseconds: int, extensions: bytes) -> bytes:
+    """Returns a timestamp of version 1 behind its length (RFC 6962, sections 3.2 and 3.3), with what
+    looks like a signature by ecdsa_secp256r1_sha256."""
+    signature = b"\x30\x44" + 2 * (b"\x02\x20" + 32 * b"\x01")
+    one = b"\0" + hashlib.sha256(log.encode()).digest() + struct.pack(">Q", milliseconds)
+    return counted(one + counted(extensions) + b"\4\3" + counted(signature))
+
+
+def counted(content: bytes) -> bytes:
+    return struct.pack(">H", len(content)) + content
+
+
+def timestamps() -> str:
+    """Returns the extension of two timestamps: an OCTET STRING with their list."""
+    content = counted(
+        timestamp("a log", 1_795_600_000_001, b"")
+        + timestamp("another log", 1_795_600_123_456, b"\1\2")
+    )
+    value = b"\x04\x81" + bytes([len(content)]) + content
+    return f"1.3.6.1.4.1.11129.2.4.2 = DER:{value.hex()}\n"
+
+
 # The subject, key, extensions and issuer of each certificate.
 CERTIFICATES = {
     "root": (
@@ -72,6 +96,12 @@ CERTIFICATES = {
         "issuer",
     ),
     "facts": ("/CN=facts.test", ["-newkey", "rsa:1024", "-sha1"], FACTS, "root"),
+    "timestamps": (
+        "/CN=timestamps.test",
+        EC,
+        f"subjectAltName = DNS:timestamps.test\n{timestamps()}",
+        "issuer",
+    ),
     "person": (
         "/O=Caf\u00e9/CN=a person",
         ["-newkey", "ed25519"],
@@ -83,6 +113,7 @@ CERTIFICATES = {
 CASES = {
     "names": (["leaf", "issuer", "root"], [], "example.test"),
     "wildcard": (["leaf", "issuer"], [], "Host.WILD.test"),
+    "out_of_order": (["leaf", "root", "issuer"], [], "example.test"),
     "two_labels": (["leaf"], [], "x.a.wild.test"),
     "client": (["curve", "issuer"], ["person"], "other.test"),
     "self_signed": (["root"], [], "root"),
@@ -90,6 +121,7 @@ CASES = {
     "facts": (["facts", "root"], [], "facts.test"),
     "expired": (["leaf", "issuer"], [], "example.test"),
     "unread": (["leaf", "issuer"], [], "example.test"),
+    "timestamps": (["timestamps", "issuer"], [], "timestamps.test"),
 }
 # The case in which the second certificate's SEQUENCE has the tag of a SET: what it is, by hand (RFC
 # 5280, section 4.1: "Tag").
@@ -105,6 +137,7 @@ UNREAD, SECOND_NAME = "unread", b"\x82\x0b*.wild.test"
 # The capture before bytes were changed, and the cases whose fields aren't all read from the other.
 INTACT, BY_HAND = "intact.pcap", (BROKEN, UNREAD)
 UNREAD_FIELDS = {
+    "cert_chain_order": None,
     "not_before": None, "validity_days": None, "not_yet_valid": None, "san_dns": ["example.test"],
     "san_ip": None, "cert_error": ["0:verify"],
     "cert_unread_fields": ["notBefore:verify", "subjectAltName@14:complete"],
@@ -314,7 +347,8 @@ def wanted_by_hand(work: Path, case: str) -> Line:
     [found] = wanted.lines(work / INTACT)
     chain = [bent(case, place, der(work, name)) for place, name in enumerate(CASES[case][0])]
     found["cert_chain_fps"] = [wanted_certificates.fingerprint(one) for one in chain]
-    found |= {"cert_error": [f"1:{FAULT}"]} if case == BROKEN else UNREAD_FIELDS
+    of_broken = {"cert_error": [f"1:{FAULT}"], "cert_chain_order": None}
+    found |= of_broken if case == BROKEN else UNREAD_FIELDS
     return without_none({field: found.get(field) for field in log_columns.names()})
 
 

@@ -128,6 +128,8 @@ class Connection:
     server_key_share_group: Optional[str] = None
     dh_param_size: Optional[int] = None
     scts: Optional[int] = None
+    sct_logs: Optional[list[str]] = None
+    sct_times: Optional[list[int]] = None
     ticket_issued: Optional[bool] = None
     ticket_lifetime_hint: Optional[int] = None
     ocsp_stapled: Optional[bool] = None
@@ -138,6 +140,8 @@ class Connection:
     client_cert_count: Optional[int] = None
     client_cert_lengths: Optional[list[int]] = None
     client_cert_chain_fps: Optional[list[str]] = None
+    cert_chain_order: Optional[bool] = None
+    client_cert_chain_order: Optional[bool] = None
     subject: Optional[str] = None
     issuer: Optional[str] = None
     serial: Optional[str] = None
@@ -155,6 +159,9 @@ class Connection:
     weak_key: Optional[bool] = None
     weak_signature: Optional[bool] = None
     tbs_sig_alg: Optional[str] = None
+    cert_scts: Optional[int] = None
+    cert_sct_logs: Optional[list[str]] = None
+    cert_sct_times: Optional[list[int]] = None
     cert_unread_fields: Optional[list[str]] = None
     sni_matches_cert: Optional[bool] = None
     expired_at_connection: Optional[bool] = None

@@ -1,3 +1,4 @@
 pub mod Names
 pub mod Read
+pub mod Timestamps
 pub mod Values

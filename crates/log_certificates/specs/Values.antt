@@ -49,6 +49,11 @@ use Rattle.x509_text.specs.Signature.{is_weak_signature}
 use Rattle.x509_text.specs.Validity.{whole_days}
 use Rattle.log_formats.specs.Data.{count_data, mark_data, marked, some_texts, text_data}
 use Rattle.log_certificates.specs.Read.{ReadFields, readable_in}
+use Rattle.log_certificates.specs.Timestamps.{
+  timestamp_count_value,
+  timestamp_logs_value,
+  timestamp_times_value,
+}
 use Rattle.log_certificates.specs.declared.field.CertificateField.{CertificateField}
 use Rattle.log_certificates.specs.declared.field.CertificateField.TheVariants as of
 
@@ -225,6 +230,9 @@ certificate_value of.PathLength r = Some (option_map count_data (path_length_in 
 certificate_value of.SelfIssued r = None
 certificate_value of.KeyUsage r = None
 certificate_value of.Purposes r = None
+certificate_value of.Timestamps r = Some (timestamp_count_value r.extensions)
+certificate_value of.TimestampLogs r = Some (timestamp_logs_value r.extensions)
+certificate_value of.TimestampTimes r = Some (timestamp_times_value r.extensions)
 certificate_value of.OcspResponders r = None
 certificate_value of.CaIssuers r = None
 certificate_value of.Policies r = None

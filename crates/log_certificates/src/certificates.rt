@@ -21,6 +21,7 @@ use crate::faults::unread_fields;
 use crate::field::CertificateField;
 use crate::read::ReadCertificate;
 use crate::times::{days_cell, end_cell, start_cell, time_cell};
+use crate::timestamps::{timestamp_count_cell, timestamp_logs_cell, timestamp_times_cell};
 use der::ObjectIdentifier;
 use log_formats::cell::Cell;
 use log_formats::text::{name_cell, owned_text, some_mark};
@@ -267,6 +268,9 @@ pub fn certificate_cell<'c>(
         CertificateField::SelfIssued => Ok(self_issued_cell(read)),
         CertificateField::KeyUsage => key_usage(alloc, read),
         CertificateField::Purposes => purposes(alloc, read),
+        CertificateField::Timestamps => timestamp_count_cell(alloc, read),
+        CertificateField::TimestampLogs => timestamp_logs_cell(alloc, read),
+        CertificateField::TimestampTimes => timestamp_times_cell(alloc, read),
         CertificateField::OcspResponders => access_cell(alloc, read, oid::OCSP),
         CertificateField::CaIssuers => access_cell(alloc, read, oid::CA_ISSUERS),
         CertificateField::Policies => policies_cell(alloc, read),

@@ -7,7 +7,10 @@ use crate::read::{ReadCertificate, kind_of};
 use layouts::{Err, Error, ErrorKind, InPlace, Items};
 use log_formats::cell::Cell;
 use log_formats::lists::{Texts, some_texts};
+use ocsp::oid::CERTIFICATE_TIMESTAMPS;
+use ocsp::parse_timestamp_list;
 use std::alloc::{AllocError, Global};
+use tls_key_exchange::certificate_timestamps;
 use x509::{
     Extensions, oid, parse_authority_info_access, parse_basic_constraints,
     parse_certificate_policies, parse_extended_key_usage, parse_general_names, parse_key_usage,
@@ -152,6 +155,18 @@ fn policy_fault(value: Option<&[u8]>) -> Option<ValueFault> {
     }
 }
 
+/// Returns where the value of a list of timestamps can't be read (RFC 6962, section 3.3).
+fn timestamp_fault(value: Option<&[u8]>) -> Option<ValueFault> {
+    let list = match parse_timestamp_list(value?) {
+        Ok((_, list)) => list,
+        Err(refusal) => return whole_fault(refusal),
+    };
+    match certificate_timestamps(list) {
+        Ok((_, timestamps)) => item_fault(list_fault(timestamps)),
+        Err(refusal) => whole_fault(refusal),
+    }
+}
+
 /// Appends the extension of this type, if it can't be read.
 fn add_value(
     alloc: Global,
@@ -183,7 +198,9 @@ fn add_extensions(
     let accesses = access_fault(value_of(extensions, oid::AUTHORITY_INFO_ACCESS));
     add_value(alloc, all, "authorityInfoAccess", accesses)?;
     let policies = policy_fault(value_of(extensions, oid::CERTIFICATE_POLICIES));
-    add_value(alloc, all, "certificatePolicies", policies)
+    add_value(alloc, all, "certificatePolicies", policies)?;
+    let timestamps = timestamp_fault(value_of(extensions, CERTIFICATE_TIMESTAMPS));
+    add_value(alloc, all, "SignedCertificateTimestampList", timestamps)
 }
 
 /// Returns the fields that can't be read, or not to their end; `None` if all can.

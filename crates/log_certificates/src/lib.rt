@@ -2,7 +2,7 @@
 //!
 //! [`certificate_of`] parses a certificate, and [`certificate_cell`] computes a
 //! [`CertificateField`] of it. [`has_expired`] and [`is_not_yet_valid`] compare its times with
-//! another.
+//! another. [`logs_cell`] and [`times_cell`] are of any list of signed certificate timestamps.
 //!
 //! Clauses give the values of most fields by the definitions of `x509` and `x509_text`
 //! (`specs/Values.antt`, `specs/Read.antt`). The others are only tested.
@@ -14,9 +14,11 @@ mod faults;
 mod field;
 mod read;
 mod times;
+mod timestamps;
 
 pub use certificates::certificate_cell;
 pub use faults::error_name;
 pub use field::CertificateField;
 pub use read::{ReadCertificate, certificate_of};
 pub use times::{has_expired, is_not_yet_valid};
+pub use timestamps::{logs_cell, times_cell};

@@ -43,6 +43,7 @@ use Rattle.tls_fingerprints.specs.Ja4.{ja4_of}
 use Rattle.tls_fingerprints.specs.declared.hellos.Transport.{Transport}
 use Rattle.tls_fingerprints.specs.declared.hellos.Transport.TheVariants as over
 use Rattle.log_certificates.specs.Read.{ReadFields}
+use Rattle.log_certificates.specs.Timestamps.{logs_value, times_value}
 use Rattle.log_certificates.specs.Values.{
   certificate_value,
   has_expired,
@@ -312,12 +313,16 @@ chain_value chain.ServerLengths k =
     some_numbers (lengths_of (chain_of k.handshake.server_certificates))
 chain_value chain.ServerFingerprints k =
     some_texts (map encode_lower (sums_of (chain_of k.handshake.server_certificates)))
+chain_value chain.TimestampLogs k = logs_value (hello.server_timestamps k.handshake)
+chain_value chain.TimestampTimes k = times_value (hello.server_timestamps k.handshake)
+chain_value chain.ServerOrder k = some_truth k.handshake.server_chain_order
 chain_value chain.Requested k = marked k.handshake.requests_certificate
 chain_value chain.ClientCount k = count_value k.handshake.client_certificates
 chain_value chain.ClientLengths k =
     some_numbers (lengths_of (chain_of k.handshake.client_certificates))
 chain_value chain.ClientFingerprints k =
     some_texts (map encode_lower (sums_of (chain_of k.handshake.client_certificates)))
+chain_value chain.ClientOrder k = some_truth k.handshake.client_chain_order
 chain_value chain.NameMatches k = match_value k
 chain_value chain.Expired k = expired_value k
 chain_value chain.NotYetValid k = not_yet_valid_value k

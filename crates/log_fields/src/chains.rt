@@ -6,12 +6,12 @@ ghost use Rattle.hex.specs.Hex.{encode_lower};
 ghost use Rattle.log_formats.specs.Data.{some_numbers as numbers_if_any, some_texts as texts_if_any, value_of};
 ghost use Rattle.log_fields.specs.Known.{known_of};
 ghost use Rattle.log_fields.specs.Values.{chain_of, chain_value, count_value, expired_value, fault_at, faults_from};
-ghost use Rattle.log_fields.specs.Values.{lengths_of, match_value, not_yet_valid_value, sums_of};
+ghost use Rattle.log_fields.specs.Values.{lengths_of, match_value, not_yet_valid_value, some_truth, sums_of};
 
 use crate::context::FieldContext;
 use crate::fields::{Chain, rows};
 use crate::names::fault_name;
-use log_certificates::{has_expired, is_not_yet_valid};
+use log_certificates::{has_expired, is_not_yet_valid, logs_cell, times_cell};
 use log_formats::cell::{Cell, TakesCell};
 use log_formats::lists::{Numbers, Texts, some_numbers, some_texts};
 use log_formats::text::some_mark;
@@ -82,6 +82,14 @@ fn fingerprints_cell<'a>(
 {
     let sums = sums(alloc, certificates(chain))?;
     Ok(some_texts(Texts::Digests(sums)))
+}
+
+/// Returns whether a chain is in order, if that is known.
+#[tactic(auto, unfolding(crate::specs::Values::some_truth))]
+fn order_cell<'a>(order: Option<bool>) -> Option<Cell<'a>>
+    ensures { value_of result ≡ some_truth order }
+{
+    Some(Cell::Mark(order?))
 }
 
 /// Returns a position with a name behind it, such as `0:verify`.

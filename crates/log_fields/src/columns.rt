@@ -195,6 +195,14 @@ pub static CERTIFICATE_FIELDS: &[Column<CertificateLineField>] = columns! {
     "key_usage": Texts = CertificateLineField::Certificate(CertificateField::KeyUsage);
     /// as above
     "ext_key_usage": Texts = CertificateLineField::Certificate(CertificateField::Purposes);
+    /// as `cert_scts`, .. in a connection's line
+    /// RFC: 6962, 3.3
+    /// absent: none
+    "scts": Count = CertificateLineField::Certificate(CertificateField::Timestamps);
+    /// as above
+    "sct_logs": Texts = CertificateLineField::Certificate(CertificateField::TimestampLogs);
+    /// as above
+    "sct_times": Counts = CertificateLineField::Certificate(CertificateField::TimestampTimes);
     /// whether its subject is its issuer, byte for byte
     /// RFC: 5280, 3.2
     "self_issued": Mark = CertificateLineField::Certificate(CertificateField::SelfIssued);

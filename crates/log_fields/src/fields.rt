@@ -91,10 +91,14 @@ pub enum Chain {
     ServerCount,
     ServerLengths,
     ServerFingerprints,
+    TimestampLogs,
+    TimestampTimes,
+    ServerOrder,
     Requested,
     ClientCount,
     ClientLengths,
     ClientFingerprints,
+    ClientOrder,
     NameMatches,
     Expired,
     NotYetValid,
@@ -188,7 +192,7 @@ macro_rules! rows {
                 /// Zeek: `proto`
                 "proto": Enum =
                     Protocol => |moment| Ok(Some(name_cell(proto_name(moment.summary.protocol))));
-                /// the Community ID, which other tools print too ("Identifiers", below)
+                /// the Community ID ("Identifiers", below)
                 /// Zeek: `community_id` of a package
                 "community_id": Text = CommunityId => |moment| community_id_cell(moment);
                 /// seconds from the first packet to the last one before the connection's end
@@ -223,7 +227,7 @@ macro_rules! rows {
                 "server_name": Text =
                     ServerName => |context| Ok(some_escaped(context.handshake.server_name()));
                 /// the names of other types there, in order, each prefixed by the number of its
-                /// type: `["1:name"]`. No RFC defines such a type
+                /// type: `["1:name"]`
                 /// RFC: 6066, 3
                 /// absent: there are none
                 "other_server_names": Texts =
@@ -262,7 +266,7 @@ macro_rules! rows {
                 "outcome": Text =
                     Outcome => |context| Some(name_cell(outcome_name(context.summary.outcome)));
                 /// the message that ended the handshake without success: `message` (its kind),
-                /// `sender`, and `messages_before` (how many messages came before it)
+                /// `sender`, and `messages_before` (how many came before)
                 /// absent: it didn't end so
                 "stop": Fields = Stop => |context| stop_cell(context.summary.stop);
                 /// the sides with missing bytes before others that were captured: `orig`, `resp`,
@@ -343,8 +347,8 @@ macro_rules! rows {
                 /// absent: there were none
                 "orig_dropped_for", "resp_dropped_for": Texts = DroppedFor =>
                     |sender| reasons_cell(sender.alloc, &sender.party.dropped);
-                /// how many bytes of each side come before its TLS: those of STARTTLS, of a proxy,
-                /// or of another protocol (docs/CAPTURES.md, "Where TLS begins")
+                /// how many bytes of each side come before its TLS (docs/CAPTURES.md, "Where
+                /// TLS begins")
                 /// absent: there are none; DTLS
                 "orig_preamble_bytes", "resp_preamble_bytes": Count = Preamble =>
                     |sender| Ok(some_count(sender.party.preamble));
@@ -353,7 +357,7 @@ macro_rules! rows {
                 /// how TLS was found behind these bytes: by the dialogue of `ftp`, `http_connect`,
                 /// `imap`, `irc`, `ldap`, `lmtp`, `mysql`, `nntp`, `pop3`, `postgresql`, `proxy`,
                 /// `rdp`, `sieve`, `smtp`, `socks4`, `socks5`, `tds` or `xmpp`, of several the
-                /// last; or by `search` (docs/CAPTURES.md, "Where TLS begins")
+                /// last; or by `search`
                 /// absent: there are no such bytes; DTLS
                 "found_by": Text =
                     FoundBy => |context| Ok(some_name(context.summary.found_by()));
@@ -373,8 +377,8 @@ macro_rules! rows {
             Offer {
                 /// the version field of the ClientHello, `TLSv12` in TLS 1.3
                 /// RFC: 8446, 4.1.2
-                /// Zeek: the same; with `--format zeek` a number, as there
-                /// absent: no ClientHello (as for all of the client's fields)
+                /// Zeek: the same; with `--format zeek` a number
+                /// absent: no ClientHello (as for all client fields)
                 "client_version": Version =
                     Version => |context| some_version(context.handshake.client_version());
                 /// the versions that it offers in supported_versions
@@ -398,7 +402,7 @@ macro_rules! rows {
                         some_texts(client_suites(context.suites, context.handshake));
                 /// its compression methods, by number
                 /// RFC: 3749, 2
-                /// Zeek: the same; with `--format zeek` by name, as there
+                /// Zeek: the same; with `--format zeek` by name
                 "client_comp_methods": Methods = Compressions =>
                     |context| compressions_cell(context.handshake);
                 /// the types of its extensions, in order
@@ -416,7 +420,7 @@ macro_rules! rows {
                         some_texts(Texts::Groups(context.handshake.client_groups()));
                 /// the point formats that it offers, by number: 0 is uncompressed
                 /// RFC: 8422, 5.1.2
-                /// Zeek: the same; with `--format zeek` by name, as there
+                /// Zeek: the same; with `--format zeek` by name
                 /// absent: no such extension
                 "point_formats": PointFormats = PointFormats =>
                     |context| some_numbers(
@@ -443,7 +447,7 @@ macro_rules! rows {
                         Texts::Shares(context.handshake.client_key_shares().bytes()));
                 /// by number: 0 is psk_ke, 1 psk_dhe_ke
                 /// RFC: 8446, 4.2.9
-                /// Zeek: the same; with `--format zeek` by name, as there
+                /// Zeek: the same; with `--format zeek` by name
                 /// absent: no such extension
                 "psk_key_exchange_modes": Modes = PskModes =>
                     |context| some_numbers(Numbers::Codes(context.handshake.client_psk_modes()));
@@ -460,7 +464,7 @@ macro_rules! rows {
                 /// absent: it doesn't
                 "offers_ticket": Mark =
                     Ticket => |context| some_mark(context.handshake.offers_ticket());
-                /// `true`: it has the extension cookie, as after a retry
+                /// `true`: it has the extension cookie
                 /// RFC: 8446, 4.2.2
                 /// absent: it doesn't
                 "cookie": Mark = Cookie => |context| some_mark(context.handshake.has_cookie());
@@ -497,8 +501,8 @@ macro_rules! rows {
             Answer {
                 /// the version field of the ServerHello
                 /// RFC: 8446, 4.1.3
-                /// Zeek: the same; with `--format zeek` a number, as there
-                /// absent: no ServerHello (as for all of the server's fields)
+                /// Zeek: the same; with `--format zeek` a number
+                /// absent: no ServerHello (as for all server fields)
                 "server_version": Version =
                     Version => |context| some_version(context.handshake.server_version());
                 /// the session id, in hexadecimal
@@ -508,7 +512,7 @@ macro_rules! rows {
                     SessionId => |context| some_digits(context.handshake.server_session_id());
                 /// the compression method, by number
                 /// RFC: 3749, 2
-                /// Zeek: the same; with `--format zeek` by name, as there
+                /// Zeek: the same; with `--format zeek` by name
                 "comp_method": Method = Compression => |context| compression(context.handshake);
                 /// the types of its extensions, in order
                 /// RFC: 8446, 4.2
@@ -527,10 +531,23 @@ macro_rules! rows {
                 /// Zeek: the same, rounded up
                 /// absent: no such exchange
                 "dh_param_size": Count = DhBits => |context| some_number(context.handshake.dh_bits);
-                /// the number of signed certificate timestamps in the ServerHello
-                /// RFC: 6962, 3.3.1
+                /// signed certificate timestamps in the ServerHello: how many, their logs' ids, their
+                /// times in milliseconds since 1970
+                /// RFC: 6962, 3.3.1, 3.2
                 /// absent: none; TLS 1.3
                 "scts": Count = Timestamps => |context| timestamps(context.handshake);
+            }
+            Chain {
+                /// as above
+                "sct_logs": Texts =
+                    TimestampLogs => |context|
+                        logs_cell(context.alloc, context.handshake.server_timestamps());
+                /// as above
+                "sct_times": Counts =
+                    TimestampTimes => |context|
+                        times_cell(context.alloc, context.handshake.server_timestamps());
+            }
+            Answer {
                 /// `true`: the server sent a NewSessionTicket
                 /// RFC: 5077, 3.3
                 /// absent: it didn't; TLS 1.3
@@ -547,12 +564,12 @@ macro_rules! rows {
                 "ocsp_stapled": Mark = Status => |context| some_mark(context.handshake.has_status);
             }
             Chain {
-                /// the number of certificates that the server sent
+                /// how many certificates the server sent
                 /// RFC: 5246, 7.4.2
                 /// absent: no Certificate; TLS 1.3
                 "cert_count": Count =
                     ServerCount => |context| Ok(count_cell(&context.handshake.server_certificates));
-                /// the length in bytes and the SHA-256 of each, the server's own first
+                /// length in bytes and SHA-256 of each, the server's own first
                 /// Zeek: `cert_chain_fps`
                 /// absent: as above
                 "cert_lengths": Counts =
@@ -567,12 +584,12 @@ macro_rules! rows {
                 /// absent: it didn't; TLS 1.3
                 "client_cert_requested": Mark =
                     Requested => |context| Ok(some_mark(context.handshake.requests_certificate));
-                /// the number of certificates that the client sent; 0 if it was asked and has none
+                /// how many the client sent; 0 if asked without having any
                 /// RFC: 5246, 7.4.6
                 /// absent: no Certificate; TLS 1.3
                 "client_cert_count": Count =
                     ClientCount => |context| Ok(count_cell(&context.handshake.client_certificates));
-                /// the length in bytes and the SHA-256 of each
+                /// length and SHA-256 of each
                 /// Zeek: `client_cert_chain_fps`
                 /// absent: it sent none
                 "client_cert_lengths": Counts =
@@ -582,6 +599,14 @@ macro_rules! rows {
                 "client_cert_chain_fps": Texts =
                     ClientFingerprints => |context|
                         fingerprints_cell(context.alloc, &context.handshake.client_certificates);
+                /// whether each issuer is the next certificate's subject, byte for byte
+                /// RFC: 5246, 7.4.2
+                /// absent: fewer than two; `cert_error`
+                "cert_chain_order": Mark =
+                    ServerOrder => |context| Ok(order_cell(context.handshake.server_chain_order));
+                /// as above
+                "client_cert_chain_order": Mark =
+                    ClientOrder => |context| Ok(order_cell(context.handshake.client_chain_order));
             }
             ServerCertificate {
                 /// the names of the server's own certificate, as RFC 4514 writes them ("What
@@ -642,14 +667,21 @@ macro_rules! rows {
                 /// the algorithm in its signed part
                 /// absent: its signature's
                 "tbs_sig_alg": Text = InnerSignatureAlgorithm;
+                /// as `scts`, `sct_logs`, `sct_times`, in it
+                /// RFC: 6962, 3.3
+                /// absent: none
+                "cert_scts": Count = Timestamps;
+                /// as above
+                "cert_sct_logs": Texts = TimestampLogs;
+                /// as above
+                "cert_sct_times": Counts = TimestampTimes;
                 /// what isn't read, by RFC 5280's names, as `notBefore:verify`; in a list also
                 /// after how many bytes, as `subjectAltName@12:tag`
                 /// absent: all is read
                 "cert_unread_fields": Texts = UnreadFields;
             }
             Chain {
-                /// whether the host that the client asked for is one of its DNS names ("What
-                /// certificates say", below)
+                /// whether the host that the client asked for is one of its DNS names
                 /// RFC: 9525, 6.3
                 /// Zeek: the same
                 /// absent: no `server_name`
@@ -659,8 +691,7 @@ macro_rules! rows {
                 "expired_at_connection": Mark = Expired => |context| Ok(expired_cell(context));
                 /// as above
                 "not_yet_valid": Mark = NotYetValid => |context| Ok(not_yet_valid_cell(context));
-                /// whether the server's chain is valid: `tlslog` validates no certificate, so this
-                /// is unset, for readers of Zeek's logs
+                /// whether the server's chain is valid: unset, for readers of Zeek's logs
                 /// Zeek: the same
                 /// absent: always
                 "validation_status": Text = Validation => |_context| Ok(None);
@@ -700,7 +731,7 @@ macro_rules! rows {
                 "ja3s": Text = Ja3s => |context| ja3s_cell(context);
                 /// as above
                 "ja3s_string": Text = Ja3sText => |context| ja3s_text_cell(context);
-                /// the JA4 of the ClientHello, in three parts ("Fingerprints", below)
+                /// the JA4 of the ClientHello
                 /// Zeek: `ja4` of a package
                 /// absent: no ClientHello
                 "ja4": Text = Ja4 => |context| ja4_cell(context);

@@ -1,1 +1,2 @@
 pub mod HelloLemmas
+pub mod OrderLemmas

@@ -17,6 +17,7 @@ use Rattle.tls_flow.specs.declared.symbol.Direction.{Direction as Side}
 use Rattle.tls_flow.specs.declared.symbol.Direction.TheVariants.{ToServer, FromServer}
 use Rattle.tls_flow.specs.declared.symbol.Kind.{Kind}
 use Rattle.tls_flow.specs.declared.symbol.Kind.TheVariants as kind
+use Rattle.tls_summary.specs.ChainOrder.{chain_order}
 use Rattle.tls_summary.specs.Encrypted.{encrypted_client_hello}
 use Rattle.tls_summary.specs.Exchange.{curve_by, prime_bits_by}
 use Rattle.tls_summary.specs.Hellos.{has, share_group_in, value_in}
@@ -37,6 +38,9 @@ pub record HandshakeSummary : Type 0 where
   pub server_certificates : Option (List CertificateSummary)
   pub client_certificate : Option Bytes
   pub server_certificate : Option Bytes
+  -- whether the certificates of each side are in order
+  pub client_chain_order : Option Bool
+  pub server_chain_order : Option Bool
   -- whether the server asked for another ClientHello that hasn't come yet
   pub is_asked_again : Bool
   -- whether a HelloRetryRequest came, a CertificateRequest, a CertificateStatus, a NewSessionTicket
@@ -63,6 +67,8 @@ view_summary f = record {
   server_certificates = option_map (λ v. v.items) f.server_certificates;
   client_certificate = option_map (λ v. v.items) f.client_certificate;
   server_certificate = option_map (λ v. v.items) f.server_certificate;
+  client_chain_order = f.client_chain_order;
+  server_chain_order = f.server_chain_order;
   is_asked_again = f.is_asked_again;
   is_retried = f.is_retried;
   requests_certificate = f.requests_certificate;
@@ -85,6 +91,8 @@ nothing = record {
   server_certificates = None;
   client_certificate = None;
   server_certificate = None;
+  client_chain_order = None;
+  server_chain_order = None;
   is_asked_again = false;
   is_retried = false;
   requests_certificate = false;
@@ -206,15 +214,23 @@ exchanged b f = exchanged_by f.server b f
 
 -- The last Certificate of this side; the end-entity certificate comes first (RFC 5246, section
 -- 7.4.2).
-abbrev pub with_chain : Side → List CertificateSummary → Option Bytes → HandshakeSummary
-    → HandshakeSummary
-with_chain ToServer chain own f =
-    record f { client_certificates = Some chain; client_certificate = own }
-with_chain FromServer chain own f =
-    record f { server_certificates = Some chain; server_certificate = own }
+abbrev pub with_chain : Side → List CertificateSummary → Option Bytes → Option Bool
+    → HandshakeSummary → HandshakeSummary
+with_chain ToServer chain own order f =
+    record f {
+      client_certificates = Some chain;
+      client_certificate = own;
+      client_chain_order = order;
+    }
+with_chain FromServer chain own order f =
+    record f {
+      server_certificates = Some chain;
+      server_certificate = own;
+      server_chain_order = order;
+    }
 
 abbrev pub certified : Side → Answer (List Bytes) → HandshakeSummary → HandshakeSummary
-certified s (Ok x) f = with_chain s (summaries_of_all x.0) (first_of x.0) f
+certified s (Ok x) f = with_chain s (summaries_of_all x.0) (first_of x.0) (chain_order x.0) f
 certified s (Err e) f = f
 
 -- A NewSessionTicket begins with the ticket's lifetime, in 4 bytes (RFC 5077, section 3.3). Only

@@ -8,6 +8,7 @@
 #![tactic(auto, using(layouts::proofs::OneAnswerLemmas::read_allowed))]
 
 mod certificate_cache;
+mod chain_order;
 mod drafts;
 mod encrypted;
 mod exchange;

@@ -7,15 +7,17 @@ ghost use Rattle.tls_hs.specs.InPlace.{view_client_hello_in_place};
 ghost use Rattle.tls_hs.specs.ServerHello.{view_server_hello};
 ghost use Rattle.layouts.specs.Reading.{reading};
 ghost use Rattle.x509.specs.Certificate.{certificate};
-ghost use Rattle.tls_summary.specs.Parts.{summary_of_certificate as summary_by, summaries_of_all, fault_by, first_of, view_client, view_server};
+ghost use Rattle.tls_summary.specs.ChainOrder.{chain_order, facts_of};
+ghost use Rattle.tls_summary.specs.Parts.{summaries_of_all, fault_by, first_of, view_client, view_server};
 
 use crate::certificate_cache::CertificateCache;
+use crate::chain_order::{Order, places_of};
 use layouts::{Err, ErrorKind, Items};
 use sha2::{Digest, Sha256};
 use std::alloc::{AllocError, Global};
 use tls_base::{TlsCipherSuiteID, TlsCompressionID, TlsVersion};
 use tls_hs::{ClientHelloView, RawCertificate, TlsServerHelloContents};
-use x509::parse_certificate;
+use x509::{NamePlaces, parse_certificate};
 
 /// The fields of a ClientHello (RFC 8446, section 4.1.2).
 #[derive(Debug, PartialEq, Drop)]
@@ -72,6 +74,13 @@ pub struct CertificateSummary {
     pub sha256: [u8; 32],
     /// Why it doesn't parse (RFC 5280, section 4.1); `None` if it does.
     pub fault: Option<CertificateFault>,
+}
+
+/// What is known of a certificate: its summary, and the places of its names if it parses.
+#[derive(Clone, Copy)]
+pub(crate) struct CertificateFacts {
+    pub(crate) summary: CertificateSummary,
+    pub(crate) names: Option<NamePlaces>,
 }
 
 /// A copy of the bytes.
@@ -142,46 +151,58 @@ pub fn certificate_fault(bytes: &[u8]) -> Option<CertificateFault>
     }
 }
 
-/// The summary of a certificate, computed.
-pub(crate) fn summary_of_one(bytes: &[u8]) -> CertificateSummary
-    ensures { result ≡ summary_by bytes.now }
+/// The facts of a certificate, computed.
+pub(crate) fn compute_facts(bytes: &[u8]) -> CertificateFacts
+    ensures { result ≡ facts_of bytes.now }
 {
-    CertificateSummary {
-        length: bytes.len(),
-        sha256: Sha256::digest(bytes),
-        fault: certificate_fault(bytes),
+    let fault = certificate_fault(bytes);
+    CertificateFacts {
+        summary: CertificateSummary {
+            length: bytes.len(),
+            sha256: Sha256::digest(bytes),
+            fault,
+        },
+        names: places_of(bytes, fault),
     }
 }
 
-/// The summary of a certificate, from the cache if there is one and it has it.
-fn summary_with(
+/// The facts of a certificate, from the cache if there is one and it has it.
+fn facts_with(
     alloc: Global,
     bytes: &[u8],
     known: &mut Option<&mut CertificateCache>,
-) -> CertificateSummary
-    ensures { result ≡ summary_by bytes.now }
+) -> CertificateFacts
+    ensures { result ≡ facts_of bytes.now }
 {
     match known {
-        Some(known) => known.summary(alloc, bytes),
-        None => summary_of_one(bytes),
+        Some(known) => known.facts(alloc, bytes),
+        None => compute_facts(bytes),
     }
 }
 
-/// The summaries of certificates, in order.
+/// The summaries of certificates, in order, and whether the chain is in order.
+#[tactic(auto, using(crate::proofs::OrderLemmas::one_more, crate::proofs::OrderLemmas::from_none, crate::proofs::OrderLemmas::is_order_of_chain))]
 fn summaries_of<'a>(
     alloc: Global,
     chain: Items<'a, RawCertificate<'a>>,
     known: Option<&mut CertificateCache>,
-) -> Result<Vec<CertificateSummary>, AllocError>
-    ensures { IfOk result
-        (λ v. v.items ≡ summaries_of_all (items_in (counted 3) chain.entry.bytes.now)) }
+) -> Result<(Vec<CertificateSummary>, Option<bool>), AllocError>
+    ensures summaries { IfOk result
+        (λ x. x.0.items ≡ summaries_of_all (items_in (counted 3) chain.entry.bytes.now)) }
+    ensures order { IfOk result
+        (λ x. x.1 ≡ chain_order (items_in (counted 3) chain.entry.bytes.now)) }
 {
     let mut known = known;
     let mut summaries = Vec::new(alloc);
+    let mut order = Order::new();
     for certificate in chain {
-        summaries.push(summary_with(alloc, certificate.bytes, &mut known))?;
+        summaries.push(order.add(
+            certificate.bytes,
+            facts_with(alloc, certificate.bytes, &mut known),
+        ))?;
     }
-    Ok(summaries)
+    let is_in_order = order.of_chain(summaries.len());
+    Ok((summaries, is_in_order))
 }
 
 /// The first certificate of a list.
@@ -195,10 +216,12 @@ fn first_certificate<'a>(list: &'a [u8]) -> Option<&'a [u8]>
     }
 }
 
-/// The summaries of a chain's certificates, and the bytes of the first one.
+/// The summaries of a chain's certificates, whether they are in order, and the bytes of the first
+/// one.
 #[derive(Drop)]
 pub(crate) struct Chain {
     pub(crate) summaries: Vec<CertificateSummary>,
+    pub(crate) is_in_order: Option<bool>,
     pub(crate) own: Option<Vec<u8>>,
 }
 
@@ -210,10 +233,16 @@ pub(crate) fn chain_of(
 ) -> Result<Chain, AllocError>
     ensures summaries { IfOk result
         (λ c. c.summaries.items ≡ summaries_of_all (items_in (counted 3) list.now)) }
+    ensures order { IfOk result
+        (λ c. c.is_in_order ≡ chain_order (items_in (counted 3) list.now)) }
     ensures own { IfOk result
         (λ c. option_map (λ x. x.items) c.own ≡ first_of (items_in (counted 3) list.now)) }
 {
-    let summaries = summaries_of(alloc, Items::new(list), known)?;
+    let (summaries, is_in_order) = summaries_of(alloc, Items::new(list), known)?;
     let own = copied_if(alloc, first_certificate(list))?;
-    Ok(Chain { summaries, own })
+    Ok(Chain {
+        summaries,
+        is_in_order,
+        own,
+    })
 }

@@ -53,6 +53,12 @@ pub struct HandshakeSummary {
     pub client_certificate: Option<Vec<u8>>,
     /// The server's end-entity certificate in DER; `None` if there is none.
     pub server_certificate: Option<Vec<u8>>,
+    /// Whether each of the [`client_certificates`](HandshakeSummary::client_certificates) was issued
+    /// by the next one's subject, as [`server_chain_order`](HandshakeSummary::server_chain_order).
+    pub client_chain_order: Option<bool>,
+    /// Whether the server's certificates are in order: the issuer of each is the subject of the next,
+    /// byte for byte (RFC 5246, section 7.4.2). `None` for fewer than two, and if one doesn't parse.
+    pub server_chain_order: Option<bool>,
     // Whether the server asked for another ClientHello that hasn't come yet.
     pub(crate) is_asked_again: bool,
     /// Whether the server asked for another ClientHello with a HelloRetryRequest (RFC 8446, section
@@ -106,6 +112,8 @@ impl HandshakeSummary {
             server_certificates: None,
             client_certificate: None,
             server_certificate: None,
+            client_chain_order: None,
+            server_chain_order: None,
             is_asked_again: false,
             is_retried: false,
             requests_certificate: false,
@@ -295,17 +303,23 @@ impl HandshakeSummary {
     /// Stores a side's chain in place of an earlier one.
     fn keep_chain(&mut self, side: Direction, chain: Chain)
         ensures { view_summary self.new ≡ with_chain side chain.summaries.items
-            (option_map (λ v. v.items) chain.own) (view_summary self.old) }
+            (option_map (λ v. v.items) chain.own) chain.is_in_order (view_summary self.old) }
     {
-        let Chain { summaries, own } = chain;
+        let Chain {
+            summaries,
+            is_in_order,
+            own,
+        } = chain;
         match side {
             Direction::ToServer => {
                 self.client_certificates = Some(summaries);
                 self.client_certificate = own;
+                self.client_chain_order = is_in_order;
             }
             Direction::FromServer => {
                 self.server_certificates = Some(summaries);
                 self.server_certificate = own;
+                self.server_chain_order = is_in_order;
             }
         }
     }

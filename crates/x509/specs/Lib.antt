@@ -2,6 +2,7 @@ pub mod Access
 pub mod KeyParameters
 pub mod Outline
 pub mod Name
+pub mod NamePlaces
 pub mod Certificate
 pub mod GeneralName
 pub mod Extensions

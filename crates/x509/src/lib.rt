@@ -19,6 +19,7 @@ mod key_parameters;
 mod key_usage;
 pub mod laws;
 mod name;
+mod name_places;
 pub mod oid;
 mod outline;
 mod public_key;
@@ -46,6 +47,7 @@ pub use name::{
     AttributeTypeAndValue, Attributes, Name, RelativeDistinguishedName, RelativeDistinguishedNames,
     WholeSets, parse_name,
 };
+pub use name_places::{EncodedNames, NamePlaces, parse_name_places};
 pub use outline::{Outline, ValidityElements, parse_outline, parse_validity_elements};
 pub use public_key::{PublicKey, parse_rsa_public_key};
 pub use tbs::TBSCertificate;
