@@ -1,6 +1,7 @@
 """Callers that must compile: those of the pages, of bench and of tests/compiles/outlives.
 
-They are one program. Its root is the monitor of docs/STARTING.md, and it uses no other.
+They are one program. Its root is the monitor of docs/STARTING.md, and it uses no other. The second
+program of that page, which reads captures, is one by itself.
 """
 
 from __future__ import annotations
@@ -17,6 +18,8 @@ STANDS_ON = (
     "layouts tls_ext tls_parser tls_flow tls_places tls_stream dtls_stream x509 wispuddera"
     " tls_observer dtls_analyzer hex"
 )
+# What the program of docs/STARTING.md uses that reads a capture, as the page has it.
+HOSTS_USE = "connections log_connections packets tls_observer"
 
 
 def blocks(file: str, language: str) -> list[str]:
@@ -77,10 +80,16 @@ fn main(rt: HostRuntime) -> Result<(), AllocError> {{
 
 def program() -> Path:
     """The program of all callers, which runs the monitor of docs/STARTING.md."""
-    root = block_with("docs/STARTING.md", "rust", "fn main")
+    root = block_with("docs/STARTING.md", "rust", "mod monitor;")
     for name in ("host", "layers", "bench_calls", "outlives"):
         root += f"pub mod {name};\n"
     sources = {f"src/{place}": code for place, code in of_pages().items()}
     outlives = kept.as_module("outlives", {"lib.rt": outliving("")}, "lib.rt")
     sources = {"src/main.rt": root, **sources, **of_bench(), **outlives}
     return kept.program(kept.Crate("callers", sources, STANDS_ON, ("-O0",)))
+
+
+def hosts() -> Path:
+    """The program of docs/STARTING.md that reads a capture."""
+    root = block_with("docs/STARTING.md", "rust", "impl<W: Write> PacketVisitor")
+    return kept.program(kept.Crate("hosts", {"src/main.rt": root}, HOSTS_USE, ("-O0",)))
