@@ -23,6 +23,8 @@ pub record Fragment : Type 0 where
   pub has_more : Bool
   -- the length of the headers that count for the datagram's length and come before all fragments
   pub in_front : ℕ
+  -- the ECN field (RFC 3168, section 5)
+  pub ecn : ℕ
   pub is_header_right : Bool
   pub payload : Bytes
 
@@ -35,6 +37,7 @@ view_fragment f = record {
   offset = f.offset;
   has_more = f.has_more;
   in_front = f.in_front;
+  ecn = f.ecn;
   is_header_right = f.is_header_right;
   payload = f.payload.now;
 }
@@ -57,6 +60,7 @@ fragment_v4 = do
     offset = fields.flags % 8192 * 8;
     has_more = fields.flags / 8192 % 2 == 1;
     in_front = lengths.header;
+    ecn = lengths.service % 4;
     is_header_right = is_right (lengths.words + fields.words + words options);
     payload = payload;
   })
@@ -132,7 +136,7 @@ fragment_v6 = do
   front ← front_v6
   source ← address_v6
   destination ← address_v6
-  piece ← window front.0 (complete (piece_behind 16 front.1))
+  piece ← window front.len (complete (piece_behind 16 front.next))
   done (record {
     source = source;
     destination = destination;
@@ -140,7 +144,8 @@ fragment_v6 = do
     protocol = piece.next;
     offset = piece.offset / 8 * 8;
     has_more = piece.offset % 2 == 1;
-    in_front = front.0 - length piece.payload - 8;
+    in_front = front.len - length piece.payload - 8;
+    ecn = front.ecn;
     is_header_right = true;
     payload = piece.payload;
   })

@@ -9,6 +9,7 @@ use Rattle.capture.specs.declared.ip.Address.{Address as StoredAddress}
 use Rattle.capture.specs.declared.ip.Address.TheVariants as address
 use Rattle.capture.specs.declared.ip.IpDatagram.{IpDatagram as LentDatagram}
 use Rattle.capture.specs.declared.ip.FieldsV4.{FieldsV4 as LentFieldsV4}
+use Rattle.capture.specs.declared.ip.FrontV6.{FrontV6}
 use Rattle.capture.specs.declared.ip.LengthsV4.{LengthsV4 as StoredLengthsV4}
 use Rattle.capture.specs.declared.ip.Step.{Step}
 use Rattle.capture.specs.declared.ip.Step.TheVariants.{Next, Part, Last}
@@ -59,14 +60,17 @@ protected protocol = choose (protocol == 51) (skipped 4 >>= transport) (transpor
 unfoldable pub content_v4 : ℕ → ℕ → Layout Content
 content_v4 flags protocol = choose (is_fragment_v4 flags) (done Fragment) (protected protocol)
 
--- The lengths of a header and of its datagram, in bytes, and the sum of the words up to there.
+-- The lengths of a header and of its datagram, in bytes, the type of service, and the sum of the
+-- words up to there.
 pub record LengthsV4 : Type 0 where
   pub header : ℕ
+  pub service : ℕ
   pub total : ℕ
   pub words : ℕ
 
 abbrev pub view_lengths_v4 : StoredLengthsV4 → LengthsV4
-view_lengths_v4 l = record { header = l.header; total = l.total; words = l.words }
+view_lengths_v4 l =
+    record { header = l.header; service = l.service; total = l.total; words = l.words }
 
 -- Version, and the header's length in words of 4 bytes; type of service; total length (RFC 791,
 -- section 3.1). A total length of 0 comes from a datagram captured before the sender's network card
@@ -79,7 +83,12 @@ lengths_v4 = do
   service ← number 1
   total ← number 2
   test (total == 0 || nat_le (first % 16 * 4) total) LengthValue
-  done (record { header = first % 16 * 4; total = total; words = first * 256 + service + total })
+  done (record {
+    header = first % 16 * 4;
+    service = service;
+    total = total;
+    words = first * 256 + service + total;
+  })
 
 -- The further fields of a header, and the sum of their words.
 pub record FieldsV4 : Type 0 where
@@ -181,16 +190,16 @@ address_v6 = do
   done (V6 upper lower)
 
 -- Version, traffic class and flow label; payload length; next header; hop limit (RFC 8200, section
--- 3). The value is the payload length and the next header.
-unfoldable pub front_v6 : Layout (ℕ × ℕ)
+-- 3). The low two of the traffic class's 8 bits are the ECN field (RFC 3168, section 5).
+unfoldable pub front_v6 : Layout FrontV6
 front_v6 = do
   first ← number 1
   test (first / 16 == 6) Verify
-  block 3
+  flow ← number 3
   len ← number 2
   next ← number 1
   block 1
-  done (len, next)
+  done (record { len = len; next = next; ecn = flow / 1048576 % 4 })
 
 -- The payload, by the payload length and next header, with at most 16 extension headers. A length
 -- of 0 before TCP comes from a datagram captured before the sender's network card segmented it: it
@@ -206,7 +215,7 @@ ipv6 = do
   front ← front_v6
   source ← address_v6
   destination ← address_v6
-  content ← held_v6 front.0 front.1
+  content ← held_v6 front.len front.next
   done (record {
     source = source;
     destination = destination;

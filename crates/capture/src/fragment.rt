@@ -40,6 +40,9 @@ pub struct IpFragment<'a> {
     /// fragments, in bytes. In IPv4 this is the header with its options. In IPv6 it is the
     /// extension headers between the IPv6 header and the Fragment header.
     pub in_front: usize,
+    /// The ECN field, at most 3: the low two bits of the type of service or the traffic class (RFC
+    /// 3168, section 5).
+    pub ecn: u8,
     /// Whether the IPv4 header's checksum is correct; IPv6 has none.
     pub is_header_right: bool,
     /// The fragment's payload.
@@ -93,6 +96,7 @@ pub fn parse_fragment_v4(i: &[u8]) -> IResult<&[u8], IpFragment>
         offset: fields.flags % 8192 * 8,
         has_more: fields.flags / 8192 % 2 == 1,
         in_front: lengths.header,
+        ecn: lengths.service % 4,
         is_header_right: is_right(lengths.words + fields.words + sum_of(options)),
         payload,
     };
@@ -179,14 +183,13 @@ fn whole_piece(i: &[u8], next: u8) -> IResult<&[u8], Piece>
 pub fn parse_fragment_v6(i: &[u8]) -> IResult<&[u8], IpFragment>
     ensures { Gives view_fragment fragment_v6 i.now result }
 {
-    let (i, (len, next)) = parsed!(front_v6(i));
+    let (i, front) = parsed!(front_v6(i));
+    let len = front.len as usize;
     let (i, source) = parsed!(address_v6(i));
     let (i, destination) = parsed!(address_v6(i));
-    let (i, held) = parsed!(block(i, len as usize));
-    let (_, piece) = parsed!(whole_piece(held, next));
-    let in_front = (len as usize)
-        .saturating_sub(piece.payload.len())
-        .saturating_sub(8);
+    let (i, held) = parsed!(block(i, len));
+    let (_, piece) = parsed!(whole_piece(held, front.next));
+    let in_front = len.saturating_sub(piece.payload.len()).saturating_sub(8);
     let fragment = IpFragment {
         source,
         destination,
@@ -195,6 +198,7 @@ pub fn parse_fragment_v6(i: &[u8]) -> IResult<&[u8], IpFragment>
         offset: piece.offset / 8 * 8,
         has_more: piece.offset % 2 == 1,
         in_front,
+        ecn: front.ecn,
         is_header_right: true,
         payload: piece.payload,
     };

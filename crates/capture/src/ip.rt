@@ -15,7 +15,7 @@ use crate::checksum::{is_right, sum_of, words4};
 use crate::jumbo::payload_length;
 use crate::transport::{Content, TCP, transport};
 use layouts::{
-    Err, ErrorKind, IResult, block, number1, number2, number4, number8, parsed, refused,
+    Err, ErrorKind, IResult, block, number1, number2, number3, number4, number8, parsed, refused,
 };
 
 /// An IP address as big-endian numbers.
@@ -40,11 +40,12 @@ pub struct IpDatagram<'a> {
     pub content: Content<'a>,
 }
 
-/// The lengths of an IPv4 header and of its datagram, in bytes, and the sum of the 16-bit words up
-/// to there.
+/// The lengths of an IPv4 header and of its datagram, in bytes, the type of service, and the sum of
+/// the 16-bit words up to there.
 #[derive(Clone, Copy)]
 pub(crate) struct LengthsV4 {
     pub(crate) header: usize,
+    pub(crate) service: u8,
     pub(crate) total: usize,
     pub(crate) words: u64,
 }
@@ -62,6 +63,17 @@ pub(crate) struct FieldsV4 {
     pub(crate) destination: u32,
     /// The sum of the 16-bit words.
     pub(crate) words: u64,
+}
+
+/// Fields of the first 8 bytes of an IPv6 header.
+#[derive(Clone, Copy)]
+pub(crate) struct FrontV6 {
+    /// The payload length.
+    pub(crate) len: u16,
+    /// The number of the next header.
+    pub(crate) next: u8,
+    /// The ECN field.
+    pub(crate) ecn: u8,
 }
 
 /// What follows an IPv6 header.
@@ -148,6 +160,7 @@ pub(crate) fn lengths_v4(i: &[u8]) -> IResult<&[u8], LengthsV4>
     }
     let lengths = LengthsV4 {
         header,
+        service,
         total: total as usize,
         words: u64::from(first) * 256 + u64::from(service) + u64::from(total),
     };
@@ -345,20 +358,21 @@ pub(crate) fn address_v6(i: &[u8]) -> IResult<&[u8], Address>
     Ok((i, Address::V6(upper, lower)))
 }
 
-/// Parses the first 8 bytes of an IPv6 header: returns the payload length and the next header.
+/// Parses the first 8 bytes of an IPv6 header.
 #[inline]
-pub(crate) fn front_v6(i: &[u8]) -> IResult<&[u8], (u16, u8)>
+pub(crate) fn front_v6(i: &[u8]) -> IResult<&[u8], FrontV6>
     ensures { Gives (λ v. v) front_v6_layout i.now result }
 {
     let (i, first) = parsed!(number1(i));
     if first / 16 != 6 {
         return refused(i, ErrorKind::Verify);
     }
-    let (i, _) = parsed!(block(i, 3));
+    let (i, flow) = parsed!(number3(i));
     let (i, len) = parsed!(number2(i));
     let (i, next) = parsed!(number1(i));
     let (i, _) = parsed!(block(i, 1));
-    Ok((i, (len, next)))
+    let ecn = (flow / 1_048_576 % 4) as u8;
+    Ok((i, FrontV6 { len, next, ecn }))
 }
 
 /// Parses the content of an IPv6 datagram, by the payload length and next header of its header.
@@ -395,10 +409,10 @@ fn held_v6(i: &[u8], len: u16, next: u8) -> IResult<&[u8], Content>
 pub fn parse_ipv6(i: &[u8]) -> IResult<&[u8], IpDatagram>
     ensures { Gives view_datagram ipv6 i.now result }
 {
-    let (i, (len, next)) = parsed!(front_v6(i));
+    let (i, front) = parsed!(front_v6(i));
     let (i, source) = parsed!(address_v6(i));
     let (i, destination) = parsed!(address_v6(i));
-    let (i, content) = parsed!(held_v6(i, len, next));
+    let (i, content) = parsed!(held_v6(i, front.len, front.next));
     let datagram = IpDatagram {
         source,
         destination,
