@@ -35,7 +35,7 @@ of_server (Some s) = plus (plus (vec_capacity s.random) (of_bytes s.session_id))
 -- The vectors of a summary.
 abbrev pub of_handshake : HandshakeSummary → ℕ
 of_handshake h =
-    plus (plus (plus (plus (plus (plus (of_client h.client) (of_server h.server))
+    plus (plus (plus (plus (plus (plus (plus (of_client h.client) (of_server h.server))
     (of_chain h.client_certificates)) (of_chain h.server_certificates))
     (of_bytes h.client_certificate)) (of_bytes h.server_certificate))
-    (of_bytes h.ssl2_cipher_specs)
+    (of_bytes h.ocsp_response)) (of_bytes h.ssl2_cipher_specs)

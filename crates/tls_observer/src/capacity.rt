@@ -68,5 +68,6 @@ pub fn of_handshake(handshake: &HandshakeSummary) -> usize
         .saturating_add(of_chain(&handshake.server_certificates))
         .saturating_add(of_bytes(&handshake.client_certificate))
         .saturating_add(of_bytes(&handshake.server_certificate))
+        .saturating_add(of_bytes(&handshake.ocsp_response))
         .saturating_add(of_bytes(&handshake.ssl2_cipher_specs))
 }

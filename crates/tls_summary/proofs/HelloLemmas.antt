@@ -4,7 +4,7 @@ use Rattle.std.specs.Prelude.{if◌then◌else◌, is_some}
 use Rattle.layouts.specs.Bytes.{Bytes}
 use Rattle.layouts.specs.Meaning.{Answer}
 use Rattle.layouts.specs.Reading.{reading}
-use Rattle.tls_hs.specs.Certificate.{certificate}
+use Rattle.tls_hs.specs.Certificate.{CertificateStatus, certificate, certificate_status}
 use Rattle.tls_hs.specs.Handshake as handshakes
 use Rattle.tls_hs.specs.Hello as client
 use Rattle.tls_hs.specs.ServerHello as server
@@ -40,6 +40,7 @@ use Rattle.tls_summary.specs.HandshakeSummary.{
   of_server_hello,
   of_ssl2,
   retried,
+  stapled,
   ticketed,
   verified,
 }
@@ -145,6 +146,11 @@ ticketed_keeps : (s : Side) (b : Bytes) (f : HandshakeSummary) → KeepsHellos s
 ticketed_keeps ToServer b f = beside ToServer f (ticketed ToServer b f) refl refl refl
 ticketed_keeps FromServer b f = beside FromServer f (ticketed FromServer b f) refl refl refl
 
+stapled_keeps : (s : Side) (a : Answer CertificateStatus) (f : HandshakeSummary)
+    → KeepsHellos s f (stapled s a f)
+stapled_keeps ToServer a f = beside ToServer f (stapled ToServer a f) refl refl refl
+stapled_keeps FromServer a f = beside FromServer f (stapled FromServer a f) refl refl refl
+
 other_keeps : (s : Side) (n : ℕ) (b : Bytes) (f : HandshakeSummary)
     → KeepsHellos s f (of_other s n b f)
 other_keeps s n b f =
@@ -154,7 +160,7 @@ other_keeps s n b f =
     (if_keeps s f (n == 12) _ _ (exchanged_keeps s b f)
     (if_keeps s f (n == 13) _ _
     (beside s f (record f { requests_certificate = true }) refl refl refl)
-    (if_keeps s f (n == 22) _ _ (beside s f (record f { has_status = true }) refl refl refl)
+    (if_keeps s f (n == 22) _ _ (stapled_keeps s (reading certificate_status b) f)
     (stays s f))))))
 
 client_hello_keeps : (s : Side) (a : Answer client.ClientHello) (f : HandshakeSummary)

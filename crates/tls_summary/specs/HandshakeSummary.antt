@@ -7,7 +7,7 @@ use Rattle.layouts.specs.Meaning.{Answer}
 use Rattle.layouts.specs.Reading.{reading}
 use Rattle.layouts.specs.Text.{held}
 use Rattle.ssl2_hello.specs.ClientHello as ssl2
-use Rattle.tls_hs.specs.Certificate.{certificate}
+use Rattle.tls_hs.specs.Certificate.{CertificateStatus, certificate, certificate_status}
 use Rattle.tls_hs.specs.Handshake as handshakes
 use Rattle.tls_hs.specs.Hello as client
 use Rattle.tls_hs.specs.ServerHello as server
@@ -21,7 +21,7 @@ use Rattle.tls_summary.specs.ChainOrder.{chain_order}
 use Rattle.tls_summary.specs.Encrypted.{encrypted_client_hello}
 use Rattle.tls_summary.specs.Exchange.{curve_by, prime_bits_by}
 use Rattle.tls_summary.specs.Hellos.{has, share_group_in, value_in}
-use Rattle.tls_summary.specs.Parts.{summaries_of_all, first_of, view_client, view_server}
+use Rattle.tls_summary.specs.Parts.{summaries_of_all, first_of, ocsp_response_in, view_client, view_server}
 use Rattle.tls_summary.specs.declared.summary.HandshakeSummary as rust
 use Rattle.tls_summary.specs.declared.parts.CertificateSummary.{CertificateSummary}
 
@@ -48,6 +48,8 @@ pub record HandshakeSummary : Type 0 where
   pub requests_certificate : Bool
   pub has_status : Bool
   pub has_ticket : Bool
+  -- the OCSP response in the server's CertificateStatus
+  pub ocsp_response : Option Bytes
   -- the lifetime in the server's last NewSessionTicket, in seconds
   pub ticket_lifetime_hint : Option ℕ
   -- whether a ClientHello that another one replaced had encrypted_client_hello
@@ -74,6 +76,7 @@ view_summary f = record {
   requests_certificate = f.requests_certificate;
   has_status = f.has_status;
   has_ticket = f.has_ticket;
+  ocsp_response = option_map (λ v. v.items) f.ocsp_response;
   ticket_lifetime_hint = f.ticket_lifetime_hint;
   had_encrypted_hello = f.had_encrypted_hello;
   last_alert = option_map (λ a. a.0) f.last_alert;
@@ -98,6 +101,7 @@ nothing = record {
   requests_certificate = false;
   has_status = false;
   has_ticket = false;
+  ocsp_response = None;
   ticket_lifetime_hint = None;
   had_encrypted_hello = false;
   last_alert = None;
@@ -233,6 +237,17 @@ abbrev pub certified : Side → Answer (List Bytes) → HandshakeSummary → Han
 certified s (Ok x) f = with_chain s (summaries_of_all x.0) (first_of x.0) (chain_order x.0) f
 certified s (Err e) f = f
 
+-- The response in the server's CertificateStatus (RFC 6066, section 8): the first one is kept, as it
+-- is. Only the server sends one.
+abbrev pub first_response : Option Bytes → Answer CertificateStatus → Option Bytes
+first_response (Some response) a = Some response
+first_response None a = ocsp_response_in a
+
+abbrev pub stapled : Side → Answer CertificateStatus → HandshakeSummary → HandshakeSummary
+stapled ToServer a f = record f { has_status = true }
+stapled FromServer a f =
+    record f { has_status = true; ocsp_response = first_response f.ocsp_response a }
+
 -- A NewSessionTicket begins with the ticket's lifetime, in 4 bytes (RFC 5077, section 3.3). Only
 -- the server sends one.
 abbrev pub ticketed : Side → Bytes → HandshakeSummary → HandshakeSummary
@@ -250,7 +265,7 @@ of_other s n b f =
     else if n == 11 then certified s (reading certificate b) f
     else if n == 12 then exchanged b f
     else if n == 13 then record f { requests_certificate = true }
-    else if n == 22 then record f { has_status = true }
+    else if n == 22 then stapled s (reading certificate_status b) f
     else f
 
 abbrev pub of_client_hello : Side → Answer client.ClientHello → HandshakeSummary → HandshakeSummary

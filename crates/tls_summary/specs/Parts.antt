@@ -1,5 +1,5 @@
 -- The stored parts of a connection's hellos and certificates.
-use Rattle.std.specs.Prelude.{List, [], ◌∷◌, map, length, Option, Some, None, Ok, Err}
+use Rattle.std.specs.Prelude.{List, [], ◌∷◌, ◌==◌, if◌then◌else◌, map, length, Option, Some, None, Ok, Err}
 use Rattle.std.specs.Option.{option_map}
 use Rattle.sha2.specs.Sha256.{sha256}
 use Rattle.layouts.specs.Bytes.{Bytes}
@@ -7,6 +7,7 @@ use Rattle.layouts.specs.Layout.{number}
 use Rattle.layouts.specs.Items.{items_in}
 use Rattle.layouts.specs.Meaning.{Answer, Broken, Lacks}
 use Rattle.layouts.specs.Reading.{reading}
+use Rattle.tls_hs.specs.Certificate.{CertificateStatus}
 use Rattle.tls_hs.specs.Hello as hello
 use Rattle.tls_hs.specs.ServerHello as server
 use Rattle.x509.specs.Certificate.{Certificate, certificate}
@@ -52,6 +53,11 @@ summary_of_certificate b =
 -- The length and the SHA-256 of each certificate, in order, and why it doesn't parse.
 abbrev pub summaries_of_all : List Bytes → List CertificateSummary
 summaries_of_all chain = map summary_of_certificate chain
+
+-- The OCSPResponse in a CertificateStatus, whose type is ocsp, 1 (RFC 6066, section 8).
+abbrev pub ocsp_response_in : Answer CertificateStatus → Option Bytes
+ocsp_response_in (Ok x) = if x.0.status_type == 1 then Some x.0.response else None
+ocsp_response_in (Err e) = None
 
 -- The first of a chain, which is the sender's end-entity certificate.
 abbrev pub first_of : List Bytes → Option Bytes

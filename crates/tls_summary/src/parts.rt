@@ -4,11 +4,12 @@ ghost use Rattle.std.specs.Option.{option_map};
 ghost use Rattle.layouts.specs.Items.{items_in};
 ghost use Rattle.layouts.specs.Layout.{counted};
 ghost use Rattle.tls_hs.specs.InPlace.{view_client_hello_in_place};
+ghost use Rattle.tls_hs.specs.Certificate.{certificate_status};
 ghost use Rattle.tls_hs.specs.ServerHello.{view_server_hello};
 ghost use Rattle.layouts.specs.Reading.{reading};
 ghost use Rattle.x509.specs.Certificate.{certificate};
 ghost use Rattle.tls_summary.specs.ChainOrder.{chain_order, facts_of};
-ghost use Rattle.tls_summary.specs.Parts.{summaries_of_all, fault_by, first_of, view_client, view_server};
+ghost use Rattle.tls_summary.specs.Parts.{summaries_of_all, fault_by, first_of, ocsp_response_in as ocsp_response_of, view_client, view_server};
 
 use crate::certificate_cache::CertificateCache;
 use crate::chain_order::{Order, places_of};
@@ -16,8 +17,14 @@ use layouts::{Err, ErrorKind, Items};
 use sha2::{Digest, Sha256};
 use std::alloc::{AllocError, Global};
 use tls_base::{TlsCipherSuiteID, TlsCompressionID, TlsVersion};
-use tls_hs::{ClientHelloView, RawCertificate, TlsServerHelloContents};
+use tls_hs::{
+    ClientHelloView, RawCertificate, TlsServerHelloContents,
+    parse_tls_handshake_certificatestatus,
+};
 use x509::{NamePlaces, parse_certificate};
+
+/// The CertificateStatusType of an OCSP response (RFC 6066, section 8).
+const STATUS_TYPE_OCSP: u8 = 1;
 
 /// The fields of a ClientHello (RFC 8446, section 4.1.2).
 #[derive(Debug, PartialEq, Drop)]
@@ -93,7 +100,7 @@ pub(crate) fn copied(alloc: Global, bytes: &[u8]) -> Result<Vec<u8>, AllocError>
 }
 
 /// A copy of the bytes, if there are any.
-fn copied_if(alloc: Global, bytes: Option<&[u8]>) -> Result<Option<Vec<u8>>, AllocError>
+pub(crate) fn copied_if(alloc: Global, bytes: Option<&[u8]>) -> Result<Option<Vec<u8>>, AllocError>
     ensures { IfOk result (λ v. option_map (λ x. x.items) v ≡ option_map (λ x. x.now) bytes.entry) }
 {
     match bytes {
@@ -148,6 +155,22 @@ pub fn certificate_fault(bytes: &[u8]) -> Option<CertificateFault>
             Some(CertificateFault::Broken(error.code))
         }
         Err(_) => Some(CertificateFault::Incomplete),
+    }
+}
+
+/// The OCSP response in the body of a CertificateStatus (RFC 6066, section 8), as it came; `None` if
+/// the status is of another type or doesn't parse.
+pub(crate) fn ocsp_response_in<'a>(body: &'a [u8]) -> Option<&'a [u8]>
+    ensures { option_map (λ x. x.now) result ≡ ocsp_response_of
+        (reading certificate_status body.now) }
+{
+    let Ok((_, status)) = parse_tls_handshake_certificatestatus(body) else {
+        return None;
+    };
+    if status.status_type == STATUS_TYPE_OCSP {
+        Some(status.blob)
+    } else {
+        None
     }
 }
 

@@ -4,17 +4,20 @@ ghost use Rattle.std.specs.Option.{option_map};
 ghost use Rattle.tls_hs.specs.InPlace.{view_client_hello_in_place};
 ghost use Rattle.tls_hs.specs.Handshake.{view_handshake};
 ghost use Rattle.tls_hs.specs.ServerHello.{view_server_hello, view_server_hello_draft18};
-ghost use Rattle.tls_summary.specs.HandshakeSummary.{asked, asked_in_ssl2, certified, chosen, exchanged, has_asked as has_asked_in, is_stray as is_stray_in, nothing, of_alert, of_bytes, of_datagram_client_hello, of_datagram_message, of_datagrams, of_draft, of_message, of_other, of_server_hello, retried, ticketed, verified, view_summary, with_chain};
+ghost use Rattle.tls_summary.specs.HandshakeSummary.{asked, asked_in_ssl2, certified, chosen, exchanged, has_asked as has_asked_in, is_stray as is_stray_in, nothing, of_alert, of_bytes, of_datagram_client_hello, of_datagram_message, of_datagrams, of_draft, of_message, of_other, of_server_hello, retried, stapled, ticketed, verified, view_summary, with_chain};
 ghost use Rattle.ssl2_hello.specs.ClientHello.{view_client_hello as view_ssl2_hello};
 ghost use Rattle.layouts.specs.Reading.{reading};
-ghost use Rattle.tls_hs.specs.Certificate.{certificate};
+ghost use Rattle.tls_hs.specs.Certificate.{certificate, certificate_status};
 ghost use Rattle.tls_flow.specs.Bytes.{view_handshake_message};
 ghost use Rattle.dtls_records.specs.DtlsHello.{client_hello as datagram_client_hello};
 
 use crate::certificate_cache::CertificateCache;
 use crate::exchange::{curve_of, prime_bits_of};
 use crate::hellos::{first_number, group_of_share};
-use crate::parts::{CertificateSummary, Chain, ClientParts, ServerParts, chain_of, copied};
+use crate::parts::{
+    CertificateSummary, Chain, ClientParts, ServerParts, chain_of, copied, copied_if,
+    ocsp_response_in,
+};
 use dtls_records::DTLSClientHelloView;
 use ssl2_hello::Ssl2ClientHello;
 use std::alloc::{AllocError, Global};
@@ -68,6 +71,9 @@ pub struct HandshakeSummary {
     pub requests_certificate: bool,
     /// Whether a CertificateStatus came (RFC 6066, section 8).
     pub has_status: bool,
+    /// The OCSP response in the server's first CertificateStatus that holds one, as it came: it may
+    /// be no response at all (RFC 6066, section 8). TLS 1.3 encrypts it.
+    pub ocsp_response: Option<Vec<u8>>,
     /// Whether a NewSessionTicket came (RFC 5077, section 3.3).
     pub has_ticket: bool,
     /// The lifetime of the ticket in the server's last NewSessionTicket, in seconds; 0 leaves it
@@ -118,6 +124,7 @@ impl HandshakeSummary {
             is_retried: false,
             requests_certificate: false,
             has_status: false,
+            ocsp_response: None,
             has_ticket: false,
             ticket_lifetime_hint: None,
             had_encrypted_hello: false,
@@ -300,6 +307,24 @@ impl HandshakeSummary {
         }
     }
 
+    /// Records a CertificateStatus of this side.
+    fn note_status(
+        &mut self,
+        alloc: Global,
+        side: Direction,
+        body: &[u8],
+    ) -> Result<(), AllocError>
+        ensures { OnOk result
+            (view_summary self.new ≡ stapled side (reading certificate_status body.now)
+            (view_summary self.old)) }
+    {
+        if side == Direction::FromServer && self.ocsp_response.is_none() {
+            self.ocsp_response = copied_if(alloc, ocsp_response_in(body))?;
+        }
+        self.has_status = true;
+        Ok(())
+    }
+
     /// Stores a side's chain in place of an earlier one.
     fn keep_chain(&mut self, side: Direction, chain: Chain)
         ensures { view_summary self.new ≡ with_chain side chain.summaries.items
@@ -362,7 +387,7 @@ impl HandshakeSummary {
             TlsHandshakeType::Certificate => self.note_certificates(alloc, side, body, known)?,
             TlsHandshakeType::ServerKeyExchange => self.note_key_exchange(body),
             TlsHandshakeType::CertificateRequest => self.requests_certificate = true,
-            TlsHandshakeType::CertificateStatus => self.has_status = true,
+            TlsHandshakeType::CertificateStatus => self.note_status(alloc, side, body)?,
             _ => {}
         }
         Ok(())
