@@ -18,8 +18,7 @@ use sha2::{Digest, Sha256};
 use std::alloc::{AllocError, Global};
 use tls_base::{TlsCipherSuiteID, TlsCompressionID, TlsVersion};
 use tls_hs::{
-    ClientHelloView, RawCertificate, TlsServerHelloContents,
-    parse_tls_handshake_certificatestatus,
+    ClientHelloView, RawCertificate, TlsServerHelloContents, parse_tls_handshake_certificatestatus,
 };
 use x509::{NamePlaces, parse_certificate};
 

@@ -308,12 +308,7 @@ impl HandshakeSummary {
     }
 
     /// Records a CertificateStatus of this side.
-    fn note_status(
-        &mut self,
-        alloc: Global,
-        side: Direction,
-        body: &[u8],
-    ) -> Result<(), AllocError>
+    fn note_status(&mut self, alloc: Global, side: Direction, body: &[u8]) -> Result<(), AllocError>
         ensures { OnOk result
             (view_summary self.new ≡ stapled side (reading certificate_status body.now)
             (view_summary self.old)) }
