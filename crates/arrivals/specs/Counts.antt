@@ -67,6 +67,7 @@ nothing_counted = record {
   other_end = 0;
   empty = 0;
   overlapping = 0;
+  mixed_ecn = 0;
   late = 0;
   evicted = 0;
   cut_short = 0;
@@ -110,6 +111,7 @@ with_refusal refusal.Uneven c = record c { uneven = one_more c.uneven }
 with_refusal refusal.OtherEnd c = record c { other_end = one_more c.other_end }
 with_refusal refusal.Empty c = record c { empty = one_more c.empty }
 with_refusal refusal.Overlap c = record c { overlapping = one_more c.overlapping }
+with_refusal refusal.MixedEcn c = record c { mixed_ecn = one_more c.mixed_ecn }
 
 abbrev pub with_refused : FragmentOutcome → Counts → Counts
 with_refused (outcome.Whole d) c = c

@@ -65,43 +65,52 @@ pub record IsDatagram (checked : Checksums) (at : ℕ) (d : Datagram) (u : UserD
   pub checksum : g.checksum ≡ counted_as checked (checksum_of d)
   pub payload : g.payload.now ≡ u.payload
 
--- A packet's network. If VLANs count, it is the packet's VLANs and all of its tunnels.
-abbrev pub IsNetwork : Packet → Tunnels → Bool → Network → Type 0
-IsNetwork p tunnels false network = IsOfTunnels tunnels network
-IsNetwork p tunnels true network =
-    (found_in network.vlans ≡ vlans_of p.link_type p.bytes) × (network.tunnels ≡ tunnels)
+-- A packet's VLANs, and its network. If VLANs count, it is these and all of its tunnels.
+abbrev pub vlans_in : Packet → List ℕ
+vlans_in p = vlans_of p.link_type p.bytes
+
+abbrev pub IsNetwork : List ℕ → Tunnels → Bool → Network → Type 0
+IsNetwork vlans tunnels false network = IsOfTunnels tunnels network
+IsNetwork vlans tunnels true network =
+    (found_in network.vlans ≡ vlans) × (network.tunnels ≡ tunnels)
 
 -- If VLANs don't count, a packet in no tunnel has no network.
 abbrev pub has_network : Tunnels → Bool → Bool
 has_network tunnels by_vlans = by_vlans || not (length (listed tunnels) == 0)
 
--- The number of a packet's network, and the networks behind it.
-abbrev pub IsNumberedIf : Bool → Packet → Tunnels → Bool → Numbering → Option Numbering → ℕ
-    → Type 0
-IsNumberedIf false p tunnels by_vlans t new n = (new ≡ Some t) × (n ≡ 0)
-IsNumberedIf true p tunnels by_vlans t new n =
-    (network : Network) × IsNetwork p tunnels by_vlans network
-    × (new ≡ Some (with_packet network t)) × (n ≡ number_of network t)
+-- A network's number, and the networks behind its packet. It is 0 if networks aren't told apart.
+abbrev pub IsNumberOf : Network → Option Numbering → Option Numbering → ℕ → Type 0
+IsNumberOf network None new n = (new ≡ None) × (n ≡ 0)
+IsNumberOf network (Some t) new n = (new ≡ Some (with_packet network t)) × (n ≡ number_of network t)
 
--- It is 0 if the packet has none, or networks aren't told apart.
-abbrev pub IsNumbered : Packet → Tunnels → Bool → Option Numbering → Option Numbering → ℕ → Type 0
-IsNumbered p tunnels by_vlans None new n = (new ≡ None) × (n ≡ 0)
-IsNumbered p tunnels by_vlans (Some t) new n =
-    IsNumberedIf (has_network tunnels by_vlans) p tunnels by_vlans t new n
+-- The number of a packet's network. It is 0 if the packet has none.
+abbrev pub IsNumberedIf : Bool → List ℕ → Tunnels → Bool → Numbering → Option Numbering → ℕ
+    → Type 0
+IsNumberedIf false vlans tunnels by_vlans t new n = (new ≡ Some t) × (n ≡ 0)
+IsNumberedIf true vlans tunnels by_vlans t new n =
+    (network : Network) × IsNetwork vlans tunnels by_vlans network
+    × IsNumberOf network (Some t) new n
+
+abbrev pub IsNumbered : List ℕ → Tunnels → Bool → Option Numbering → Option Numbering → ℕ → Type 0
+IsNumbered vlans tunnels by_vlans None new n = (new ≡ None) × (n ≡ 0)
+IsNumbered vlans tunnels by_vlans (Some t) new n =
+    IsNumberedIf (has_network tunnels by_vlans) vlans tunnels by_vlans t new n
 
 -- A packet with this segment or datagram is logged.
 pub record ReadsSegment (p : Packet) (d : Datagram) (t : TcpHeader) (old new : ArrivalReader)
     (s : Segment) : Type 0 where
   pub is : IsSegment old.checksums p.time d t s
   pub logged : is_logged old.part Tcp s.source s.destination ≡ true
-  pub network : IsNumbered p old.tunnels old.counts_vlans old.networks new.networks s.network
+  pub network :
+      IsNumbered (vlans_in p) old.tunnels old.counts_vlans old.networks new.networks s.network
   pub same : new ≡ record old { networks = new.networks }
 
 pub record ReadsDatagram (p : Packet) (d : Datagram) (u : UserDatagram) (old new : ArrivalReader)
     (g : UdpArrival) : Type 0 where
   pub is : IsDatagram old.checksums p.time d u g
   pub logged : is_logged old.part Udp g.source g.destination ≡ true
-  pub network : IsNumbered p old.tunnels old.counts_vlans old.networks new.networks g.network
+  pub network :
+      IsNumbered (vlans_in p) old.tunnels old.counts_vlans old.networks new.networks g.network
   pub same : new ≡ record old { networks = new.networks }
 
 -- One of connections that aren't logged is counted.

@@ -44,6 +44,8 @@ pub struct Counts {
     pub empty: u64,
     /// Datagrams that were dropped for fragments that overlap.
     pub overlapping: u64,
+    /// Datagrams that were dropped for fragments with and without support of ECN.
+    pub mixed_ecn: u64,
     /// Datagrams that were dropped with fragments missing for 30 seconds, in IPv6 60.
     pub late: u64,
     /// Datagrams that were dropped with fragments missing, since there was no more room.
@@ -144,6 +146,7 @@ impl Counts {
             other_end: 0,
             empty: 0,
             overlapping: 0,
+            mixed_ecn: 0,
             late: 0,
             evicted: 0,
             cut_short: 0,
@@ -174,6 +177,7 @@ impl Counts {
             FragmentRefusal::OtherEnd => add_one(&mut self.other_end),
             FragmentRefusal::Empty => add_one(&mut self.empty),
             FragmentRefusal::Overlap => add_one(&mut self.overlapping),
+            FragmentRefusal::MixedEcn => add_one(&mut self.mixed_ecn),
         }
     }
 
@@ -203,11 +207,11 @@ impl Counts {
     }
 
     /// Returns what was left out: the count, the noun and the reason.
-    fn left_out(&self) -> [LeftOut; 17]
+    fn left_out(&self) -> [LeftOut; 18]
         ensures { map (λ row. row.0) result ≡ self.now.unread ∷ self.now.other_protocols
             ∷ self.now.damaged ∷ self.now.other_parts ∷ self.now.too_long ∷ self.now.uneven
-            ∷ self.now.other_end ∷ self.now.empty ∷ self.now.overlapping ∷ self.now.late
-            ∷ self.now.evicted ∷ self.now.cut_short ∷ self.now.in_too_many_tunnels
+            ∷ self.now.other_end ∷ self.now.empty ∷ self.now.overlapping ∷ self.now.mixed_ecn
+            ∷ self.now.late ∷ self.now.evicted ∷ self.now.cut_short ∷ self.now.in_too_many_tunnels
             ∷ self.now.stray_segments ∷ self.now.gaps ∷ self.now.ended_early
             ∷ unexplained_in self.now ∷ [] }
     {
@@ -237,6 +241,11 @@ impl Counts {
             ),
             (self.empty, "datagram", "with an empty fragment"),
             (self.overlapping, "datagram", "with overlapping fragments"),
+            (
+                self.mixed_ecn,
+                "datagram",
+                "with fragments that contradict each other's ECN field",
+            ),
             (self.late, "datagram", "that were incomplete too long"),
             (
                 self.evicted,

@@ -5,24 +5,26 @@ ghost use Rattle.capture.specs.Fragment.{view_fragment};
 ghost use Rattle.capture.specs.Ip.{view_datagram};
 ghost use Rattle.packets.specs.Section.{view_packet};
 ghost use Rattle.arrivals.specs.Arrival.{time_of};
-ghost use Rattle.arrivals.specs.Fragments.{counting_cut, datagram_of as datagram_of_whole, fragment_in as fragment_in_packet, fragment_inside, header_counted as header_counted_by, Joins, JoinsOne, LeavesOutFound, LeavesOutOne, ReadsWhole};
+ghost use Rattle.arrivals.specs.Fragments.{counting_cut, datagram_of as datagram_of_whole, fragment_in as fragment_in_packet, fragment_inside, header_counted as header_counted_by, inner_fragment, Joins, JoinsOne, LeavesOutFound, LeavesOutOne, ReadsWhole};
 
 use crate::arrival::{Arrival, Checksums};
 use crate::counts::add_one;
 use crate::reader::ArrivalReader;
-use capture::{IpDatagram, IpFragment, parse_joined};
+use capture::{IpDatagram, IpFragment, VlanTags, parse_joined};
 use ip_fragments::{FragmentOutcome, ReassembledDatagram};
 use packets::Packet;
 use std::alloc::AllocError;
 use std::mem;
-use tunnels::{Inside, Tunnels, fragment_in, innermost_fragment, inside_of};
+use tunnels::{Inside, Tunnels, fragment_in, innermost_fragment, inside_of, vlan_tags};
 
 /// A reassembled datagram.
 #[derive(Drop)]
 pub struct CompletedDatagram {
     whole: ReassembledDatagram,
-    // The capture time of its last fragment, and the tunnels around that.
+    // The capture time of its last fragment, the VLANs of that one's packet, and the tunnels around
+    // it.
     time: u64,
+    vlans: VlanTags,
     tunnels: Tunnels,
 }
 
@@ -47,7 +49,7 @@ impl CompletedDatagram {
 
     /// Returns the fragment in the datagram, behind a tunnel; `None` if there is none.
     fn fragment(&self) -> Option<IpFragment<'_>>
-        ensures { option_map view_fragment result ≡ fragment_inside self.now }
+        ensures { option_map view_fragment result ≡ inner_fragment self.now }
     {
         match self.datagram() {
             Some(datagram) => fragment_in(datagram, &self.tunnels),
@@ -75,23 +77,25 @@ fn header_counted<'a>(checksums: Checksums, fragment: &IpFragment<'a>) -> IpFrag
 }
 
 impl ArrivalReader {
-    /// Adds a fragment, captured at `time` in these tunnels, to its datagram. Returns the datagram
-    /// once it is complete.
+    /// Adds a fragment, captured at `time` in the last packet's tunnels and these VLANs, to its
+    /// datagram. Returns the datagram once it is complete.
     fn join_fragment(
         &mut self,
         time: u64,
-        tunnels: Tunnels,
+        vlans: VlanTags,
         fragment: &IpFragment<'_>,
     ) -> Result<Option<CompletedDatagram>, AllocError>
-        ensures joins { IfOk result (JoinsOne time tunnels fragment.now self.old self.new) }
-        ensures err { OnErr result (LeavesOutOne time fragment.now self.old self.new) }
+        ensures joins { IfOk result (JoinsOne time vlans fragment.now self.old self.new) }
+        ensures err { OnErr result (LeavesOutOne time vlans fragment.now self.old self.new) }
     {
+        let network = self.network_by_vlans(vlans)?;
         let counted = header_counted(self.checksums, fragment);
-        match self.fragments.add(time, &counted)? {
+        match self.fragments.add(time, network, &counted)? {
             FragmentOutcome::Whole(whole) => Ok(Some(CompletedDatagram {
                 whole,
                 time,
-                tunnels,
+                vlans,
+                tunnels: self.tunnels,
             })),
             FragmentOutcome::Waits => Ok(None),
             FragmentOutcome::Refused(refusal) => {
@@ -104,7 +108,8 @@ impl ArrivalReader {
     /// Adds the fragment in a packet without an arrival to its datagram. Returns the datagram once
     /// it is complete, or `None` if the packet has no fragment.
     ///
-    /// `AllocError` if there is no memory for the fragment. It is left out then.
+    /// `AllocError` if there is no memory for the fragment, or for the number of its network. It is
+    /// left out then.
     pub fn join(&mut self, packet: Packet<'_>) -> Result<Option<CompletedDatagram>, AllocError>
         ensures joins { IfOk result (Joins self.old.is_cut packet.entry.time
             (fragment_in_packet (view_packet packet.entry)) self.old self.new) }
@@ -115,7 +120,10 @@ impl ArrivalReader {
             return Ok(None);
         }
         match innermost_fragment(packet.bytes, packet.link_type) {
-            Some(fragment) => self.join_fragment(packet.time, self.tunnels, &fragment),
+            Some(fragment) => {
+                let vlans = vlan_tags(packet.bytes, packet.link_type);
+                self.join_fragment(packet.time, vlans, &fragment)
+            }
             None => {
                 add_one(&mut self.counts.unread);
                 Ok(None)
@@ -150,6 +158,8 @@ impl ArrivalReader {
 
     /// Adds the fragment in a reassembled datagram without an arrival to its own datagram. Returns
     /// that once it is complete, or `None` if there is no fragment.
+    ///
+    /// `AllocError` as in [`ArrivalReader::join`].
     pub fn join_inner(
         &mut self,
         joined: &CompletedDatagram,
@@ -163,7 +173,7 @@ impl ArrivalReader {
             return Ok(None);
         }
         match joined.fragment() {
-            Some(fragment) => self.join_fragment(joined.time, self.tunnels, &fragment),
+            Some(fragment) => self.join_fragment(joined.time, joined.vlans, &fragment),
             None => {
                 add_one(&mut self.counts.unread);
                 Ok(None)

@@ -1,17 +1,18 @@
 //! Finds the segment or datagram of each packet.
 ghost use Rattle.std.specs.Prelude.{◌≡◌, true, if◌then◌else◌, is_some, IfNone, IfOk, IfSome, None, OnErr, Some};
 ghost use Rattle.capture.specs.Ip.{view_datagram};
+ghost use Rattle.capture.specs.Vlan.{found_in};
 ghost use Rattle.capture.specs.Transport.{view_segment, view_datagram as view_user_datagram};
 ghost use Rattle.capture.specs.Transport as content;
 ghost use Rattle.packets.specs.Section.{view_packet};
 ghost use Rattle.tunnels.specs.Walk.{view_inside, Held};
 ghost use Rattle.arrivals.specs.Arrival.{is_logged, time_of};
 ghost use Rattle.arrivals.specs.Counts.{with_other_part, with_packet_counted};
-ghost use Rattle.arrivals.specs.Reader.{has_network as has_network_by, IsNetwork, IsNew, IsNumbered, Reads, ReadsContent, ReadsInside};
+ghost use Rattle.arrivals.specs.Reader.{has_network as has_network_by, vlans_in, IsNetwork, IsNew, IsNumberOf, IsNumbered, Reads, ReadsContent, ReadsInside};
 
 use crate::arrival::{Arrival, Checksums, checksum_of, datagram_of, end, segment_of};
 use crate::counts::{Counts, add_one};
-use capture::{Content, TcpSegment, UdpDatagram};
+use capture::{Content, TcpSegment, UdpDatagram, VlanTags};
 use connection_parts::Part;
 use connections::{End, Protocol};
 use ip_fragments::FragmentTable;
@@ -94,18 +95,28 @@ impl ArrivalReader {
         self.counts_vlans || !self.tunnels.is_empty()
     }
 
-    /// Returns the last packet's network.
-    fn network_of(&self, packet: Packet<'_>) -> Network
-        ensures { IsNetwork (view_packet packet.entry) self.now.tunnels self.now.counts_vlans
-            result }
+    /// Returns the last packet's network, by these VLANs.
+    fn network_in(&self, vlans: VlanTags) -> Network
+        ensures { IsNetwork (found_in vlans) self.now.tunnels self.now.counts_vlans result }
     {
         if !self.counts_vlans {
             return Network::of_tunnels(&self.tunnels);
         }
         Network {
-            vlans: vlan_tags(packet.bytes, packet.link_type),
+            vlans,
             tunnels: self.tunnels,
         }
+    }
+
+    /// Returns the last packet's network.
+    fn network_of(&self, packet: Packet<'_>) -> Network
+        ensures { IsNetwork (vlans_in (view_packet packet.entry)) self.now.tunnels
+            self.now.counts_vlans result }
+    {
+        if !self.counts_vlans {
+            return Network::of_tunnels(&self.tunnels);
+        }
+        self.network_in(vlan_tags(packet.bytes, packet.link_type))
     }
 
     /// Returns the number of the last packet's network; 0 if it has none, as most packets, or
@@ -113,8 +124,8 @@ impl ArrivalReader {
     #[tactic(auto, using(crate::proofs::NetworkLemmas::without))]
     #[inline(always)]
     fn network(&mut self, packet: Packet<'_>) -> Result<u64, AllocError>
-        ensures number { IfOk result (IsNumbered (view_packet packet.entry) self.old.tunnels
-            self.old.counts_vlans self.old.networks self.new.networks) }
+        ensures number { IfOk result (IsNumbered (vlans_in (view_packet packet.entry))
+            self.old.tunnels self.old.counts_vlans self.old.networks self.new.networks) }
         ensures same { self.new ≡ record self.old { networks = self.new.networks } }
         ensures err { OnErr result (self.new ≡ self.old) }
         ensures fails { OnErr result (is_some self.old.networks ≡ true) }
@@ -129,13 +140,41 @@ impl ArrivalReader {
     #[tactic(auto, using(crate::proofs::NetworkLemmas::numbered))]
     fn number_of_network(&mut self, packet: Packet<'_>) -> Result<u64, AllocError>
         requires { has_network_by self.old.tunnels self.old.counts_vlans ≡ true }
-        ensures number { IfOk result (IsNumbered (view_packet packet.entry) self.old.tunnels
-            self.old.counts_vlans self.old.networks self.new.networks) }
+        ensures number { IfOk result (IsNumbered (vlans_in (view_packet packet.entry))
+            self.old.tunnels self.old.counts_vlans self.old.networks self.new.networks) }
         ensures same { self.new ≡ record self.old { networks = self.new.networks } }
         ensures err { OnErr result (self.new ≡ self.old) }
         ensures fails { OnErr result (is_some self.old.networks ≡ true) }
     {
         let network = self.network_of(packet);
+        self.number_of(network)
+    }
+
+    /// Returns the number of the last packet's network, by these VLANs; 0 if it has none, or
+    /// networks aren't told apart.
+    #[tactic(auto, using(crate::proofs::NetworkLemmas::without, crate::proofs::NetworkLemmas::numbered))]
+    pub(crate) fn network_by_vlans(&mut self, vlans: VlanTags) -> Result<u64, AllocError>
+        ensures number { IfOk result (IsNumbered (found_in vlans) self.old.tunnels
+            self.old.counts_vlans self.old.networks self.new.networks) }
+        ensures same { self.new ≡ record self.old { networks = self.new.networks } }
+        ensures err { OnErr result (self.new ≡ self.old) }
+        ensures fails { OnErr result (is_some self.old.networks ≡ true) }
+    {
+        if !self.has_network() {
+            return Ok(0);
+        }
+        let network = self.network_in(vlans);
+        self.number_of(network)
+    }
+
+    /// Returns the number of a network; 0 if networks aren't told apart.
+    fn number_of(&mut self, network: Network) -> Result<u64, AllocError>
+        ensures number { IfOk result
+            (IsNumberOf network self.old.networks self.new.networks) }
+        ensures same { self.new ≡ record self.old { networks = self.new.networks } }
+        ensures err { OnErr result (self.new ≡ self.old) }
+        ensures fails { OnErr result (is_some self.old.networks ≡ true) }
+    {
         match &mut self.networks {
             Some(networks) => networks.number(network),
             None => Ok(0),

@@ -9,7 +9,7 @@ use Rattle.segments.specs.Pages.{written}
 use Rattle.segments.proofs.LawLemmas.{part_byte}
 use Rattle.segments.proofs.PageMapLemmas.{written_outside}
 use Rattle.ip_fragments.specs.Runs.{Run, Placing, Fits, Repeats, Overlaps, byte_in, count_behind, end_of_run, extended, filled, follows, joined, landing, landing_at, placed, run_at}
-use Rattle.ip_fragments.specs.Waiting.{Waiting, Keeps, Completes, by_placing, bytes_of, completed_or_not, end_of, given, is_other_end, is_too_long, is_whole, received, with_repeat, with_runs}
+use Rattle.ip_fragments.specs.Waiting.{Waiting, Keeps, Completes, by_placing, bytes_of, completed_or_not, end_of, given, is_ecn_mixed, is_other_end, is_too_long, is_whole, received, with_repeat, with_runs}
 use Rattle.ip_fragments.specs.Law.{AreOf, IsAfter, IsOut, IsWith, first_at}
 
 -- Bytes at an offset.
@@ -302,16 +302,21 @@ data Taken (f : IpFragment) (v w : Waiting) : Type 0 where
 
 kept_is : (x w : Waiting)
     → (completed_or_not x ≡ Keeps w) ⊎ (completed_or_not x ≡ Completes w) → w ≡ x
-kept_is x w s = go (is_whole x) refl (is_too_long x) refl s
+kept_is x w s = go (is_whole x) refl (is_ecn_mixed x) refl (is_too_long x) refl s
   where
-    go : (t : Bool) → is_whole x ≡ t → (u : Bool) → is_too_long x ≡ u
+    go : (t : Bool) → is_whole x ≡ t → (m : Bool) → is_ecn_mixed x ≡ m
+        → (u : Bool) → is_too_long x ≡ u
         → (completed_or_not x ≡ Keeps w) ⊎ (completed_or_not x ≡ Completes w) → w ≡ x
-    go false e u f (inl h) = let g : Keeps x ≡ Keeps w = rw e at h in cc
-    go false e u f (inr h) = let g : Keeps x ≡ Completes w = rw e at h in absurd cc
-    go true e true f (inl h) = let g = rw (e, f) at h in absurd cc
-    go true e true f (inr h) = let g = rw (e, f) at h in absurd cc
-    go true e false f (inl h) = let g : Completes x ≡ Keeps w = rw (e, f) at h in absurd cc
-    go true e false f (inr h) = let g : Completes x ≡ Completes w = rw (e, f) at h in cc
+    go false e m d u f (inl h) = let g : Keeps x ≡ Keeps w = rw e at h in cc
+    go false e m d u f (inr h) = let g : Keeps x ≡ Completes w = rw e at h in absurd cc
+    go true e true d u f (inl h) = let g = rw (e, d) at h in absurd cc
+    go true e true d u f (inr h) = let g = rw (e, d) at h in absurd cc
+    go true e false d true f (inl h) = let g = rw (e, d, f) at h in absurd cc
+    go true e false d true f (inr h) = let g = rw (e, d, f) at h in absurd cc
+    go true e false d false f (inl h) =
+        let g : Completes x ≡ Keeps w = rw (e, d, f) at h in absurd cc
+    go true e false d false f (inr h) =
+        let g : Completes x ≡ Completes w = rw (e, d, f) at h in cc
 
 placing_taken : (f : IpFragment) (v w : Waiting) (p : Placing)
     → placed f.offset (bytes_of f) v.runs ≡ p

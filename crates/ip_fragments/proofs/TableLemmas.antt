@@ -243,20 +243,20 @@ begun_agrees time f = go f.has_more
     go true = refl
     go false = rw (none_before (end_of f)) refl
 
-agrees_at : (time : ℕ) (f : IpFragment) (t : Table) (o : Option Waiting) → at (key_of f) t ≡ o
-    → is_other_end f (found_or_begun time o) ≡ false → is_other_end f (its time f t) ≡ false
-agrees_at time f t o is h =
+agrees_at : (time n : ℕ) (f : IpFragment) (t : Table) (o : Option Waiting) → at (key_of n f) t ≡ o
+    → is_other_end f (found_or_begun time o) ≡ false → is_other_end f (its time n f t) ≡ false
+agrees_at time n f t o is h =
     subst (λ p. is_other_end f (found_or_begun time p) ≡ false) (sym is) h
 
-pub agrees_missing : (time : ℕ) (k : Key) (f : IpFragment) (t : Table) → k ≡ key_of f
-    → at k t ≡ None → is_other_end f (its time f t) ≡ false
-agrees_missing time k f t is none =
-    agrees_at time f t None (subst (λ x. at x t ≡ None) is none) (begun_agrees time f)
+pub agrees_missing : (time n : ℕ) (k : Key) (f : IpFragment) (t : Table) → k ≡ key_of n f
+    → at k t ≡ None → is_other_end f (its time n f t) ≡ false
+agrees_missing time n k f t is none =
+    agrees_at time n f t None (subst (λ x. at x t ≡ None) is none) (begun_agrees time f)
 
-pub agrees_found : (time : ℕ) (k : Key) (f : IpFragment) (t : Table) (v : Waiting) → k ≡ key_of f
-    → at k t ≡ Some v → is_other_end f v ≡ false → is_other_end f (its time f t) ≡ false
-agrees_found time k f t v is found h =
-    agrees_at time f t (Some v) (subst (λ x. at x t ≡ Some v) is found) h
+pub agrees_found : (time n : ℕ) (k : Key) (f : IpFragment) (t : Table) (v : Waiting) → k ≡ key_of n f
+    → at k t ≡ Some v → is_other_end f v ≡ false → is_other_end f (its time n f t) ≡ false
+agrees_found time n k f t v is found h =
+    agrees_at time n f t (Some v) (subst (λ x. at x t ≡ Some v) is found) h
 
 -- A fragment begins a datagram that waits for more, or is over at once.
 pub begins_waiting : (k : Key) (f : IpFragment) (o : FragmentOutcome) (v w : Waiting) (t u : Table)
@@ -279,78 +279,78 @@ begins_over k f o v w t u (Keeps x) is waits e =
 begins_over k f o v w t u (Completes x) is waits e = (is.0, e)
 
 -- The first fragment of a datagram.
-begins_by : (k : Key) (f : IpFragment) (o : FragmentOutcome) (t u : Table) (e : Effect)
-    → k ≡ key_of f → at k t ≡ None → BeginsAt k f o t u e → BecomesBy f o t u e
-begins_by k f o t u (Drops r) is none b =
+begins_by : (n : ℕ) (k : Key) (f : IpFragment) (o : FragmentOutcome) (t u : Table) (e : Effect)
+    → k ≡ key_of n f → at k t ≡ None → BeginsAt k f o t u e → BecomesBy n f o t u e
+begins_by n k f o t u (Drops r) is none b =
     (b.0, b.1 ∙ sym (missed k t none) ∙ ap (λ x. others x t) is)
-begins_by k f o t u (Keeps w) is none b =
+begins_by n k f o t u (Keeps w) is none b =
     (b.0, b.1 ∙ sym (ap (λ p. put_at p k w t) none) ∙ ap (λ x. putting x w t) is)
-begins_by k f o t u (Completes w) is none b =
+begins_by n k f o t u (Completes w) is none b =
     (b.0, b.1 ∙ sym (missed k t none) ∙ ap (λ x. others x t) is)
 
-pub missing_becomes : (time : ℕ) (k : Key) (f : IpFragment) (o : FragmentOutcome) (t u : Table)
-    → k ≡ key_of f → at k t ≡ None → BeginsAt k f o t u (received f (begun time))
-    → Becomes time f o t u
-missing_becomes time k f o t u is none b =
-    let its_is : its time f t ≡ begun time =
+pub missing_becomes : (time n : ℕ) (k : Key) (f : IpFragment) (o : FragmentOutcome) (t u : Table)
+    → k ≡ key_of n f → at k t ≡ None → BeginsAt k f o t u (received f (begun time))
+    → Becomes time n f o t u
+missing_becomes time n k f o t u is none b =
+    let its_is : its time n f t ≡ begun time =
     ap (found_or_begun time) (subst (λ x. at x t ≡ None) is none) in
-    subst (λ x. BecomesBy f o t u (received f x)) (sym its_is)
-    (begins_by k f o t u (received f (begun time)) is none b)
+    subst (λ x. BecomesBy n f o t u (received f x)) (sym its_is)
+    (begins_by n k f o t u (received f (begun time)) is none b)
 
-pub missing_put : {E : Type 0} (time : ℕ) (k : Key) (f : IpFragment) (x : Option Received)
-    (r : Result FragmentOutcome E) (t m u : Table) → k ≡ key_of f → x ≡ None
+pub missing_put : {E : Type 0} (time n : ℕ) (k : Key) (f : IpFragment) (x : Option Received)
+    (r : Result FragmentOutcome E) (t m u : Table) → k ≡ key_of n f → x ≡ None
     → ReceivesAt k f x t m → IfOk r (λ o. BeginsAt k f o m u (received f (begun time)))
-    → IfOk r (λ o. Becomes time f o t u)
-missing_put time k f x (Err e) t m u is none a b = _
-missing_put time k f x (Ok o) t m u is none a b =
+    → IfOk r (λ o. Becomes time n f o t u)
+missing_put time n k f x (Err e) t m u is none a b = _
+missing_put time n k f x (Ok o) t m u is none a b =
     let a' : ReceivesAt k f None t m = subst (λ y. ReceivesAt k f y t m) none a in
-    missing_becomes time k f o t u is a'.0
+    missing_becomes time n k f o t u is a'.0
     (subst (λ l. BeginsAt k f o l u (received f (begun time))) a'.1 b)
 
 -- A fragment of a datagram in the table, which waits for more or is over.
-waits_by : (k : Key) (f : IpFragment) (o : FragmentOutcome) (v w : Waiting) (t u : Table)
-    (e : Effect) → k ≡ key_of f → at k t ≡ Some v → Receives f o v w e → is_waiting o ≡ true
-    → u ≡ with_other k w t → BecomesBy f o t u e
-waits_by k f o v w t u (Drops q) is found r waits e =
+waits_by : (n : ℕ) (k : Key) (f : IpFragment) (o : FragmentOutcome) (v w : Waiting) (t u : Table)
+    (e : Effect) → k ≡ key_of n f → at k t ≡ Some v → Receives f o v w e → is_waiting o ≡ true
+    → u ≡ with_other k w t → BecomesBy n f o t u e
+waits_by n k f o v w t u (Drops q) is found r waits e =
     let off : is_waiting (outcome.Refused q) ≡ true = subst (λ x. is_waiting x ≡ true) r.0 waits in
     absurd cc
-waits_by k f o v w t u (Keeps x) is found r waits e = (
+waits_by n k f o v w t u (Keeps x) is found r waits e = (
   r.0,
   e ∙ ap (λ y. with_other k y t) r.1 ∙ sym (ap (λ p. put_at p k x t) found)
       ∙ ap (λ y. putting y x t) is,
 )
-waits_by k f (outcome.Whole d) v w t u (Completes x) is found r waits e = absurd cc
-waits_by k f outcome.Waits v w t u (Completes x) is found r waits e = absurd r.0
-waits_by k f (outcome.Refused q) v w t u (Completes x) is found r waits e = absurd cc
+waits_by n k f (outcome.Whole d) v w t u (Completes x) is found r waits e = absurd cc
+waits_by n k f outcome.Waits v w t u (Completes x) is found r waits e = absurd r.0
+waits_by n k f (outcome.Refused q) v w t u (Completes x) is found r waits e = absurd cc
 
-over_by : (k : Key) (f : IpFragment) (o : FragmentOutcome) (v w : Waiting) (t m u : Table)
-    (e : Effect) → k ≡ key_of f → at k t ≡ Some v → Receives f o v w e → is_waiting o ≡ false
-    → m ≡ with_other k w t → u ≡ others k m → BecomesBy f o t u e
-over_by k f o v w t m u (Drops q) is found r waits e g =
+over_by : (n : ℕ) (k : Key) (f : IpFragment) (o : FragmentOutcome) (v w : Waiting) (t m u : Table)
+    (e : Effect) → k ≡ key_of n f → at k t ≡ Some v → Receives f o v w e → is_waiting o ≡ false
+    → m ≡ with_other k w t → u ≡ others k m → BecomesBy n f o t u e
+over_by n k f o v w t m u (Drops q) is found r waits e g =
     (r.0, g ∙ ap (others k) e ∙ others_with k t w ∙ ap (λ x. others x t) is)
-over_by k f o v w t m u (Keeps x) is found r waits e g =
+over_by n k f o v w t m u (Keeps x) is found r waits e g =
     let off : is_waiting outcome.Waits ≡ false = subst (λ x. is_waiting x ≡ false) r.0 waits in
     absurd cc
-over_by k f o v w t m u (Completes x) is found r waits e g =
+over_by n k f o v w t m u (Completes x) is found r waits e g =
     (r.0, g ∙ ap (others k) e ∙ others_with k t w ∙ ap (λ x. others x t) is)
 
-module _ (time : ℕ) (k : Key) (f : IpFragment) (x : Received) (t m : Table) where
-  its_is : (v : Waiting) → k ≡ key_of f → at k t ≡ Some v → its time f t ≡ v
+module _ (time n : ℕ) (k : Key) (f : IpFragment) (x : Received) (t m : Table) where
+  its_is : (v : Waiting) → k ≡ key_of n f → at k t ≡ Some v → its time n f t ≡ v
   its_is v is found = ap (found_or_begun time) (subst (λ y. at y t ≡ Some v) is found)
 
-  pub waits_becomes : k ≡ key_of f → ReceivesAt k f (Some x) t m → is_waiting x.outcome ≡ true
-      → Becomes time f x.outcome t m
+  pub waits_becomes : k ≡ key_of n f → ReceivesAt k f (Some x) t m → is_waiting x.outcome ≡ true
+      → Becomes time n f x.outcome t m
   waits_becomes is r waits =
       let v = r.0 in
-      subst (λ y. BecomesBy f x.outcome t m (received f y)) (sym (its_is v is r.2))
-      (waits_by k f x.outcome v r.1 t m (received f v) is r.2 r.3 waits r.6)
+      subst (λ y. BecomesBy n f x.outcome t m (received f y)) (sym (its_is v is r.2))
+      (waits_by n k f x.outcome v r.1 t m (received f v) is r.2 r.3 waits r.6)
 
-  pub over_becomes : (u : Table) → k ≡ key_of f → ReceivesAt k f (Some x) t m
-      → is_waiting x.outcome ≡ false → u ≡ others k m → Becomes time f x.outcome t u
+  pub over_becomes : (u : Table) → k ≡ key_of n f → ReceivesAt k f (Some x) t m
+      → is_waiting x.outcome ≡ false → u ≡ others k m → Becomes time n f x.outcome t u
   over_becomes u is r waits left =
       let v = r.0 in
-      subst (λ y. BecomesBy f x.outcome t u (received f y)) (sym (its_is v is r.2))
-      (over_by k f x.outcome v r.1 t m u (received f v) is r.2 r.3 waits r.6 left)
+      subst (λ y. BecomesBy n f x.outcome t u (received f y)) (sym (its_is v is r.2))
+      (over_by n k f x.outcome v r.1 t m u (received f v) is r.2 r.3 waits r.6 left)
 
   -- The memory that the table counts then.
   pub weight_received : ReceivesAt k f (Some x) t m → weight m ≡ weight t + x.added

@@ -3,7 +3,7 @@ use Rattle.std.proofs.Common.{◌≡◌, ℕ, ◌+◌, ◌*◌, ◌≤◌, ◌==
 use Rattle.capture.specs.declared.fragment.IpFragment.{IpFragment}
 use Rattle.segments.specs.Cells.{Bytes}
 use Rattle.ip_fragments.specs.Runs.{Run, IsGap, cost_of, filled, placed, placing_of, runs_with, weight_in}
-use Rattle.ip_fragments.specs.Waiting.{Waiting, Drops, Keeps, Completes, HandsOut, Receives, by_placing, bytes_of, completed_or_not, first_protocol, is_other_end, is_too_long, is_whole, received, weight_of, with_runs}
+use Rattle.ip_fragments.specs.Waiting.{Waiting, Drops, Keeps, Completes, HandsOut, Receives, by_placing, bytes_of, completed_or_not, first_protocol, is_ecn_mixed, is_not_ect, is_other_end, is_too_long, is_whole, received, weight_of, with_runs}
 use Rattle.ip_fragments.specs.declared.outcome.FragmentOutcome.{FragmentOutcome}
 use Rattle.ip_fragments.specs.declared.outcome.FragmentOutcome.TheVariants as outcome
 use Rattle.ip_fragments.specs.declared.outcome.FragmentRefusal.TheVariants as refusal
@@ -57,6 +57,15 @@ long_view f u v e rs b reach front bytes far first =
     ap (λ n. nat_lt 65535 (n + max v.reach (f.offset + length (bytes_of f)))) head
     ∙ ap (λ n. nat_lt 65535 (front + n)) up
 
+pub mixed_view : (f : IpFragment) (u v : Waiting) → u ≡ v → (rs : List Run)
+    (has_not_ect has_ect : Bool) → has_not_ect ≡ (u.has_not_ect || is_not_ect f)
+    → has_ect ≡ (u.has_ect || not (is_not_ect f))
+    → is_ecn_mixed (with_runs f rs v) ≡ (has_not_ect && has_ect)
+mixed_view f u v e rs has_not_ect has_ect not_is ect_is =
+    ap (λ t. t && (v.has_ect || not (is_not_ect f)))
+    (sym (not_is ∙ ap (λ x. x.has_not_ect || is_not_ect f) e))
+    ∙ ap (λ t. has_not_ect && t) (sym (ect_is ∙ ap (λ x. x.has_ect || not (is_not_ect f)) e))
+
 -- What bytes that fit add to the memory.
 cost_low : (g : Gap) → cost_of g ≤ 128
 cost_low gap.End = omega arith
@@ -91,16 +100,22 @@ module _ (f : IpFragment) (o : FragmentOutcome) (v w : Waiting) where
         let is : completed_or_not x ≡ Keeps x = rw h refl in
         subst (λ z. Receives f o v w z) (sym is) (e, same)
 
-    pub receives_long : is_whole x ≡ true → is_too_long x ≡ true
-        → o ≡ outcome.Refused refusal.TooLong → w ≡ v → Receives f o v w (completed_or_not x)
-    receives_long h l e same =
-        let is : completed_or_not x ≡ Drops refusal.TooLong = rw (h, l) refl in
+    pub receives_mixed : is_whole x ≡ true → is_ecn_mixed x ≡ true
+        → o ≡ outcome.Refused refusal.MixedEcn → w ≡ v → Receives f o v w (completed_or_not x)
+    receives_mixed h m e same =
+        let is : completed_or_not x ≡ Drops refusal.MixedEcn = rw (h, m) refl in
         subst (λ z. Receives f o v w z) (sym is) (e, same)
 
-    pub receives_whole : is_whole x ≡ true → is_too_long x ≡ false → HandsOut f x o → w ≡ v
-        → Receives f o v w (completed_or_not x)
-    receives_whole h l e same =
-        let is : completed_or_not x ≡ Completes x = rw (h, l) refl in
+    pub receives_long : is_whole x ≡ true → is_ecn_mixed x ≡ false → is_too_long x ≡ true
+        → o ≡ outcome.Refused refusal.TooLong → w ≡ v → Receives f o v w (completed_or_not x)
+    receives_long h m l e same =
+        let is : completed_or_not x ≡ Drops refusal.TooLong = rw (h, m, l) refl in
+        subst (λ z. Receives f o v w z) (sym is) (e, same)
+
+    pub receives_whole : is_whole x ≡ true → is_ecn_mixed x ≡ false → is_too_long x ≡ false
+        → HandsOut f x o → w ≡ v → Receives f o v w (completed_or_not x)
+    receives_whole h m l e same =
+        let is : completed_or_not x ≡ Completes x = rw (h, m, l) refl in
         subst (λ z. Receives f o v w z) (sym is) (e, same)
 
   -- By the end, the length and the place.

@@ -17,11 +17,13 @@ abbrev pub protocol_in : Address → ℕ → ℕ
 protocol_in (V4 n) protocol = protocol
 protocol_in (V6 upper lower) protocol = 0
 
--- A datagram's key: source, destination, identification and protocol (RFC 791, section 3.2; RFC
--- 8200, section 4.5). A host drops fragments with a wrong header checksum, so they are apart from
--- others: such datagrams are those of a card that writes its checksums behind the capture.
-abbrev pub key_of : IpFragment → Key
-key_of f = record {
+-- A datagram's key: the number of its network, in which it is unique; source, destination,
+-- identification and protocol (RFC 791, section 3.2; RFC 8200, section 4.5). A host drops fragments
+-- with a wrong header checksum, so they are apart from others: such datagrams are those of a card
+-- that writes its checksums behind the capture.
+abbrev pub key_of : ℕ → IpFragment → Key
+key_of n f = record {
+  network = n;
   source = f.source;
   destination = f.destination;
   identification = f.identification;

@@ -59,13 +59,13 @@ is_late time a w = nat_lt (limit_of a) (time - w.since)
 
 -- It drops that datagram then. Only its own fragments show that a datagram's time is over: times of
 -- others may come from another clock.
-abbrev pub without_late_at : Option Waiting → ℕ → IpFragment → Reassembly → Reassembly
-without_late_at None time f r = r
-without_late_at (Some w) time f r = if is_late time f.source w then
-    record r { waiting = others (key_of f) r.waiting; late = counted r.late 1 } else r
+abbrev pub without_late_at : Option Waiting → ℕ → ℕ → IpFragment → Reassembly → Reassembly
+without_late_at None time n f r = r
+without_late_at (Some w) time n f r = if is_late time f.source w then
+    record r { waiting = others (key_of n f) r.waiting; late = counted r.late 1 } else r
 
-abbrev pub without_late : ℕ → IpFragment → Reassembly → Reassembly
-without_late time f r = without_late_at (at (key_of f) r.waiting) time f r
+abbrev pub without_late : ℕ → ℕ → IpFragment → Reassembly → Reassembly
+without_late time n f r = without_late_at (at (key_of n f) r.waiting) time n f r
 
 -- What is left of these datagrams, which count `held` bytes, once the oldest are dropped until
 -- there is room for `more`.
@@ -91,8 +91,8 @@ abbrev pub found_or_begun : ℕ → Option Waiting → Waiting
 found_or_begun time None = begun time
 found_or_begun time (Some v) = v
 
-abbrev pub its : ℕ → IpFragment → Table → Waiting
-its time f t = found_or_begun time (at (key_of f) t)
+abbrev pub its : ℕ → ℕ → IpFragment → Table → Waiting
+its time n f t = found_or_begun time (at (key_of n f) t)
 
 -- A fragment is added to the datagram of its key, which counts so much more memory afterwards; or
 -- there is none.
@@ -110,37 +110,37 @@ BeginsAt k f o t u (Completes w) = HandsOut f w o × (u ≡ t)
 
 -- A fragment's datagram is dropped, waits for more in the table, or is complete and returned. Other
 -- keys keep their datagrams.
-abbrev pub BecomesBy : IpFragment → FragmentOutcome → Table → Table → Effect → Type 0
-BecomesBy f o t u (Drops r) = (o ≡ outcome.Refused r) × (u ≡ others (key_of f) t)
-BecomesBy f o t u (Keeps w) = (o ≡ outcome.Waits) × (u ≡ putting (key_of f) w t)
-BecomesBy f o t u (Completes w) = HandsOut f w o × (u ≡ others (key_of f) t)
+abbrev pub BecomesBy : ℕ → IpFragment → FragmentOutcome → Table → Table → Effect → Type 0
+BecomesBy n f o t u (Drops r) = (o ≡ outcome.Refused r) × (u ≡ others (key_of n f) t)
+BecomesBy n f o t u (Keeps w) = (o ≡ outcome.Waits) × (u ≡ putting (key_of n f) w t)
+BecomesBy n f o t u (Completes w) = HandsOut f w o × (u ≡ others (key_of n f) t)
 
-abbrev pub Becomes : ℕ → IpFragment → FragmentOutcome → Table → Table → Type 0
-Becomes time f o t u = BecomesBy f o t u (received f (its time f t))
+abbrev pub Becomes : ℕ → ℕ → IpFragment → FragmentOutcome → Table → Table → Type 0
+Becomes time n f o t u = BecomesBy n f o t u (received f (its time n f t))
 
--- The table when a fragment arrives. Its datagram is dropped if the fragment is late, and then the
+-- The table when a fragment arrives in a network. Its datagram is dropped if the fragment is late, and then the
 -- oldest ones until there is room for a new one.
-abbrev pub ready : ℕ → IpFragment → Reassembly → Reassembly
-ready time f r = forgetting (most_of f) (without_late time f r)
+abbrev pub ready : ℕ → ℕ → IpFragment → Reassembly → Reassembly
+ready time n f r = forgetting (most_of f) (without_late time n f r)
 
 -- A fragment that isn't refused alone.
-pub record Takes (time : ℕ) (f : IpFragment) (o : FragmentOutcome) (r s : Reassembly) : Type 0 where
-  pub becomes : Becomes time f o (ready time f r).waiting s.waiting
-  pub late : s.late ≡ (ready time f r).late
-  pub evicted : s.evicted ≡ (ready time f r).evicted
+pub record Takes (time n : ℕ) (f : IpFragment) (o : FragmentOutcome) (r s : Reassembly) : Type 0 where
+  pub becomes : Becomes time n f o (ready time n f r).waiting s.waiting
+  pub late : s.late ≡ (ready time n f r).late
+  pub evicted : s.evicted ≡ (ready time n f r).evicted
 
--- What a fragment does to the table and the counts.
-abbrev pub AddsBy : ℕ → IpFragment → FragmentOutcome → Reassembly → Reassembly
+-- What a fragment of a network does to the table and the counts.
+abbrev pub AddsBy : ℕ → ℕ → IpFragment → FragmentOutcome → Reassembly → Reassembly
     → Option FragmentRefusal → Type 0
-AddsBy time f o r s (Some q) = (o ≡ outcome.Refused q) × (s ≡ r)
-AddsBy time f o r s None = Takes time f o r s
+AddsBy time n f o r s (Some q) = (o ≡ outcome.Refused q) × (s ≡ r)
+AddsBy time n f o r s None = Takes time n f o r s
 
-abbrev pub Adds : ℕ → IpFragment → FragmentOutcome → Reassembly → Reassembly → Type 0
-Adds time f o r s = AddsBy time f o r s (refused_alone f)
+abbrev pub Adds : ℕ → ℕ → IpFragment → FragmentOutcome → Reassembly → Reassembly → Type 0
+Adds time n f o r s = AddsBy time n f o r s (refused_alone f)
 
 -- There was no memory for the bytes of a fragment that would be added. Datagrams that are late or
 -- over the limit were dropped before.
-pub record LeavesOut (time : ℕ) (f : IpFragment) (r s : Reassembly) : Type 0 where
+pub record LeavesOut (time n : ℕ) (f : IpFragment) (r s : Reassembly) : Type 0 where
   pub alone : refused_alone f ≡ None
-  pub agrees : is_other_end f (its time f (ready time f r).waiting) ≡ false
-  pub forgets : s ≡ ready time f r
+  pub agrees : is_other_end f (its time n f (ready time n f r).waiting) ≡ false
+  pub forgets : s ≡ ready time n f r

@@ -14,13 +14,16 @@ use Rattle.ip_fragments.specs.declared.outcome.FragmentRefusal.TheVariants as re
 
 -- The fields: the bytes that arrived; the offset up to which fragments reach, and whether the last
 -- fragment arrived; the protocol of the fragment with offset 0, and the length of the headers in
--- front of it; how many bytes arrived again with another value; when its first fragment arrived.
+-- front of it; whether fragments of a sender without ECN arrived, and such of a sender with it; how
+-- many bytes arrived again with another value; when its first fragment arrived.
 pub record Waiting : Type 0 where
   pub runs : List Run
   pub reach : ℕ
   pub is_ended : Bool
   pub protocol : Option ℕ
   pub in_front : ℕ
+  pub has_not_ect : Bool
+  pub has_ect : Bool
   pub disagreeing : ℕ
   pub since : ℕ
 
@@ -32,6 +35,8 @@ begun time = record {
   is_ended = false;
   protocol = None;
   in_front = 0;
+  has_not_ect = false;
+  has_ect = false;
   disagreeing = 0;
   since = time;
 }
@@ -76,6 +81,11 @@ abbrev pub first_protocol : Option ℕ → IpFragment → Option ℕ
 first_protocol (Some p) f = Some p
 first_protocol None f = if f.offset == 0 then Some f.protocol else None
 
+-- A fragment is Not-ECT: its sender doesn't support ECN. Any other is ECT(0), ECT(1) or CE (RFC
+-- 3168, section 5).
+abbrev pub is_not_ect : IpFragment → Bool
+is_not_ect f = f.ecn == 0
+
 -- A datagram with a fragment's bytes, which gave it these runs.
 abbrev pub with_runs : IpFragment → List Run → Waiting → Waiting
 with_runs f rs w = record {
@@ -84,6 +94,8 @@ with_runs f rs w = record {
   is_ended = w.is_ended || not f.has_more;
   protocol = first_protocol w.protocol f;
   in_front = if f.offset == 0 then f.in_front else w.in_front;
+  has_not_ect = w.has_not_ect || is_not_ect f;
+  has_ect = w.has_ect || not (is_not_ect f);
   disagreeing = w.disagreeing;
   since = w.since;
 }
@@ -108,6 +120,11 @@ is_whole w = w.is_ended && ((filled w.runs == w.reach) && is_some w.protocol)
 abbrev pub is_too_long : Waiting → Bool
 is_too_long w = nat_lt 65535 (w.in_front + w.reach)
 
+-- Some of its fragments are Not-ECT and others aren't, which no sender and no router makes. A host
+-- drops it, as Linux does: it must not become CE (RFC 3168, section 5.3).
+abbrev pub is_ecn_mixed : Waiting → Bool
+is_ecn_mixed w = w.has_not_ect && w.has_ect
+
 -- What a fragment makes of its datagram: it is dropped, waits for more, or is complete.
 pub data Effect : Type 0 where
   Drops : FragmentRefusal → Effect
@@ -116,6 +133,7 @@ pub data Effect : Type 0 where
 
 abbrev pub completed_or_not : Waiting → Effect
 completed_or_not w = if not (is_whole w) then Keeps w
+    else if is_ecn_mixed w then Drops refusal.MixedEcn
     else if is_too_long w then Drops refusal.TooLong else Completes w
 
 abbrev pub by_placing : IpFragment → Waiting → Placing → Effect
@@ -124,7 +142,7 @@ by_placing f w (Repeats n) = Keeps (with_repeat f n w)
 by_placing f w Overlaps = Drops refusal.Overlap
 
 -- A fragment that contradicts the end, has no bytes or overlaps others drops its datagram, and so
--- does one that completes it above 65,535 bytes.
+-- does one that completes it above 65,535 bytes or with mixed ECN fields.
 abbrev pub received : IpFragment → Waiting → Effect
 received f w = if is_other_end f w then Drops refusal.OtherEnd
     else if length (bytes_of f) == 0 then Drops refusal.Empty

@@ -231,8 +231,8 @@ impl FragmentTable {
 
     /// Drops the datagram of a fragment, if the fragment arrives too late for it.
     fn drop_late(&mut self, time: u64, key: &Key, fragment: &IpFragment<'_>)
-        requires { key.now ≡ key_of fragment.now }
-        ensures { self.new ≡ without_late time fragment.now self.old }
+        requires { key.now ≡ key_of key.now.network fragment.now }
+        ensures { self.new ≡ without_late time key.now.network fragment.now self.old }
     {
         let is_late = match self.waiting.peek(key) {
             Some(waiting) => is_late(time, fragment.source, waiting),
@@ -294,16 +294,17 @@ impl FragmentTable {
         key: Key,
         fragment: &IpFragment<'_>,
     ) -> Result<FragmentOutcome, AllocError>
-        requires key { key ≡ key_of fragment.now }
+        requires key { key ≡ key_of key.network fragment.now }
         requires short { length fragment.now.payload.now < 2 ^ 16 }
         requires room { weight self.old.waiting + most_of_fragment fragment.now ≤ 33554432 }
         ensures becomes { IfOk result
-            (λ o. Becomes time fragment.now o self.old.waiting self.new.waiting) }
+            (λ o. Becomes time key.network fragment.now o self.old.waiting self.new.waiting) }
         ensures late { self.new.late ≡ self.old.late }
         ensures evicted { self.new.evicted ≡ self.old.evicted }
         ensures err { OnErr result (self.new ≡ self.old) }
         ensures agrees { OnErr result
-            (is_other_end fragment.now (its time fragment.now self.old.waiting) ≡ false) }
+            (is_other_end fragment.now (its time key.network fragment.now self.old.waiting)
+            ≡ false) }
     {
         let Some(received) = receive_at(&mut self.waiting, self.alloc, &key, fragment)? else {
             return self.begin(time, key, fragment);
@@ -315,24 +316,26 @@ impl FragmentTable {
         Ok(received.outcome)
     }
 
-    /// Adds a fragment that was captured at `time` to its datagram, and returns the datagram once
-    /// it is complete. A datagram for which the fragment is too late is dropped first, and then the
-    /// oldest ones if there is no room.
+    /// Adds a fragment that was captured at `time` in the network of this number to its datagram,
+    /// and returns the datagram once it is complete. Fragments of different networks are of
+    /// different datagrams. A datagram for which the fragment is too late is dropped first, and then
+    /// the oldest ones if there is no room.
     ///
     /// `AllocError` if there is no memory for the fragment. It is left out then, but the datagrams
     /// dropped before stay dropped.
     pub fn add(
         &mut self,
         time: u64,
+        network: u64,
         fragment: &IpFragment<'_>,
     ) -> Result<FragmentOutcome, AllocError>
-        ensures adds { IfOk result (λ o. Adds time fragment.now o self.old self.new) }
-        ensures err { OnErr result (LeavesOut time fragment.now self.old self.new) }
+        ensures adds { IfOk result (λ o. Adds time network fragment.now o self.old self.new) }
+        ensures err { OnErr result (LeavesOut time network fragment.now self.old self.new) }
     {
         if let Some(refusal) = refused_alone(fragment) {
             return Ok(FragmentOutcome::Refused(refusal));
         }
-        let key = Key::of(fragment);
+        let key = Key::of(network, fragment);
         self.drop_late(time, &key, fragment);
         self.forget(most_of(fragment));
         self.put(time, key, fragment)

@@ -11,6 +11,7 @@ use std::hash::{Hash, Hasher};
 /// What all fragments of a datagram have in common.
 #[derive(Clone, Copy, Debug, PartialEq, Eq)]
 pub struct Key {
+    network: u64,
     source: Address,
     destination: Address,
     identification: u32,
@@ -20,17 +21,19 @@ pub struct Key {
 }
 
 impl Key {
-    /// Returns a fragment's key: source, destination, identification and protocol (RFC 791, section
-    /// 3.2). In IPv6 the protocol doesn't count (RFC 8200, section 4.5). Fragments with a wrong
-    /// header checksum are apart from others, since a host drops them.
-    pub(crate) fn of(fragment: &IpFragment<'_>) -> Key
-        ensures { result ≡ key_of fragment.now }
+    /// Returns a fragment's key: the number of its network, source, destination, identification and
+    /// protocol (RFC 791, section 3.2). In IPv6 the protocol doesn't count (RFC 8200, section 4.5).
+    /// Fragments with a wrong header checksum are apart from others, since a host drops them.
+    pub(crate) fn of(network: u64, fragment: &IpFragment<'_>) -> Key
+        ensures is { result ≡ key_of network fragment.now }
+        ensures network { result.network ≡ network }
     {
         let protocol = match fragment.source {
             Address::V4(_) => fragment.protocol,
             Address::V6(_, _) => 0,
         };
         Key {
+            network,
             source: fragment.source,
             destination: fragment.destination,
             identification: fragment.identification,
@@ -42,12 +45,13 @@ impl Key {
 
 // Whole words hash fastest.
 impl Hash for Key {
-    ghost hash_input = { λ k. address_fed k.source
-        ++ (address_fed k.destination ++ fed.u64 (number_of k)) };
+    ghost hash_input = { λ k. fed.u64 k.network ++ (address_fed k.source
+        ++ (address_fed k.destination ++ fed.u64 (number_of k))) };
 
     ghost respects_eq = { Prim.search (hashing, rules) };
 
     fn hash<H: Hasher>(&self, state: &mut H) {
+        self.network.hash(state);
         match self.source {
             Address::V4(bits) => bits.hash(state),
             Address::V6(upper, lower) => {

@@ -20,6 +20,9 @@ pub enum FragmentRefusal {
     Empty,
     /// Some of its bytes arrived before, and others didn't. The datagram is dropped.
     Overlap,
+    /// It completes a datagram whose fragments came partly with and partly without support of ECN
+    /// (RFC 3168, section 5.3). The datagram is dropped, as in Linux.
+    MixedEcn,
 }
 
 /// What happened to a fragment.

@@ -1,7 +1,7 @@
 //! A datagram in reassembly.
 ghost use Rattle.std.specs.Prelude.{◌≡◌, ◌≤◌, ◌<◌, ◌+◌, ◌*◌, ◌^◌, ◌==◌, ◌&&◌, ◌||◌, if◌then◌else◌, not, max, nat_lt, length, is_some, false, Some, IfNone, IfOk, IfSome, OnErr, OnOk};
 ghost use Rattle.ip_fragments.specs.Runs.{placing_of, runs_with, IsGap, IsPlace};
-ghost use Rattle.ip_fragments.specs.Waiting.{begun, by_placing, bytes_of as bytes_of_fragment, completed_or_not, end_of, first_protocol, is_other_end as is_other_end_of, most_of as most_of_fragment, received, refused_alone as refused_alone_by, weight_of, with_repeat, with_runs, Receives};
+ghost use Rattle.ip_fragments.specs.Waiting.{begun, by_placing, bytes_of as bytes_of_fragment, completed_or_not, end_of, first_protocol, is_not_ect as is_not_ect_by, is_other_end as is_other_end_of, most_of as most_of_fragment, received, refused_alone as refused_alone_by, weight_of, with_repeat, with_runs, Receives};
 
 use crate::outcome::{FragmentOutcome, FragmentRefusal};
 use crate::runs::{Gap, Place, RUN_COST, Run, join, place_of, put};
@@ -43,6 +43,9 @@ pub struct Extent {
     // Those of the fragment with offset 0, if it arrived.
     protocol: Option<u8>,
     in_front: usize,
+    // Whether some are Not-ECT, and whether some aren't.
+    has_not_ect: bool,
+    has_ect: bool,
 }
 
 /// The bytes of a datagram that arrived, and the fields of its fragments.
@@ -70,6 +73,8 @@ impl Model for Waiting {
       is_ended = w.extent.is_ended;
       protocol = w.extent.protocol;
       in_front = w.extent.in_front;
+      has_not_ect = w.extent.has_not_ect;
+      has_ect = w.extent.has_ect;
       disagreeing = w.disagreeing;
       since = w.since;
     } };
@@ -129,6 +134,13 @@ pub(crate) fn most_of(fragment: &IpFragment<'_>) -> usize
     fragment.payload.len() * 2 + RUN_COST + DATAGRAM_COST
 }
 
+/// Returns whether a fragment's sender doesn't support ECN (Not-ECT; RFC 3168, section 5).
+fn is_not_ect(fragment: &IpFragment<'_>) -> bool
+    ensures { result ≡ is_not_ect_by fragment.now }
+{
+    fragment.ecn == 0
+}
+
 impl Extent {
     /// Returns the extent with a fragment of `count` bytes.
     fn with(self, fragment: &IpFragment<'_>, count: usize) -> Extent
@@ -138,6 +150,9 @@ impl Extent {
         ensures protocol { result.protocol ≡ first_protocol self.protocol fragment.now }
         ensures in_front { result.in_front
             ≡ (if fragment.now.offset == 0 then fragment.now.in_front else self.in_front) }
+        ensures has_not_ect { result.has_not_ect
+            ≡ (self.has_not_ect || is_not_ect_by fragment.now) }
+        ensures has_ect { result.has_ect ≡ (self.has_ect || not (is_not_ect_by fragment.now)) }
     {
         let is_first = fragment.offset == 0;
         Extent {
@@ -152,6 +167,8 @@ impl Extent {
             } else {
                 self.in_front
             },
+            has_not_ect: self.has_not_ect || is_not_ect(fragment),
+            has_ect: self.has_ect || !is_not_ect(fragment),
         }
     }
 
@@ -166,6 +183,13 @@ impl Extent {
         } else {
             None
         }
+    }
+
+    /// Returns whether some fragments are Not-ECT and others aren't.
+    fn is_ecn_mixed(&self) -> bool
+        ensures { result ≡ (self.now.has_not_ect && self.now.has_ect) }
+    {
+        self.has_not_ect && self.has_ect
     }
 
     /// Returns whether the datagram exceeds 65,535 bytes.
@@ -188,6 +212,8 @@ impl Waiting {
                 is_ended: false,
                 protocol: None,
                 in_front: 0,
+                has_not_ect: false,
+                has_ect: false,
             },
             filled: 0,
             weight: 0,
@@ -280,6 +306,9 @@ impl Waiting {
             self.hold(alloc, fragment, bytes, gap)?;
             return Ok(FragmentOutcome::Waits);
         };
+        if extent.is_ecn_mixed() {
+            return Ok(FragmentOutcome::Refused(FragmentRefusal::MixedEcn));
+        }
         if extent.is_too_long() {
             return Ok(FragmentOutcome::Refused(FragmentRefusal::TooLong));
         }

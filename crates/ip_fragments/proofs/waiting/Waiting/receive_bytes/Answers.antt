@@ -2,7 +2,7 @@ use Rattle.std.proofs.Common.{◌+◌, length, refl, sym, ap, ◌∙◌, arith}
 use Rattle.ip_fragments.specs.Runs.{joined, runs_with}
 use Rattle.ip_fragments.specs.Waiting.{first_protocol}
 use Rattle.ip_fragments.proofs.RunLemmas.{filled_low}
-use Rattle.ip_fragments.proofs.WaitingLemmas.{grown, grown_most, long_view, receives_keeps, receives_long, receives_whole, whole_view}
+use Rattle.ip_fragments.proofs.WaitingLemmas.{grown, grown_most, long_view, mixed_view, receives_keeps, receives_long, receives_mixed, receives_whole, whole_view}
 use Rattle.ip_fragments.proofs.waiting.Waiting.receive_bytes.Goals as goal
 
 pub overflow_add-self-inside : goal.overflow_add-self-inside
@@ -33,6 +33,21 @@ returns-in_default-clause-most c =
     grown_most c.args.fragment.now c.args.self.now c.hold.new.self c.args.gap c.args.bytes.now
     c.requires.gap c.in_ok-hold.ensures.ok
 
+pub returns-then-is_ecn_mixed-clause-receives : goal.returns-then-is_ecn_mixed-clause-receives
+returns-then-is_ecn_mixed-clause-receives c =
+    let whole = whole_view c.args.fragment.now _ c.args.self.now c.self.view_is c.args.gap
+    c.args.bytes.now (c.self.inside.filled + length c.args.bytes.now) c.with-extent.result.reach
+    c.with-extent.result.is_ended c.with-extent.result.protocol c.requires.gap c.requires.bytes
+    (ap (λ n. n + length c.args.bytes.now) c.self.invariant.0) c.with-extent.ensures.reach
+    c.with-extent.ensures.ended c.with-extent.ensures.protocol in
+    let mixed = mixed_view c.args.fragment.now _ c.args.self.now c.self.view_is
+    (runs_with c.args.gap c.args.fragment.now.offset c.args.bytes.now c.args.self.now.runs)
+    c.with-extent.result.has_not_ect c.with-extent.result.has_ect
+    c.with-extent.ensures.has_not_ect c.with-extent.ensures.has_ect in
+    receives_mixed c.args.fragment.now _ c.args.self.now c.args.self.now _
+    (whole ∙ sym c.in-Some.ensures.whole)
+    (mixed ∙ sym c.is_ecn_mixed.ensures ∙ c.if-is_ecn_mixed.true) refl refl
+
 pub returns-then-is_too_long-clause-receives : goal.returns-then-is_too_long-clause-receives
 returns-then-is_too_long-clause-receives c =
     let whole = whole_view c.args.fragment.now _ c.args.self.now c.self.view_is c.args.gap
@@ -40,12 +55,17 @@ returns-then-is_too_long-clause-receives c =
     c.with-extent.result.is_ended c.with-extent.result.protocol c.requires.gap c.requires.bytes
     (ap (λ n. n + length c.args.bytes.now) c.self.invariant.0) c.with-extent.ensures.reach
     c.with-extent.ensures.ended c.with-extent.ensures.protocol in
+    let mixed = mixed_view c.args.fragment.now _ c.args.self.now c.self.view_is
+    (runs_with c.args.gap c.args.fragment.now.offset c.args.bytes.now c.args.self.now.runs)
+    c.with-extent.result.has_not_ect c.with-extent.result.has_ect
+    c.with-extent.ensures.has_not_ect c.with-extent.ensures.has_ect in
     let long = long_view c.args.fragment.now _ c.args.self.now c.self.view_is
     (runs_with c.args.gap c.args.fragment.now.offset c.args.bytes.now c.args.self.now.runs)
     c.args.bytes.now c.with-extent.result.reach c.with-extent.result.in_front c.requires.bytes
     c.with-extent.ensures.reach c.with-extent.ensures.in_front in
     receives_long c.args.fragment.now _ c.args.self.now c.args.self.now _
     (whole ∙ sym c.in-Some.ensures.whole)
+    (mixed ∙ sym c.is_ecn_mixed.ensures ∙ c.if-is_ecn_mixed.false)
     (long ∙ sym c.is_too_long.ensures ∙ c.if-is_too_long.true) refl refl
 
 pub returns-clause-receives : goal.returns-clause-receives
@@ -55,12 +75,17 @@ returns-clause-receives c =
     c.with-extent.result.is_ended c.with-extent.result.protocol c.requires.gap c.requires.bytes
     (ap (λ n. n + length c.args.bytes.now) c.self.invariant.0) c.with-extent.ensures.reach
     c.with-extent.ensures.ended c.with-extent.ensures.protocol in
+    let mixed = mixed_view c.args.fragment.now _ c.args.self.now c.self.view_is
+    (runs_with c.args.gap c.args.fragment.now.offset c.args.bytes.now c.args.self.now.runs)
+    c.with-extent.result.has_not_ect c.with-extent.result.has_ect
+    c.with-extent.ensures.has_not_ect c.with-extent.ensures.has_ect in
     let long = long_view c.args.fragment.now _ c.args.self.now c.self.view_is
     (runs_with c.args.gap c.args.fragment.now.offset c.args.bytes.now c.args.self.now.runs)
     c.args.bytes.now c.with-extent.result.reach c.with-extent.result.in_front c.requires.bytes
     c.with-extent.ensures.reach c.with-extent.ensures.in_front in
     receives_whole c.args.fragment.now _ c.args.self.now c.args.self.now _
     (whole ∙ sym c.in-Some.ensures.whole)
+    (mixed ∙ sym c.is_ecn_mixed.ensures ∙ c.if-is_ecn_mixed.false)
     (long ∙ sym c.is_too_long.ensures ∙ c.if-is_too_long.false)
     (record {
       source = refl;
