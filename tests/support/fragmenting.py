@@ -81,6 +81,24 @@ def cut(
     return made
 
 
+def with_ecn(frame: bytes, ecn: int) -> bytes:
+    """The frame with that ECN field (RFC 3168, section 5)."""
+    link, header, _, _ = parts_of(frame)
+    behind = frame[len(link) + len(header) :]
+    if header[0] >> 4 == 6:
+        return link + header[:1] + bytes([header[1] & 0xCF | ecn << 4]) + header[2:] + behind
+    header = header[:1] + bytes([header[1] & 0xFC | ecn]) + header[2:10] + b"\0\0" + header[12:]
+    return link + header[:10] + packets.checksum(packets.words(header)) + header[12:] + behind
+
+
+def of_ecn(frame: bytes, identification: int, fields: tuple[int, ...]) -> list[bytes]:
+    """The frame's datagram in so many fragments, with these ECN fields."""
+    _, _, _, payload = parts_of(frame)
+    size = -(-len(payload) // len(fields) // 8) * 8
+    made = cut(frame, size, identification)
+    return [with_ecn(piece, ecn) for piece, ecn in zip(made, fields, strict=True)]
+
+
 def changed(
     frame: bytes, identification: int, made: list[bytes], size: int
 ) -> tuple[list[bytes], int]:

@@ -18,8 +18,9 @@ from tests.recorders.evasions.wire import ACK, PSH, Packet
 
 SCENES = []
 ORIG, RESP = "orig", "resp"
-# The reason for dropping a segment of a closed connection. No line counts it.
-CLOSED = "closed"
+# The reasons for dropping a segment of a closed connection, and fragments whose ECN fields contradict
+# each other. No line counts them.
+CLOSED, ECN = "closed", "ecn"
 # Other names of the kernel's reasons: a segment in LISTEN, one outside the window, and one without
 # new data.
 ALSO = {
@@ -258,6 +259,8 @@ def dropped(room: rooms.Room, end: End, is_orig: bool) -> dict[str, dict[str, in
     found = Counter(
         one["why"]
         for one in room.sendings
-        if one["end"] is end and one["is_recorded"] and one.get("why", CLOSED) != CLOSED
+        if one["end"] is end
+        and one["is_recorded"]
+        and one.get("why", CLOSED) not in {CLOSED, ECN}
     )
     return {(ORIG if is_orig else RESP): dict(sorted(found.items()))} if found else {}

@@ -8,6 +8,7 @@ from typing import TYPE_CHECKING, Any
 
 from tests.recorders.evasions import wire
 from tests.recorders.evasions.wire import ACK, FIN, PSH, SYN
+from tests.support import fragmenting
 
 if TYPE_CHECKING:
     from tests.recorders.evasions.room import Room
@@ -51,6 +52,8 @@ class End:
         self.its_fin = False
         self.seen = []  # The segments that the host sent, in order.
         self.macs = wire.HOST_MAC + wire.OUR_MAC
+        self.fragments = ()  # The ECN fields of the fragments of each packet; none: it is whole.
+        self.identification = 0
 
     # Sending.
 
@@ -113,7 +116,14 @@ class End:
             spoilt,
             macs=self.macs,
         )
-        self.room.sent(self, one, flags, payload, number, **more)
+        for part in self.in_fragments(one):
+            self.room.sent(self, part, flags, payload, number, **more)
+
+    def in_fragments(self, one: bytes) -> list[bytes]:
+        if not self.fragments:
+            return [one]
+        self.identification += 1
+        return fragmenting.of_ecn(one, self.identification, self.fragments)
 
     def say(self, payload: bytes, flags: int = PSH | ACK, **more: Any) -> None:
         """Sends the next bytes and advances past them."""

@@ -19,6 +19,7 @@ from tests.recorders.evasions import (  # noqa: F401
     acceptance,
     clients,
     endings,
+    fragments,
     openings,
     overlaps,
     reopenings,
