@@ -67,7 +67,8 @@ UNTOLD = """
     orig_dropped_pkts resp_dropped_pkts orig_dropped_for resp_dropped_for orig_preamble_bytes
     resp_preamble_bytes found_by tunnels tunnel_ids ssl2_hello ended_early ech_config_id ech_kdf
     ech_aead
-    ech_repeated cert_unread_fields
+    ech_repeated cert_unread_fields ocsp_status ocsp_this_update ocsp_next_update ocsp_revoked_at
+    ocsp_scts ocsp_sct_logs ocsp_sct_times
 """.split()
 ORDER = [name for name in log_columns.names() if name not in UNTOLD]
 TIMES = ("ts", "duration")

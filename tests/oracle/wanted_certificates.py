@@ -118,6 +118,42 @@ def of_certificate(der: bytes) -> Line:
     return said
 
 
+# RFC 6960, section 4.2.1, by what openssl prints.
+REFUSALS = {
+    "malformedrequest": "malformedRequest", "internalerror": "internalError",
+    "trylater": "tryLater", "sigrequired": "sigRequired", "unauthorized": "unauthorized",
+}
+
+
+def moment(label: str, text: str) -> int | None:
+    """A time of an OCSP response, as `Nov 30 22:04:25 2026 GMT`, in seconds since 1970."""
+    said = found(rf"^\s*{label}: (.*) GMT$", text)
+    return calendar.timegm(time.strptime(said, "%b %d %H:%M:%S %Y")) if said else None
+
+
+def of_response(response: bytes) -> Line:
+    """The fields of a stapled OCSP response with one status."""
+    command = ["openssl", "ocsp", "-respin", "/dev/stdin", "-text", "-noverify"]
+    text = subprocess.run(
+        command, input=response, stdout=subprocess.PIPE, stderr=subprocess.STDOUT, check=False
+    ).stdout.decode("latin-1")
+    refusal = found(r"^Responder Error: (\w+)", text)
+    if refusal:
+        return {"ocsp_status": REFUSALS[refusal]}
+    # (the responder's certificates follow)
+    own = text.partition("\nCertificate:")[0]
+    count, logs, times = timestamps(own)
+    return {
+        "ocsp_status": found(r"Cert Status: (\w+)$", own),
+        "ocsp_this_update": moment("This Update", own),
+        "ocsp_next_update": moment("Next Update", own),
+        "ocsp_revoked_at": moment("Revocation Time", own),
+        "ocsp_scts": count or None,
+        "ocsp_sct_logs": logs or None,
+        "ocsp_sct_times": times or None,
+    }
+
+
 def is_chain_in_order(chain: list[bytes]) -> bool | None:
     """Whether each certificate's issuer is the next one's subject, by openssl's hashes of names;
     None for fewer than two certificates, or one that openssl can't read."""

@@ -1,8 +1,9 @@
 """Handshakes of TLS 1.2 with certificates that have all fields that tlslog prints.
 
 Both peers are OpenSSL's, in this process (Python's `ssl` over buffers); their bytes are put into
-segments of TCP. wanted.json has the expected lines: of connections by tshark's fields and what
-`openssl x509` prints of the certificates, of certificates by openssl alone. In `broken`, `expired`
+segments of TCP. Where the server staples an OCSP response they are openssl's programs. wanted.json
+has the expected lines: of connections by tshark's fields and what `openssl x509` and `openssl ocsp`
+print of the certificates and the response, of certificates by openssl alone. In `broken`, `expired`
 and `unread` bytes of certificates were changed after the handshake: what tshark or openssl can't
 read then is written here by hand. It needs `tshark` and `openssl`.
 """
@@ -19,6 +20,7 @@ from collections.abc import Iterable
 from pathlib import Path
 
 from tests.oracle import wanted, wanted_certificates
+from tests.recorders import stapled
 from tests.support import log_columns, packets
 from tests.support.shapes import Line
 
@@ -64,14 +66,18 @@ def counted(content: bytes) -> bytes:
     return struct.pack(">H", len(content)) + content
 
 
-def timestamps() -> str:
-    """Returns the extension of two timestamps: an OCTET STRING with their list."""
+def timestamp_list() -> bytes:
+    """Returns an OCTET STRING with a list of two timestamps."""
     content = counted(
         timestamp("a log", 1_795_600_000_001, b"")
         + timestamp("another log", 1_795_600_123_456, b"\1\2")
     )
-    value = b"\x04\x81" + bytes([len(content)]) + content
-    return f"1.3.6.1.4.1.11129.2.4.2 = DER:{value.hex()}\n"
+    return b"\x04\x81" + bytes([len(content)]) + content
+
+
+def timestamps() -> str:
+    """Returns the extension of a certificate with two timestamps."""
+    return f"1.3.6.1.4.1.11129.2.4.2 = DER:{timestamp_list().hex()}\n"
 
 
 # The subject, key, extensions and issuer of each certificate.
@@ -122,7 +128,13 @@ CASES = {
     "expired": (["leaf", "issuer"], [], "example.test"),
     "unread": (["leaf", "issuer"], [], "example.test"),
     "timestamps": (["timestamps", "issuer"], [], "timestamps.test"),
+    "stapled_good": (["leaf", "issuer"], [], "example.test"),
+    "stapled_revoked": (["curve", "issuer"], [], "other.test"),
+    "stapled_unknown": (["curve", "issuer"], [], "other.test"),
+    "stapled_try_later": (["curve", "issuer"], [], "other.test"),
 }
+# The cases whose server staples an OCSP response, and its status. That of `good` has timestamps.
+STAPLED = {f"stapled_{status}": status for status in stapled.STATUSES}
 # The case in which the second certificate's SEQUENCE has the tag of a SET: what it is, by hand (RFC
 # 5280, section 4.1: "Tag").
 BROKEN, FAULT = "broken", "tag"
@@ -268,6 +280,19 @@ class Capture:
         file.write_bytes(packets.pcap([(s.time, s.frame()) for s in self.segments]))
 
 
+def stapled_response(work: Path, case: str) -> bytes:
+    """Returns the response of a case with one; it is made once."""
+    file = work / f"{case}.der"
+    if not file.exists():
+        chain, _, _ = CASES[case]
+        response = stapled.response(work, STAPLED[case], *chain[:2])
+        is_good = STAPLED[case] == "good"
+        file.write_bytes(
+            stapled.with_timestamps(response, timestamp_list()) if is_good else response
+        )
+    return file.read_bytes()
+
+
 def der(work: Path, name: str) -> bytes:
     return ssl.PEM_cert_to_DER_cert((work / f"{name}.pem").read_text())
 
@@ -317,6 +342,9 @@ def without_none(line: Line) -> Line:
 def wanted_of(work: Path, file: Path, case: str) -> dict[str, list[Line]]:
     server, client, host = CASES[case]
     [connection] = wanted.lines(file) if case not in BY_HAND else [wanted_by_hand(work, case)]
+    if case in STAPLED:
+        connection |= wanted_certificates.of_response(stapled_response(work, case))
+        connection = in_order(connection)
     times = time_of_messages(file)
     lines = []
     for is_client, chain in ((False, server), (True, client)):
@@ -349,7 +377,12 @@ def wanted_by_hand(work: Path, case: str) -> Line:
     found["cert_chain_fps"] = [wanted_certificates.fingerprint(one) for one in chain]
     of_broken = {"cert_error": [f"1:{FAULT}"], "cert_chain_order": None}
     found |= of_broken if case == BROKEN else UNREAD_FIELDS
-    return without_none({field: found.get(field) for field in log_columns.names()})
+    return in_order(found)
+
+
+def in_order(line: Line) -> Line:
+    """Returns a line's fields in the order of the log."""
+    return without_none({field: line.get(field) for field in log_columns.names()})
 
 
 def time_of_messages(file: Path) -> dict[bool, float]:
@@ -389,7 +422,10 @@ def record(folder: Path, chosen: list[str]) -> bool:
             make(work, name)
         for case in chosen or CASES:
             server, client, host = CASES[case]
-            pieces = talk(work, server, client, host)
+            if case in STAPLED:
+                pieces = stapled.talk(work, server, host, stapled_response(work, case))
+            else:
+                pieces = talk(work, server, client, host)
             later = LATER if case == EXPIRED else 0
             Capture(later).write(work / INTACT, pieces)
             file = folder / f"{case}.pcap"

@@ -133,6 +133,13 @@ class Connection:
     ticket_issued: Optional[bool] = None
     ticket_lifetime_hint: Optional[int] = None
     ocsp_stapled: Optional[bool] = None
+    ocsp_status: Optional[str] = None
+    ocsp_this_update: Optional[float] = None
+    ocsp_next_update: Optional[float] = None
+    ocsp_revoked_at: Optional[float] = None
+    ocsp_scts: Optional[int] = None
+    ocsp_sct_logs: Optional[list[str]] = None
+    ocsp_sct_times: Optional[list[int]] = None
     cert_count: Optional[int] = None
     cert_lengths: Optional[list[int]] = None
     cert_chain_fps: Optional[list[str]] = None

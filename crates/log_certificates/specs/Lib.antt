@@ -2,3 +2,4 @@ pub mod Names
 pub mod Read
 pub mod Timestamps
 pub mod Values
+pub mod Responses

@@ -1,12 +1,13 @@
 //! Signed certificate timestamps: in a certificate's extension (RFC 6962, section 3.3), or in a
 //! list from elsewhere.
 ghost use Rattle.std.specs.Prelude.{◌≡◌, [], IfOk};
+ghost use Rattle.std.specs.Option.{option_map, unwrap_or};
 ghost use Rattle.layouts.specs.Items.{items_in};
 ghost use Rattle.tls_key_exchange.specs.Timestamp.{serialized_timestamp};
-ghost use Rattle.x509.specs.Certificate.{extension};
+ghost use Rattle.x509.specs.Certificate.{extension, view_extension};
 ghost use Rattle.log_formats.specs.Data.{value_of};
 ghost use Rattle.log_certificates.specs.Read.{view_read};
-ghost use Rattle.log_certificates.specs.Timestamps.{count_value, ids_in, logs_value, times_in};
+ghost use Rattle.log_certificates.specs.Timestamps.{count_value, ids_in, list_by, logs_value, times_in};
 ghost use Rattle.log_certificates.specs.Timestamps.{times_value, timestamp_count_value};
 ghost use Rattle.log_certificates.specs.Timestamps.{timestamp_logs_value, timestamp_times_value};
 ghost use Rattle.log_certificates.specs.Timestamps.{timestamps_in};
@@ -18,23 +19,24 @@ use log_formats::lists::{Numbers, Texts, some_numbers, some_texts};
 use ocsp::{oid, parse_timestamp_list};
 use std::alloc::{AllocError, Global};
 use tls_key_exchange::{SignedCertificateTimestamp, certificate_timestamps};
-use x509::{Extensions, first_extension};
+use x509::{Extension, Extensions, first_extension};
 
 /// Returns no timestamps.
-fn no_timestamps<'a>() -> Items<'a, SignedCertificateTimestamp<'a>>
+pub(crate) fn no_timestamps<'a>() -> Items<'a, SignedCertificateTimestamp<'a>>
     ensures { items_in serialized_timestamp result.bytes.now ≡ [] }
 {
     Items::new(&[])
 }
 
-/// Returns the timestamps in a certificate's extensions; none if they can't be read.
-pub(crate) fn timestamps_of<'a>(
-    extensions: Items<'a, Extensions>,
+/// Returns the timestamps in an extension (RFC 6962, section 3.3); none without one, and if they
+/// can't be read.
+pub(crate) fn listed_in<'a>(
+    found: Option<Extension<'a>>,
 ) -> Items<'a, SignedCertificateTimestamp<'a>>
     ensures { items_in serialized_timestamp result.bytes.now
-        ≡ timestamps_in (items_in extension extensions.entry.bytes.now) }
+        ≡ unwrap_or (list_by (option_map view_extension found.entry)) [] }
 {
-    let Some(found) = first_extension(extensions, oid::CERTIFICATE_TIMESTAMPS) else {
+    let Some(found) = found else {
         return no_timestamps();
     };
     let Ok((_, list)) = parse_timestamp_list(found.extn_value) else {
@@ -44,6 +46,16 @@ pub(crate) fn timestamps_of<'a>(
         Ok((_, timestamps)) => timestamps,
         Err(_) => no_timestamps(),
     }
+}
+
+/// Returns the timestamps in a certificate's extensions; none if they can't be read.
+pub(crate) fn timestamps_of<'a>(
+    extensions: Items<'a, Extensions>,
+) -> Items<'a, SignedCertificateTimestamp<'a>>
+    ensures { items_in serialized_timestamp result.bytes.now
+        ≡ timestamps_in (items_in extension extensions.entry.bytes.now) }
+{
+    listed_in(first_extension(extensions, oid::CERTIFICATE_TIMESTAMPS))
 }
 
 /// Returns the ids of the logs that signed these timestamps.
@@ -62,7 +74,7 @@ fn ids_of<'a>(
 }
 
 /// Returns when these timestamps were signed, in milliseconds since 1970-01-01 00:00 UTC.
-fn times_of<'a>(
+pub(crate) fn times_of<'a>(
     alloc: Global,
     timestamps: Items<'a, SignedCertificateTimestamp<'a>>,
 ) -> Result<Vec<u64>, AllocError>
@@ -100,7 +112,7 @@ pub fn times_cell<'a, 'c>(
 }
 
 /// Returns how many times there are; `None` instead of 0.
-fn count_cell<'c>(times: &[u64]) -> Option<Cell<'c>>
+pub(crate) fn count_cell<'c>(times: &[u64]) -> Option<Cell<'c>>
     ensures { value_of result ≡ count_value times.now }
 {
     match times {

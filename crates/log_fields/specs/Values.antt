@@ -43,6 +43,18 @@ use Rattle.tls_fingerprints.specs.Ja4.{ja4_of}
 use Rattle.tls_fingerprints.specs.declared.hellos.Transport.{Transport}
 use Rattle.tls_fingerprints.specs.declared.hellos.Transport.TheVariants as over
 use Rattle.log_certificates.specs.Read.{ReadFields}
+use Rattle.log_certificates.specs.Responses.{
+  StapledStatus,
+  next_update_value,
+  revoked_at_value,
+  serial_of,
+  stapled_count_value,
+  stapled_in as stapled_by,
+  stapled_logs_value,
+  stapled_status_value,
+  stapled_times_value,
+  this_update_value,
+}
 use Rattle.log_certificates.specs.Timestamps.{logs_value, times_value}
 use Rattle.log_certificates.specs.Values.{
   certificate_value,
@@ -307,6 +319,10 @@ expired_value k = expired_at k.server k.summary.first_time
 abbrev pub not_yet_valid_value : Known → Option Data
 not_yet_valid_value k = not_yet_valid_at k.server k.summary.first_time
 
+-- What the stapled OCSP response says about the server's certificate.
+abbrev pub stapled_in : Known → Option StapledStatus
+stapled_in k = stapled_by k.handshake.ocsp_response (serial_of k.server)
+
 abbrev pub chain_value : Chain → Known → Option Data
 chain_value chain.ServerCount k = count_value k.handshake.server_certificates
 chain_value chain.ServerLengths k =
@@ -315,6 +331,13 @@ chain_value chain.ServerFingerprints k =
     some_texts (map encode_lower (sums_of (chain_of k.handshake.server_certificates)))
 chain_value chain.TimestampLogs k = logs_value (hello.server_timestamps k.handshake)
 chain_value chain.TimestampTimes k = times_value (hello.server_timestamps k.handshake)
+chain_value chain.OcspStatus k = stapled_status_value (stapled_in k)
+chain_value chain.OcspThisUpdate k = this_update_value (stapled_in k)
+chain_value chain.OcspNextUpdate k = next_update_value (stapled_in k)
+chain_value chain.OcspRevokedAt k = revoked_at_value (stapled_in k)
+chain_value chain.OcspTimestamps k = stapled_count_value (stapled_in k)
+chain_value chain.OcspTimestampLogs k = stapled_logs_value (stapled_in k)
+chain_value chain.OcspTimestampTimes k = stapled_times_value (stapled_in k)
 chain_value chain.ServerOrder k = some_truth k.handshake.server_chain_order
 chain_value chain.Requested k = marked k.handshake.requests_certificate
 chain_value chain.ClientCount k = count_value k.handshake.client_certificates

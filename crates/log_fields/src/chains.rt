@@ -11,7 +11,12 @@ ghost use Rattle.log_fields.specs.Values.{lengths_of, match_value, not_yet_valid
 use crate::context::FieldContext;
 use crate::fields::{Chain, rows};
 use crate::names::fault_name;
-use log_certificates::{has_expired, is_not_yet_valid, logs_cell, times_cell};
+use crate::responses::stapled;
+use log_certificates::{
+    has_expired, is_not_yet_valid, logs_cell, next_update_cell, revoked_at_cell,
+    stapled_count_cell, stapled_logs_cell, stapled_status_cell, stapled_times_cell,
+    this_update_cell, times_cell,
+};
 use log_formats::cell::{Cell, TakesCell};
 use log_formats::lists::{Numbers, Texts, some_numbers, some_texts};
 use log_formats::text::some_mark;

@@ -85,7 +85,7 @@ pub enum Answer {
     Status,
 }
 
-/// The certificate chains.
+/// The certificate chains, and the stapled OCSP response.
 #[derive(Clone, Copy)]
 pub enum Chain {
     ServerCount,
@@ -93,6 +93,13 @@ pub enum Chain {
     ServerFingerprints,
     TimestampLogs,
     TimestampTimes,
+    OcspStatus,
+    OcspThisUpdate,
+    OcspNextUpdate,
+    OcspRevokedAt,
+    OcspTimestamps,
+    OcspTimestampLogs,
+    OcspTimestampTimes,
     ServerOrder,
     Requested,
     ClientCount,
@@ -175,7 +182,7 @@ macro_rules! rows {
                 /// Zeek: `uid`, which is random
                 "uid": Text = Uid => |moment| uid_cell(moment);
                 /// address and port of the originator (which opened the connection) and of the
-                /// responder; over UDP the originator is the sender of the first datagram
+                /// responder; over UDP the originator sent the first datagram
                 /// Zeek: the same
                 "id.orig_h": Address =
                     Originator => |moment| Ok(address_cell(moment.summary.originator.end));
@@ -206,8 +213,7 @@ macro_rules! rows {
                 /// absent: no ServerHello
                 "version": Text =
                     Version => |context| Ok(some_version(context.handshake.version()));
-                /// the cipher suite that the server chose, by its name in IANA's registry, or else
-                /// its number
+                /// the cipher suite that the server chose, by IANA's name or its number
                 /// RFC: 8446, 4.1.3
                 /// Zeek: `cipher`
                 /// absent: no ServerHello
@@ -226,8 +232,8 @@ macro_rules! rows {
                 /// absent: it asked for none
                 "server_name": Text =
                     ServerName => |context| Ok(some_escaped(context.handshake.server_name()));
-                /// the names of other types there, in order, each prefixed by the number of its
-                /// type: `["1:name"]`
+                /// the names of other types there, in order, each prefixed by its type:
+                /// `["1:name"]`
                 /// RFC: 6066, 3
                 /// absent: there are none
                 "other_server_names": Texts =
@@ -377,7 +383,7 @@ macro_rules! rows {
             Offer {
                 /// the version field of the ClientHello, `TLSv12` in TLS 1.3
                 /// RFC: 8446, 4.1.2
-                /// Zeek: the same; with `--format zeek` a number
+                /// Zeek: the same, a number
                 /// absent: no ClientHello (as for all client fields)
                 "client_version": Version =
                     Version => |context| some_version(context.handshake.client_version());
@@ -402,7 +408,7 @@ macro_rules! rows {
                         some_texts(client_suites(context.suites, context.handshake));
                 /// its compression methods, by number
                 /// RFC: 3749, 2
-                /// Zeek: the same; with `--format zeek` by name
+                /// Zeek: the same, by name
                 "client_comp_methods": Methods = Compressions =>
                     |context| compressions_cell(context.handshake);
                 /// the types of its extensions, in order
@@ -420,7 +426,7 @@ macro_rules! rows {
                         some_texts(Texts::Groups(context.handshake.client_groups()));
                 /// the point formats that it offers, by number: 0 is uncompressed
                 /// RFC: 8422, 5.1.2
-                /// Zeek: the same; with `--format zeek` by name
+                /// Zeek: the same, by name
                 /// absent: no such extension
                 "point_formats": PointFormats = PointFormats =>
                     |context| some_numbers(
@@ -447,7 +453,7 @@ macro_rules! rows {
                         Texts::Shares(context.handshake.client_key_shares().bytes()));
                 /// by number: 0 is psk_ke, 1 psk_dhe_ke
                 /// RFC: 8446, 4.2.9
-                /// Zeek: the same; with `--format zeek` by name
+                /// Zeek: the same, by name
                 /// absent: no such extension
                 "psk_key_exchange_modes": Modes = PskModes =>
                     |context| some_numbers(Numbers::Codes(context.handshake.client_psk_modes()));
@@ -501,7 +507,7 @@ macro_rules! rows {
             Answer {
                 /// the version field of the ServerHello
                 /// RFC: 8446, 4.1.3
-                /// Zeek: the same; with `--format zeek` a number
+                /// Zeek: the same, a number
                 /// absent: no ServerHello (as for all server fields)
                 "server_version": Version =
                     Version => |context| some_version(context.handshake.server_version());
@@ -512,7 +518,7 @@ macro_rules! rows {
                     SessionId => |context| some_digits(context.handshake.server_session_id());
                 /// the compression method, by number
                 /// RFC: 3749, 2
-                /// Zeek: the same; with `--format zeek` by name
+                /// Zeek: the same, by name
                 "comp_method": Method = Compression => |context| compression(context.handshake);
                 /// the types of its extensions, in order
                 /// RFC: 8446, 4.2
@@ -564,6 +570,34 @@ macro_rules! rows {
                 "ocsp_stapled": Mark = Status => |context| some_mark(context.handshake.has_status);
             }
             Chain {
+                /// by it, the server's certificate is `good`, `revoked` or `unknown`; or the
+                /// responder's refusal, as `tryLater`
+                /// RFC: 6960, 4.2.1
+                /// Zeek: the same, verified
+                /// absent: none is read for `serial`
+                "ocsp_status": Text =
+                    OcspStatus => |context| Ok(stapled_status_cell(stapled(context)));
+                /// its thisUpdate, nextUpdate, revocationTime, in seconds since 1970
+                /// absent: none
+                "ocsp_this_update": Time =
+                    OcspThisUpdate => |context| Ok(this_update_cell(stapled(context)));
+                /// as above
+                "ocsp_next_update": Time =
+                    OcspNextUpdate => |context| Ok(next_update_cell(stapled(context)));
+                /// as above
+                "ocsp_revoked_at": Time =
+                    OcspRevokedAt => |context| Ok(revoked_at_cell(stapled(context)));
+                /// as `scts`, `sct_logs`, `sct_times`, in it
+                /// RFC: 6962, 3.3
+                /// absent: none
+                "ocsp_scts": Count =
+                    OcspTimestamps => |context| stapled_count_cell(context.alloc, stapled(context));
+                /// as above
+                "ocsp_sct_logs": Texts = OcspTimestampLogs =>
+                    |context| stapled_logs_cell(context.alloc, stapled(context));
+                /// as above
+                "ocsp_sct_times": Counts = OcspTimestampTimes =>
+                    |context| stapled_times_cell(context.alloc, stapled(context));
                 /// how many certificates the server sent
                 /// RFC: 5246, 7.4.2
                 /// absent: no Certificate; TLS 1.3
@@ -691,7 +725,7 @@ macro_rules! rows {
                 "expired_at_connection": Mark = Expired => |context| Ok(expired_cell(context));
                 /// as above
                 "not_yet_valid": Mark = NotYetValid => |context| Ok(not_yet_valid_cell(context));
-                /// whether the server's chain is valid: unset, for readers of Zeek's logs
+                /// unset, for readers of Zeek's logs
                 /// Zeek: the same
                 /// absent: always
                 "validation_status": Text = Validation => |_context| Ok(None);

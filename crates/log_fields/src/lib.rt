@@ -19,6 +19,7 @@ mod fingerprints;
 mod hellos;
 pub mod joined_lists;
 pub mod names;
+mod responses;
 mod row_macros;
 pub mod summary;
 pub mod timestamps;
