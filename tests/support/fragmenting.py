@@ -91,12 +91,17 @@ def with_ecn(frame: bytes, ecn: int) -> bytes:
     return link + header[:10] + packets.checksum(packets.words(header)) + header[12:] + behind
 
 
-def of_ecn(frame: bytes, identification: int, fields: tuple[int, ...]) -> list[bytes]:
-    """The frame's datagram in so many fragments, with these ECN fields."""
+def halves(frame: bytes, identification: int) -> list[bytes]:
+    """The frame's datagram in two fragments."""
     _, _, _, payload = parts_of(frame)
-    size = -(-len(payload) // len(fields) // 8) * 8
-    made = cut(frame, size, identification)
-    return [with_ecn(piece, ecn) for piece, ecn in zip(made, fields, strict=True)]
+    return cut(frame, -(-len(payload) // 16) * 8, identification)
+
+
+def halves_of_ecn(frame: bytes, identification: int, fields: tuple[int, int]) -> list[bytes]:
+    """The frame's datagram in two fragments with these ECN fields."""
+    return [
+        with_ecn(half, ecn) for half, ecn in zip(halves(frame, identification), fields, strict=True)
+    ]
 
 
 def changed(
@@ -265,6 +270,9 @@ def bad(segments: list[Segment]) -> Iterator[tuple[str, bytes, dict[str, int]]]:
     overlapping = "datagrams with overlapping fragments"
     two = [fragment(frame, 7, 8, True, payload[8:24]), fragment(frame, 7, 0, True, payload[:16])]
     yield "overlapping", told([*two, *pieces[:1]]), {overlapping: 1, missing: 1}
+    yield "mixed ECN fields", told([*pieces[:-1], with_ecn(pieces[-1], 2)]), {
+        "datagrams with contradictory ECN fields": 1
+    }
     empty = "datagrams with an empty fragment"
     is_v6 = header[0] >> 4 == 6
     uneven = fragment(frame, 9, 0, True, payload[:7])

@@ -6,8 +6,9 @@ import json
 import subprocess
 import sys
 import time
+from collections.abc import Iterator
 
-from tests.support import packets
+from tests.support import fragmenting, packets
 from tests.tlslog import shared_runs
 from tests.tlslog.program import IO, Program, key, parsed, sorted_text, stop, without
 from tests.tlslog.rewritten import has_room
@@ -60,22 +61,39 @@ def parts(program: Program, captures: list[Stored]) -> None:
     print(f"tlslog: {len(whole)} lines in parts are those without parts")
 
 
+def halves_by_turns(
+    segments: list[packets.Segment], both: list[packets.InNetwork]
+) -> Iterator[tuple[int, bytes]]:
+    """Each datagram in two fragments, in two networks by turns, with the same identification."""
+    for number, s in enumerate(segments):
+        for half in fragmenting.halves(s.frame(), number):
+            for put, _ in both:
+                yield s.time, put(half)
+
+
 def by_network(program: Program, captures: list[Stored]) -> None:
     """Each in two networks at once, whose packets alternate: by --by-network the stored lines for
-    each network. Without it the connections of two VLANs are one, with each packet twice, and by
-    --merge-networks those of two tunnels."""
+    each network, also with each datagram in two fragments. Without it the connections of two VLANs
+    are one, with each packet twice, and by --merge-networks those of two tunnels."""
     count = 0
     for capture in filter(has_room, captures):
         pairs = list(packets.networks())
-        made = []
+        made, cut = [], []
         for _, _, *both in pairs:
             frames = [(s.time, put(s.frame())) for s in capture.segments for put, _ in both]
             made.append(packets.pcap(frames))
+            cut.append(packets.pcap(list(halves_by_turns(capture.segments, both))))
         apart = program.each(made, {0}, f"{capture.name}, by network", ["--by-network"])
         mixed = program.each(made, {0}, f"{capture.name}, in two networks")
         merged = program.each(made, {0}, f"{capture.name}, merged", ["--merge-networks"])
+        cut_apart = program.each(
+            cut, {0}, f"{capture.name}, cut, by network", ["--by-network"]
+        )
+        cut_mixed = program.each(cut, {0}, f"{capture.name}, cut, in two networks")
         left_out = [*of_packets(capture.lines), "tunnels", "tunnel_ids"]
-        for (what, is_apart, *both), lines, by_tunnels, as_one in zip(pairs, apart, mixed, merged):
+        for (what, is_apart, *both), lines, by_tunnels, as_one, by_halves, in_halves in zip(
+            pairs, apart, mixed, merged, cut_apart, cut_mixed
+        ):
             tunnels = [
                 {"tunnels": names, "tunnel_ids": numbers} if names else {}
                 for _, (names, numbers) in both
@@ -84,6 +102,9 @@ def by_network(program: Program, captures: list[Stored]) -> None:
             if sorted(map(sorted_text, lines)) != sorted(map(sorted_text, wanted)):
                 stop(f"{capture.name}, in {what}: other lines by network: {lines}")
             wanted_texts = sorted(map(sorted_text, wanted))
+            for found in [by_halves, in_halves] if is_apart else [by_halves]:
+                if sorted(map(sorted_text, found)) != wanted_texts:
+                    stop(f"{capture.name}, cut, in {what}: other lines: {found}")
             if is_apart and sorted(map(sorted_text, by_tunnels)) != wanted_texts:
                 stop(f"{capture.name}, in {what}: other lines by tunnels: {by_tunnels}")
             for found in [as_one] if is_apart else [as_one, by_tunnels]:

@@ -241,11 +241,7 @@ impl Counts {
             ),
             (self.empty, "datagram", "with an empty fragment"),
             (self.overlapping, "datagram", "with overlapping fragments"),
-            (
-                self.mixed_ecn,
-                "datagram",
-                "with fragments that contradict each other's ECN field",
-            ),
+            (self.mixed_ecn, "datagram", "with contradictory ECN fields"),
             (self.late, "datagram", "that were incomplete too long"),
             (
                 self.evicted,

@@ -52,7 +52,7 @@ class End:
         self.its_fin = False
         self.seen = []  # The segments that the host sent, in order.
         self.macs = wire.HOST_MAC + wire.OUR_MAC
-        self.fragments = ()  # The ECN fields of the fragments of each packet; none: it is whole.
+        self.fragments = ()  # The ECN fields of a packet's two fragments; none: it is whole.
         self.identification = 0
 
     # Sending.
@@ -123,7 +123,7 @@ class End:
         if not self.fragments:
             return [one]
         self.identification += 1
-        return fragmenting.of_ecn(one, self.identification, self.fragments)
+        return fragmenting.halves_of_ecn(one, self.identification, self.fragments)
 
     def say(self, payload: bytes, flags: int = PSH | ACK, **more: Any) -> None:
         """Sends the next bytes and advances past them."""

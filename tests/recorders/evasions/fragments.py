@@ -27,7 +27,7 @@ def fragments_of_mixed_ecn_ipv6(room: rooms.Room) -> None:
 
 
 def say_in_fragments(
-    room: rooms.Room, version: int, mixed: tuple[int, ...], allowed: tuple[int, ...]
+    room: rooms.Room, version: int, mixed: tuple[int, int], allowed: tuple[int, int]
 ) -> None:
     """Sends a hello for another name in fragments with mixed ECN fields, which the host must drop;
     then the real one in fragments that it must join."""
