@@ -7,7 +7,7 @@ use Rattle.std.specs.Prelude.{IfOk, OnErr, Result, Ok, Err}
 use Rattle.std.specs.Map.{lookup_entry}
 use Rattle.lru.specs.LruCache.{LruCache, last_entry, put_entries}
 use Rattle.capture.specs.declared.fragment.IpFragment.{IpFragment}
-use Rattle.ip_fragments.specs.Key.{are_keys, key_of}
+use Rattle.ip_fragments.specs.Key.{are_keys}
 use Rattle.ip_fragments.specs.Waiting.{Waiting, Effect, Drops, Keeps, Completes, Receives, begun, counted, end_of, is_other_end, is_waiting, most_of, received, weight_of}
 use Rattle.ip_fragments.specs.Table.{Becomes, BecomesBy, BeginsAt, ReceivesAt, Table, at, found_or_begun, its, kept, left_of, others, put_at, putting, weight, with_other}
 use Rattle.ip_fragments.specs.declared.fragments.Received.{Received}
@@ -243,20 +243,18 @@ begun_agrees time f = go f.has_more
     go true = refl
     go false = rw (none_before (end_of f)) refl
 
-agrees_at : (time n : ℕ) (f : IpFragment) (t : Table) (o : Option Waiting) → at (key_of n f) t ≡ o
-    → is_other_end f (found_or_begun time o) ≡ false → is_other_end f (its time n f t) ≡ false
-agrees_at time n f t o is h =
+agrees_at : (time : ℕ) (k : Key) (f : IpFragment) (t : Table) (o : Option Waiting) → at k t ≡ o
+    → is_other_end f (found_or_begun time o) ≡ false → is_other_end f (its time k t) ≡ false
+agrees_at time k f t o is h =
     subst (λ p. is_other_end f (found_or_begun time p) ≡ false) (sym is) h
 
-pub agrees_missing : (time n : ℕ) (k : Key) (f : IpFragment) (t : Table) → k ≡ key_of n f
-    → at k t ≡ None → is_other_end f (its time n f t) ≡ false
-agrees_missing time n k f t is none =
-    agrees_at time n f t None (subst (λ x. at x t ≡ None) is none) (begun_agrees time f)
+pub agrees_missing : (time : ℕ) (k : Key) (f : IpFragment) (t : Table) → at k t ≡ None
+    → is_other_end f (its time k t) ≡ false
+agrees_missing time k f t none = agrees_at time k f t None none (begun_agrees time f)
 
-pub agrees_found : (time n : ℕ) (k : Key) (f : IpFragment) (t : Table) (v : Waiting) → k ≡ key_of n f
-    → at k t ≡ Some v → is_other_end f v ≡ false → is_other_end f (its time n f t) ≡ false
-agrees_found time n k f t v is found h =
-    agrees_at time n f t (Some v) (subst (λ x. at x t ≡ Some v) is found) h
+pub agrees_found : (time : ℕ) (k : Key) (f : IpFragment) (t : Table) (v : Waiting)
+    → at k t ≡ Some v → is_other_end f v ≡ false → is_other_end f (its time k t) ≡ false
+agrees_found time k f t v found h = agrees_at time k f t (Some v) found h
 
 -- A fragment begins a datagram that waits for more, or is over at once.
 pub begins_waiting : (k : Key) (f : IpFragment) (o : FragmentOutcome) (v w : Waiting) (t u : Table)
@@ -279,78 +277,72 @@ begins_over k f o v w t u (Keeps x) is waits e =
 begins_over k f o v w t u (Completes x) is waits e = (is.0, e)
 
 -- The first fragment of a datagram.
-begins_by : (n : ℕ) (k : Key) (f : IpFragment) (o : FragmentOutcome) (t u : Table) (e : Effect)
-    → k ≡ key_of n f → at k t ≡ None → BeginsAt k f o t u e → BecomesBy n f o t u e
-begins_by n k f o t u (Drops r) is none b =
-    (b.0, b.1 ∙ sym (missed k t none) ∙ ap (λ x. others x t) is)
-begins_by n k f o t u (Keeps w) is none b =
-    (b.0, b.1 ∙ sym (ap (λ p. put_at p k w t) none) ∙ ap (λ x. putting x w t) is)
-begins_by n k f o t u (Completes w) is none b =
-    (b.0, b.1 ∙ sym (missed k t none) ∙ ap (λ x. others x t) is)
+begins_by : (k : Key) (f : IpFragment) (o : FragmentOutcome) (t u : Table) (e : Effect)
+    → at k t ≡ None → BeginsAt k f o t u e → BecomesBy k f o t u e
+begins_by k f o t u (Drops r) none b = (b.0, b.1 ∙ sym (missed k t none))
+begins_by k f o t u (Keeps w) none b = (b.0, b.1 ∙ sym (ap (λ p. put_at p k w t) none))
+begins_by k f o t u (Completes w) none b = (b.0, b.1 ∙ sym (missed k t none))
 
-pub missing_becomes : (time n : ℕ) (k : Key) (f : IpFragment) (o : FragmentOutcome) (t u : Table)
-    → k ≡ key_of n f → at k t ≡ None → BeginsAt k f o t u (received f (begun time))
-    → Becomes time n f o t u
-missing_becomes time n k f o t u is none b =
-    let its_is : its time n f t ≡ begun time =
-    ap (found_or_begun time) (subst (λ x. at x t ≡ None) is none) in
-    subst (λ x. BecomesBy n f o t u (received f x)) (sym its_is)
-    (begins_by n k f o t u (received f (begun time)) is none b)
+pub missing_becomes : (time : ℕ) (k : Key) (f : IpFragment) (o : FragmentOutcome) (t u : Table)
+    → at k t ≡ None → BeginsAt k f o t u (received f (begun time)) → Becomes time k f o t u
+missing_becomes time k f o t u none b =
+    let its_is : its time k t ≡ begun time = ap (found_or_begun time) none in
+    subst (λ x. BecomesBy k f o t u (received f x)) (sym its_is)
+    (begins_by k f o t u (received f (begun time)) none b)
 
-pub missing_put : {E : Type 0} (time n : ℕ) (k : Key) (f : IpFragment) (x : Option Received)
-    (r : Result FragmentOutcome E) (t m u : Table) → k ≡ key_of n f → x ≡ None
-    → ReceivesAt k f x t m → IfOk r (λ o. BeginsAt k f o m u (received f (begun time)))
-    → IfOk r (λ o. Becomes time n f o t u)
-missing_put time n k f x (Err e) t m u is none a b = _
-missing_put time n k f x (Ok o) t m u is none a b =
+pub missing_put : {E : Type 0} (time : ℕ) (k : Key) (f : IpFragment) (x : Option Received)
+    (r : Result FragmentOutcome E) (t m u : Table) → x ≡ None → ReceivesAt k f x t m
+    → IfOk r (λ o. BeginsAt k f o m u (received f (begun time)))
+    → IfOk r (λ o. Becomes time k f o t u)
+missing_put time k f x (Err e) t m u none a b = _
+missing_put time k f x (Ok o) t m u none a b =
     let a' : ReceivesAt k f None t m = subst (λ y. ReceivesAt k f y t m) none a in
-    missing_becomes time n k f o t u is a'.0
+    missing_becomes time k f o t u a'.0
     (subst (λ l. BeginsAt k f o l u (received f (begun time))) a'.1 b)
 
 -- A fragment of a datagram in the table, which waits for more or is over.
-waits_by : (n : ℕ) (k : Key) (f : IpFragment) (o : FragmentOutcome) (v w : Waiting) (t u : Table)
-    (e : Effect) → k ≡ key_of n f → at k t ≡ Some v → Receives f o v w e → is_waiting o ≡ true
-    → u ≡ with_other k w t → BecomesBy n f o t u e
-waits_by n k f o v w t u (Drops q) is found r waits e =
+waits_by : (k : Key) (f : IpFragment) (o : FragmentOutcome) (v w : Waiting) (t u : Table)
+    (e : Effect) → at k t ≡ Some v → Receives f o v w e → is_waiting o ≡ true
+    → u ≡ with_other k w t → BecomesBy k f o t u e
+waits_by k f o v w t u (Drops q) found r waits e =
     let off : is_waiting (outcome.Refused q) ≡ true = subst (λ x. is_waiting x ≡ true) r.0 waits in
     absurd cc
-waits_by n k f o v w t u (Keeps x) is found r waits e = (
+waits_by k f o v w t u (Keeps x) found r waits e = (
   r.0,
-  e ∙ ap (λ y. with_other k y t) r.1 ∙ sym (ap (λ p. put_at p k x t) found)
-      ∙ ap (λ y. putting y x t) is,
+  e ∙ ap (λ y. with_other k y t) r.1 ∙ sym (ap (λ p. put_at p k x t) found),
 )
-waits_by n k f (outcome.Whole d) v w t u (Completes x) is found r waits e = absurd cc
-waits_by n k f outcome.Waits v w t u (Completes x) is found r waits e = absurd r.0
-waits_by n k f (outcome.Refused q) v w t u (Completes x) is found r waits e = absurd cc
+waits_by k f (outcome.Whole d) v w t u (Completes x) found r waits e = absurd cc
+waits_by k f outcome.Waits v w t u (Completes x) found r waits e = absurd r.0
+waits_by k f (outcome.Refused q) v w t u (Completes x) found r waits e = absurd cc
 
-over_by : (n : ℕ) (k : Key) (f : IpFragment) (o : FragmentOutcome) (v w : Waiting) (t m u : Table)
-    (e : Effect) → k ≡ key_of n f → at k t ≡ Some v → Receives f o v w e → is_waiting o ≡ false
-    → m ≡ with_other k w t → u ≡ others k m → BecomesBy n f o t u e
-over_by n k f o v w t m u (Drops q) is found r waits e g =
-    (r.0, g ∙ ap (others k) e ∙ others_with k t w ∙ ap (λ x. others x t) is)
-over_by n k f o v w t m u (Keeps x) is found r waits e g =
+over_by : (k : Key) (f : IpFragment) (o : FragmentOutcome) (v w : Waiting) (t m u : Table)
+    (e : Effect) → at k t ≡ Some v → Receives f o v w e → is_waiting o ≡ false
+    → m ≡ with_other k w t → u ≡ others k m → BecomesBy k f o t u e
+over_by k f o v w t m u (Drops q) found r waits e g =
+    (r.0, g ∙ ap (others k) e ∙ others_with k t w)
+over_by k f o v w t m u (Keeps x) found r waits e g =
     let off : is_waiting outcome.Waits ≡ false = subst (λ x. is_waiting x ≡ false) r.0 waits in
     absurd cc
-over_by n k f o v w t m u (Completes x) is found r waits e g =
-    (r.0, g ∙ ap (others k) e ∙ others_with k t w ∙ ap (λ x. others x t) is)
+over_by k f o v w t m u (Completes x) found r waits e g =
+    (r.0, g ∙ ap (others k) e ∙ others_with k t w)
 
-module _ (time n : ℕ) (k : Key) (f : IpFragment) (x : Received) (t m : Table) where
-  its_is : (v : Waiting) → k ≡ key_of n f → at k t ≡ Some v → its time n f t ≡ v
-  its_is v is found = ap (found_or_begun time) (subst (λ y. at y t ≡ Some v) is found)
+module _ (time : ℕ) (k : Key) (f : IpFragment) (x : Received) (t m : Table) where
+  its_is : (v : Waiting) → at k t ≡ Some v → its time k t ≡ v
+  its_is v found = ap (found_or_begun time) found
 
-  pub waits_becomes : k ≡ key_of n f → ReceivesAt k f (Some x) t m → is_waiting x.outcome ≡ true
-      → Becomes time n f x.outcome t m
-  waits_becomes is r waits =
+  pub waits_becomes : ReceivesAt k f (Some x) t m → is_waiting x.outcome ≡ true
+      → Becomes time k f x.outcome t m
+  waits_becomes r waits =
       let v = r.0 in
-      subst (λ y. BecomesBy n f x.outcome t m (received f y)) (sym (its_is v is r.2))
-      (waits_by n k f x.outcome v r.1 t m (received f v) is r.2 r.3 waits r.6)
+      subst (λ y. BecomesBy k f x.outcome t m (received f y)) (sym (its_is v r.2))
+      (waits_by k f x.outcome v r.1 t m (received f v) r.2 r.3 waits r.6)
 
-  pub over_becomes : (u : Table) → k ≡ key_of n f → ReceivesAt k f (Some x) t m
-      → is_waiting x.outcome ≡ false → u ≡ others k m → Becomes time n f x.outcome t u
-  over_becomes u is r waits left =
+  pub over_becomes : (u : Table) → ReceivesAt k f (Some x) t m → is_waiting x.outcome ≡ false
+      → u ≡ others k m → Becomes time k f x.outcome t u
+  over_becomes u r waits left =
       let v = r.0 in
-      subst (λ y. BecomesBy n f x.outcome t u (received f y)) (sym (its_is v is r.2))
-      (over_by n k f x.outcome v r.1 t m u (received f v) is r.2 r.3 waits r.6 left)
+      subst (λ y. BecomesBy k f x.outcome t u (received f y)) (sym (its_is v r.2))
+      (over_by k f x.outcome v r.1 t m u (received f v) r.2 r.3 waits r.6 left)
 
   -- The memory that the table counts then.
   pub weight_received : ReceivesAt k f (Some x) t m → weight m ≡ weight t + x.added

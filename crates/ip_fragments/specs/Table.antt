@@ -59,13 +59,13 @@ is_late time a w = nat_lt (limit_of a) (time - w.since)
 
 -- It drops that datagram then. Only its own fragments show that a datagram's time is over: times of
 -- others may come from another clock.
-abbrev pub without_late_at : Option Waiting → ℕ → ℕ → IpFragment → Reassembly → Reassembly
-without_late_at None time n f r = r
-without_late_at (Some w) time n f r = if is_late time f.source w then
-    record r { waiting = others (key_of n f) r.waiting; late = counted r.late 1 } else r
+abbrev pub without_late_at : Option Waiting → ℕ → Key → Address → Reassembly → Reassembly
+without_late_at None time k a r = r
+without_late_at (Some w) time k a r = if is_late time a w then
+    record r { waiting = others k r.waiting; late = counted r.late 1 } else r
 
-abbrev pub without_late : ℕ → ℕ → IpFragment → Reassembly → Reassembly
-without_late time n f r = without_late_at (at (key_of n f) r.waiting) time n f r
+abbrev pub without_late : ℕ → Key → Address → Reassembly → Reassembly
+without_late time k a r = without_late_at (at k r.waiting) time k a r
 
 -- What is left of these datagrams, which count `held` bytes, once the oldest are dropped until
 -- there is room for `more`.
@@ -91,8 +91,8 @@ abbrev pub found_or_begun : ℕ → Option Waiting → Waiting
 found_or_begun time None = begun time
 found_or_begun time (Some v) = v
 
-abbrev pub its : ℕ → ℕ → IpFragment → Table → Waiting
-its time n f t = found_or_begun time (at (key_of n f) t)
+abbrev pub its : ℕ → Key → Table → Waiting
+its time k t = found_or_begun time (at k t)
 
 -- A fragment is added to the datagram of its key, which counts so much more memory afterwards; or
 -- there is none.
@@ -110,22 +110,22 @@ BeginsAt k f o t u (Completes w) = HandsOut f w o × (u ≡ t)
 
 -- A fragment's datagram is dropped, waits for more in the table, or is complete and returned. Other
 -- keys keep their datagrams.
-abbrev pub BecomesBy : ℕ → IpFragment → FragmentOutcome → Table → Table → Effect → Type 0
-BecomesBy n f o t u (Drops r) = (o ≡ outcome.Refused r) × (u ≡ others (key_of n f) t)
-BecomesBy n f o t u (Keeps w) = (o ≡ outcome.Waits) × (u ≡ putting (key_of n f) w t)
-BecomesBy n f o t u (Completes w) = HandsOut f w o × (u ≡ others (key_of n f) t)
+abbrev pub BecomesBy : Key → IpFragment → FragmentOutcome → Table → Table → Effect → Type 0
+BecomesBy k f o t u (Drops r) = (o ≡ outcome.Refused r) × (u ≡ others k t)
+BecomesBy k f o t u (Keeps w) = (o ≡ outcome.Waits) × (u ≡ putting k w t)
+BecomesBy k f o t u (Completes w) = HandsOut f w o × (u ≡ others k t)
 
-abbrev pub Becomes : ℕ → ℕ → IpFragment → FragmentOutcome → Table → Table → Type 0
-Becomes time n f o t u = BecomesBy n f o t u (received f (its time n f t))
+abbrev pub Becomes : ℕ → Key → IpFragment → FragmentOutcome → Table → Table → Type 0
+Becomes time k f o t u = BecomesBy k f o t u (received f (its time k t))
 
 -- The table when a fragment arrives in a network. Its datagram is dropped if the fragment is late, and then the
 -- oldest ones until there is room for a new one.
 abbrev pub ready : ℕ → ℕ → IpFragment → Reassembly → Reassembly
-ready time n f r = forgetting (most_of f) (without_late time n f r)
+ready time n f r = forgetting (most_of f) (without_late time (key_of n f) f.source r)
 
 -- A fragment that isn't refused alone.
 pub record Takes (time n : ℕ) (f : IpFragment) (o : FragmentOutcome) (r s : Reassembly) : Type 0 where
-  pub becomes : Becomes time n f o (ready time n f r).waiting s.waiting
+  pub becomes : Becomes time (key_of n f) f o (ready time n f r).waiting s.waiting
   pub late : s.late ≡ (ready time n f r).late
   pub evicted : s.evicted ≡ (ready time n f r).evicted
 
@@ -142,5 +142,5 @@ Adds time n f o r s = AddsBy time n f o r s (refused_alone f)
 -- over the limit were dropped before.
 pub record LeavesOut (time n : ℕ) (f : IpFragment) (r s : Reassembly) : Type 0 where
   pub alone : refused_alone f ≡ None
-  pub agrees : is_other_end f (its time n f (ready time n f r).waiting) ≡ false
+  pub agrees : is_other_end f (its time (key_of n f) (ready time n f r).waiting) ≡ false
   pub forgets : s ≡ ready time n f r

@@ -1,7 +1,6 @@
 //! Datagrams in reassembly.
 ghost use Rattle.std.specs.Prelude.{◌≡◌, ◌≤◌, ◌<◌, ◌+◌, ◌-◌, ◌*◌, ◌^◌, ◌==◌, [], ◌∷◌, nat_lt, length, is_some, true, false, Some, None, IfOk, IfSome, OnErr, OnOk};
 ghost use Rattle.ip_fragments.specs.Waiting.{begun, counted, is_other_end, most_of as most_of_fragment, received, weight_of, Receives, Waiting};
-ghost use Rattle.ip_fragments.specs.Key.{key_of};
 ghost use Rattle.ip_fragments.specs.Table.{at, forgetting, is_late as is_late_datagram, its, kept, limit_of, others, ready, weight, with_other, without_late, Adds, Becomes, BeginsAt, LeavesOut, ReceivesAt};
 
 use crate::key::Key;
@@ -231,8 +230,7 @@ impl FragmentTable {
 
     /// Drops the datagram of a fragment, if the fragment arrives too late for it.
     fn drop_late(&mut self, time: u64, key: &Key, fragment: &IpFragment<'_>)
-        requires { key.now ≡ key_of key.now.network fragment.now }
-        ensures { self.new ≡ without_late time key.now.network fragment.now self.old }
+        ensures { self.new ≡ without_late time key.now fragment.now.source self.old }
     {
         let is_late = match self.waiting.peek(key) {
             Some(waiting) => is_late(time, fragment.source, waiting),
@@ -294,17 +292,15 @@ impl FragmentTable {
         key: Key,
         fragment: &IpFragment<'_>,
     ) -> Result<FragmentOutcome, AllocError>
-        requires key { key ≡ key_of key.network fragment.now }
         requires short { length fragment.now.payload.now < 2 ^ 16 }
         requires room { weight self.old.waiting + most_of_fragment fragment.now ≤ 33554432 }
         ensures becomes { IfOk result
-            (λ o. Becomes time key.network fragment.now o self.old.waiting self.new.waiting) }
+            (λ o. Becomes time key fragment.now o self.old.waiting self.new.waiting) }
         ensures late { self.new.late ≡ self.old.late }
         ensures evicted { self.new.evicted ≡ self.old.evicted }
         ensures err { OnErr result (self.new ≡ self.old) }
         ensures agrees { OnErr result
-            (is_other_end fragment.now (its time key.network fragment.now self.old.waiting)
-            ≡ false) }
+            (is_other_end fragment.now (its time key self.old.waiting) ≡ false) }
     {
         let Some(received) = receive_at(&mut self.waiting, self.alloc, &key, fragment)? else {
             return self.begin(time, key, fragment);

@@ -25,8 +25,7 @@ impl Key {
     /// protocol (RFC 791, section 3.2). In IPv6 the protocol doesn't count (RFC 8200, section 4.5).
     /// Fragments with a wrong header checksum are apart from others, since a host drops them.
     pub(crate) fn of(network: u64, fragment: &IpFragment<'_>) -> Key
-        ensures is { result ≡ key_of network fragment.now }
-        ensures network { result.network ≡ network }
+        ensures { result ≡ key_of network fragment.now }
     {
         let protocol = match fragment.source {
             Address::V4(_) => fragment.protocol,
