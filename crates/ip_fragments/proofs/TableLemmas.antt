@@ -15,10 +15,7 @@ use Rattle.ip_fragments.specs.declared.outcome.FragmentOutcome.{FragmentOutcome}
 use Rattle.ip_fragments.specs.declared.outcome.FragmentOutcome.TheVariants as outcome
 use Rattle.ip_fragments.specs.declared.key.Key.{Key}
 
--- Keys that compare equal are equal.
-pub the_same : (a b : Key) → are_keys a b ≡ true → a ≡ b
-the_same a b e = search rules
-
+-- A key is equal to itself.
 pub are_keys-refl : (k : Key) → are_keys k k ≡ true
 are_keys-refl k = search rules
 

@@ -1,6 +1,6 @@
 use Rattle.std.proofs.Common.{◌+◌, length, refl, sym, ap, ◌∙◌, arith}
 use Rattle.ip_fragments.specs.Runs.{joined, runs_with}
-use Rattle.ip_fragments.specs.Waiting.{first_protocol}
+use Rattle.ip_fragments.specs.Waiting.{first_protocol, with_runs}
 use Rattle.ip_fragments.proofs.RunLemmas.{filled_low}
 use Rattle.ip_fragments.proofs.WaitingLemmas.{grown, grown_most, long_view, mixed_view, receives_keeps, receives_long, receives_mixed, receives_whole, whole_view}
 use Rattle.ip_fragments.proofs.waiting.Waiting.receive_bytes.Goals as goal
@@ -44,7 +44,9 @@ returns-then-is_ecn_mixed-clause-receives c =
     (runs_with c.args.gap c.args.fragment.now.offset c.args.bytes.now c.args.self.now.runs)
     c.with-extent.result.has_not_ect c.with-extent.result.has_ect
     c.with-extent.ensures.has_not_ect c.with-extent.ensures.has_ect in
-    receives_mixed c.args.fragment.now _ c.args.self.now c.args.self.now _
+    receives_mixed c.args.fragment.now _ c.args.self.now c.args.self.now
+    (with_runs c.args.fragment.now (runs_with c.args.gap c.args.fragment.now.offset
+    c.args.bytes.now c.args.self.now.runs) c.args.self.now)
     (whole ∙ sym c.in-Some.ensures.whole)
     (mixed ∙ sym c.is_ecn_mixed.ensures ∙ c.if-is_ecn_mixed.true) refl refl
 
