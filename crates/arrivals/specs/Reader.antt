@@ -1,5 +1,5 @@
 -- What a packet brings to connections, and the reader behind it.
-use Rattle.std.specs.Prelude.{◌≡◌, ℕ, ◌==◌, ◌||◌, not, Bool, true, false, length, Option, Some, None, []}
+use Rattle.std.specs.Prelude.{◌≡◌, ℕ, ◌==◌, ◌||◌, not, Bool, true, false, length, List, Option, Some, None, []}
 use Rattle.capture.specs.Checksum.{checksum_of}
 use Rattle.capture.specs.Ip.{Address, Datagram}
 use Rattle.capture.specs.Transport.{Content, Segment as TcpHeader, UserDatagram}
