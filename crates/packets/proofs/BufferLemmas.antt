@@ -1,8 +1,8 @@
 -- The buffer after a read.
-use Rattle.std.proofs.Common.{◌≡◌, ℕ, zero, suc, ◌+◌, ◌≤◌, List, [], ◌∷◌, ◌++◌, length, take, drop, refl, sym, ◌∙◌, ap}
+use Rattle.std.proofs.Common.{◌≡◌, ℕ, zero, suc, ◌+◌, ◌-◌, ◌≤◌, List, [], ◌∷◌, ◌++◌, length, take, drop, refl, sym, ◌∙◌, ap}
 use Rattle.std.proofs.Common.{arith}
-use Rattle.std.proofs.lemmas.List.{append_assoc, take_all, take-append-le, drop-append-le}
-use Rattle.std.proofs.Math.Seq.{take-append-add}
+use Rattle.std.proofs.lemmas.List.{append_assoc, drop-take, length-drop, length-take, take_all, take-append-le, drop-append-le}
+use Rattle.std.proofs.Math.Seq.{take-append-add, take-append_seam}
 
 take_within : (a b : ℕ) (l : List ℕ) → a ≤ b → take a (take b l) ≡ take a l
 take_within zero b l h = refl
@@ -35,3 +35,23 @@ pub room_made : (h whole : ℕ) (items more new : List ℕ) → h ≤ length ite
     → take h new ≡ take h items
 room_made h whole items more new e le is =
     ap (take h) (is ∙ ap (λ t. t ++ more) (take_all whole items le)) ∙ take-append-le h items more e
+
+-- bytes that were moved to the front
+pub moved_front : (start end : ℕ) (bytes front behind : List ℕ) → start ≤ end → end ≤ length bytes
+    → front ≡ take (end - start) (drop start bytes)
+    → take (end - start) (front ++ behind) ≡ drop start (take end bytes)
+moved_front start end bytes front behind le within is =
+    let len : length front ≡ end - start =
+    ap length is ∙ grind (arith, length-take, length-drop, le, within) in
+    ap (λ n. take n (front ++ behind)) (sym len)
+    ∙ take-append_seam front behind
+    ∙ is
+    ∙ sym (drop-take start (end - start) bytes)
+    ∙ ap (λ n. drop start (take n bytes)) (omega (arith, le))
+
+pub moved_over : (start end : ℕ) (bytes front rest behind : List ℕ) → start ≤ end
+    → end ≤ length bytes → front ≡ take (end - start) (drop start bytes)
+    → take (end - start) ((front ++ rest) ++ behind) ≡ drop start (take end bytes)
+moved_over start end bytes front rest behind le within is =
+    ap (take (end - start)) (append_assoc front rest behind)
+    ∙ moved_front start end bytes front (rest ++ behind) le within is

@@ -10,6 +10,23 @@ use std::marker::Model;
 /// cache when it is parsed.
 const PIECE: usize = 65_536;
 
+/// Moves `bytes[start..end]` to the front. (Most often these bytes are the begun packet behind many
+/// whole ones. `copy_within` would move it byte by byte.)
+fn move_to_front(bytes: &mut [u8], start: usize, end: usize)
+    requires ordered { start ≤ end }
+    requires within { end ≤ length bytes.old }
+    ensures moved { take (end - start) bytes.new ≡ drop start (take end bytes.old) }
+    ensures len { length bytes.new ≡ length bytes.old }
+{
+    let count = end - start;
+    if count > start {
+        bytes.copy_within(start..end, 0);
+        return;
+    }
+    let (front, behind) = bytes.split_at_mut(start);
+    front[..count].copy_from_slice(&behind[..count]);
+}
+
 /// A buffer between a source and a parser, which takes bytes off the front.
 ///
 /// Its value in a contract is the bytes in the buffer.
@@ -61,7 +78,7 @@ impl Buffer {
         ensures { self.new ≡ self.old }
     {
         if self.start > 0 {
-            self.bytes.copy_within(self.start..self.end, 0);
+            move_to_front(&mut self.bytes, self.start, self.end);
             self.end -= self.start;
             self.start = 0;
         }
