@@ -105,6 +105,14 @@ impl ArrivalReader {
         }
     }
 
+    /// Returns whether the last packet without an arrival holds a fragment.
+    #[inline(always)]
+    pub fn has_fragment(&self) -> bool
+        ensures { result ≡ self.now.is_cut }
+    {
+        self.is_cut
+    }
+
     /// Adds the fragment in a packet without an arrival to its datagram. Returns the datagram once
     /// it is complete, or `None` if the packet has no fragment.
     ///
