@@ -1,5 +1,5 @@
-"""OCSP responses (RFC 6960) by `openssl ocsp`, and handshakes of `openssl s_server` and `s_client` in
-which the server staples one (RFC 6066, section 8)."""
+"""OCSP responses (RFC 6960) by `openssl ocsp`, and handshakes of `openssl s_server` and `s_client`
+in which the server staples one (RFC 6066, section 8)."""
 
 from __future__ import annotations
 

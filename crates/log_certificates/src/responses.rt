@@ -8,7 +8,8 @@ ghost use Rattle.ocsp.specs.Response.{view_basic, view_response, view_response_b
 ghost use Rattle.ocsp.specs.Single.{view_single};
 ghost use Rattle.log_formats.specs.Data.{value_of};
 ghost use Rattle.log_formats.specs.Texts.{text_bytes};
-ghost use Rattle.log_certificates.specs.Responses.{basic_in, cert_status_text, next_update_value};
+ghost use Rattle.log_certificates.specs.Responses.{Answered, basic_in, cert_status_text};
+ghost use Rattle.log_certificates.specs.Responses.{next_update_value};
 ghost use Rattle.log_certificates.specs.Responses.{refusal_name as refusal_name_of, revocation_time};
 ghost use Rattle.log_certificates.specs.Responses.{revoked_at_value, single_by, single_of};
 ghost use Rattle.log_certificates.specs.Responses.{stapled_count_value, stapled_in};
@@ -42,12 +43,13 @@ pub enum StapledStatus<'a> {
 fn basic_of<'a>(answer: &ResponseBytes<'a>) -> Option<BasicOcspResponse<'a>>
     ensures { option_map view_basic result ≡ basic_in (view_response_bytes answer.now) }
 {
-    if answer.response_type.content != oid::BASIC.content {
-        return None;
-    }
-    match parse_basic_ocsp_response(answer.response) {
-        Ok((_, basic)) => Some(basic),
-        Err(_) => None,
+    if answer.response_type.content == oid::BASIC.content {
+        match parse_basic_ocsp_response(answer.response) {
+            Ok((_, basic)) => Some(basic),
+            Err(_) => None,
+        }
+    } else {
+        None
     }
 }
 
@@ -75,6 +77,17 @@ fn answer_of<'a>(response: &OcspResponse<'a>) -> Option<BasicOcspResponse<'a>>
     }
 }
 
+/// Returns the answer for a certificate as its status, if there is one.
+fn answered<'a>(single: Option<SingleResponse<'a>>) -> Option<StapledStatus<'a>>
+    ensures { option_map view_stapled result
+        ≡ option_map Answered (option_map view_single single.entry) }
+{
+    match single {
+        Some(single) => Some(StapledStatus::Answered(single)),
+        None => None,
+    }
+}
+
 /// Returns what a parsed response says about the certificate with this serial number.
 fn status_of<'a>(
     serial_number: Option<&[u8]>,
@@ -83,12 +96,9 @@ fn status_of<'a>(
     ensures { option_map view_stapled result
         ≡ status_in (option_map (λ n. n.now) serial_number.entry) (view_response response.now) }
 {
-    if response.response_status != OcspResponseStatus::SUCCESSFUL {
-        return Some(StapledStatus::Refused(response.response_status));
-    }
-    match single_for(serial_number, answer_of(response)) {
-        Some(single) => Some(StapledStatus::Answered(single)),
-        None => None,
+    match response.response_status {
+        OcspResponseStatus::SUCCESSFUL => answered(single_for(serial_number, answer_of(response))),
+        refusal => Some(StapledStatus::Refused(refusal)),
     }
 }
 
