@@ -92,6 +92,10 @@ NAMES = [
     b",",
 ]
 
+TIMES = (
+    "ts", "certificate.not_valid_before", "certificate.not_valid_after", "ocsp_this_update",
+    "ocsp_next_update", "ocsp_revoked_at",
+)
 
 def want(is_so: object, *words: object) -> None:
     if not is_so:
@@ -100,7 +104,7 @@ def want(is_so: object, *words: object) -> None:
 
 def kind_of(field: str, value: Any) -> str:
     """The type in which Zeek has a value of JSON."""
-    if field in ("ts", "certificate.not_valid_before", "certificate.not_valid_after"):
+    if field in TIMES:
         return "time"
     if field.startswith("id."):
         return "port" if field.endswith("_p") else "addr"
