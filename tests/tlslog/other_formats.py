@@ -91,11 +91,12 @@ NAMES = [
     b" ",
     b",",
 ]
-
+# The fields that Zeek has as times.
 TIMES = (
     "ts", "certificate.not_valid_before", "certificate.not_valid_after", "ocsp_this_update",
     "ocsp_next_update", "ocsp_revoked_at",
 )
+
 
 def want(is_so: object, *words: object) -> None:
     if not is_so:
