@@ -1,10 +1,11 @@
 -- What a packet does to a log.
 use Rattle.std.proofs.Common.{◌≡◌, ◌⊎◌, inl, inr, refl, sym, ap, subst, Option, Some, None, List, [], ◌∷◌, ◌++◌, Bool, true, false, ℕ}
-use Rattle.std.specs.Prelude.{Result, Ok, Err, IfErr, IsErrAnd, OnErr, OnOk, is_some, not, ◌&&◌, ◌||◌}
+use Rattle.std.specs.Prelude.{◌+◌, Result, Ok, Err, IfErr, IsErrAnd, OnErr, OnOk, is_some, not, ◌&&◌, ◌||◌}
 use Rattle.packets.specs.Section.{Packet}
 use Rattle.tunnels.specs.Walk.{unwrapped}
+use Rattle.tunnels.specs.declared.tunnel.TheConstants.{MAX_TUNNELS}
 use Rattle.arrivals.specs.Counts.{with_packet_counted}
-use Rattle.arrivals.specs.Fragments.{Joins, LeavesOutFound}
+use Rattle.arrivals.specs.Fragments.{Joins, LeavesOutFound, fragment_in}
 use Rattle.arrivals.specs.Reader.{Reads, ReadsInside}
 use Rattle.arrivals.specs.declared.arrival.Arrival.{Arrival}
 use Rattle.arrivals.specs.declared.fragments.CompletedDatagram.{CompletedDatagram}
@@ -19,6 +20,7 @@ use Rattle.log_connections.proofs.LogLemmas.{lent_unchanged}
 use Rattle.log_connections.proofs.SinkLemmas.{adds_none, adds_still, adds_then}
 use Rattle.log_connections.specs.Found.{AreCounted}
 use Rattle.log_connections.specs.Packet.{HandlesBy, IsLent, Lending, StopsBy, at_content, at_reader, lent_before, lent_by, lent_if, passes_on}
+use Rattle.log_connections.specs.Reading as reading
 use Rattle.log_connections.specs.Reading.{Content, Holds, NeedsMemory, Nothing, joined, one}
 use Rattle.log_connections.specs.Sink.{Adds, EndsAs, EndsLast, EndsRefused, IsOfSink, Receives, StaysSound, StopsRefused, TakesPieces, as_list, at_oldest, at_own}
 use Rattle.log_connections.specs.declared.analysis.PieceKind.{PieceKind}
@@ -289,3 +291,14 @@ pub needs_behind : (p : Packet) (old mid : ArrivalReader)
     → mid ≡ record old { tunnels = mid.tunnels } → NeedsMemory p mid → NeedsMemory p old
 needs_behind p old mid is (inl h) = inl (subst (λ r. is_some r.networks ≡ true) is h)
 needs_behind p old mid is (inr h) = inr h
+
+-- No arrival was read, and no fragment.
+pub none_held : (p : Packet) (old read : ArrivalReader) → Reads p old read None
+    → read.is_cut ≡ false → Holds p old read Nothing
+none_held p old read reads whole = joined read reads (
+  read,
+  None,
+  subst (λ b. Joins b p.time (fragment_in p) read read None) (sym whole)
+      (refl, ap (λ b. record read { is_cut = b }) whole),
+  reading.none (MAX_TUNNELS + 1) read,
+)

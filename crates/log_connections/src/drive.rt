@@ -81,7 +81,8 @@ impl<K: PieceCollector> Log<K> {
     {
         match self.arrivals.arrival(packet)? {
             Some(arrival) => self.process(&arrival, sink),
-            None => self.join_fragments(packet, sink),
+            None if self.arrivals.has_fragment() => self.join_fragments(packet, sink),
+            None => Ok(()),
         }
     }
 

@@ -1,8 +1,9 @@
-use Rattle.std.proofs.Common.{inl, inr, refl}
+use Rattle.std.proofs.Common.{inl, inr, refl, sym, ◌∙◌}
 use Rattle.std.proofs.lemmas.Result.{IfErr-weaker, IfOk-weaker}
+use Rattle.packets.specs.Section.{view_packet}
 use Rattle.log_connections.specs.Packet.{at_content, at_reader, passes_on}
 use Rattle.log_connections.specs.Reading.{Whole, joined, one}
-use Rattle.log_connections.proofs.PacketLemmas.{given, handled_by, stopped_by}
+use Rattle.log_connections.proofs.PacketLemmas.{given, handled_by, handled_none, none_held, stopped_by}
 use Rattle.log_connections.proofs.SinkLemmas.{adds_none}
 use Rattle.log_connections.proofs.log.Log.other_packet.Goals as goal
 
@@ -53,3 +54,10 @@ returns-in-None-clause-stopped g c =
     (λ read content h. joined c.arrival.new.self
     (rw c.in-None.is at c.in_ok-arrival.ensures.reads) h) (λ is. inr is) stops)
     c.join_fragments.ensures.stopped
+
+pub returns-in-None-2-clause-handled : goal.returns-in-None-2-clause-handled
+returns-in-None-2-clause-handled g c =
+    handled_none _ _ (passes_on c.args.self.now.kept) _ _ _ _ _ _ _ _
+    (none_held (view_packet c.args.packet) c.args.self.now.arrivals c.arrival.new.self
+    (rw c.in-None-2.is at c.in_ok-arrival.ensures.reads)
+    (sym c.has_fragment.ensures ∙ c.if-has_fragment.false)) refl refl refl
