@@ -750,3 +750,11 @@ pub static FIELDS: &[Column<Field>] = rows!(columns);
 pub fn fields() -> &'static [Column<Field>] {
     FIELDS
 }
+
+/// The names of [`FIELDS`].
+static NAMES: &[&str] = rows!(names);
+
+/// Returns the names of [`FIELDS`], in their order.
+pub fn names() -> &'static [&'static str] {
+    NAMES
+}

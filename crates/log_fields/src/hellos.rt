@@ -49,7 +49,7 @@ fn client_suites<'a>(suites: &'a Suites, handshake: &'a HandshakeSummary) -> Tex
 }
 
 /// Returns the numbers of the compression methods that the client offers.
-#[tactic(auto, using(crate::proofs::CodeLemmas::codes_are_bytes))]
+#[tactic(auto, using(log_formats::proofs::CodeLemmas::codes_are_bytes))]
 fn compressions_cell<'a>(handshake: &'a HandshakeSummary) -> Option<Cell<'a>>
     ensures { value_of result
         ≡ numbers_if_any (hello.client_compressions (view_summary handshake.entry.now)) }

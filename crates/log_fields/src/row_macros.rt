@@ -1,5 +1,5 @@
-//! The macros that `rows!`, the table of a connection's fields, is handed to: its columns, and the
-//! matches that compute the fields of a group.
+//! The macros that `rows!`, the table of a connection's fields, is handed to: its columns, their
+//! names, and the matches that compute the fields of a group.
 
 /// Expands to the field of a variant, for one side if each side has it.
 macro_rules! field {
@@ -28,6 +28,17 @@ macro_rules! columns {
             ($name, Type::$kind, $crate::row_macros::field!($group Originator $variant)),
             $(($responders, Type::$kind, $crate::row_macros::field!($group Responder $variant)),)?
         )*)*]
+    };
+}
+
+/// Expands to the names of the rows.
+macro_rules! names {
+    ($($group:ident { $(
+        $(#[doc = $text:literal])+
+        $name:literal $(, $responders:literal)?: $kind:ident =
+            $variant:ident $(=> |$given:ident| $cell:expr)?;
+    )* })*) => {
+        &[$($($name, $($responders,)?)*)*]
     };
 }
 
@@ -101,3 +112,4 @@ macro_rules! computes {
 pub(crate) use columns;
 pub(crate) use computes;
 pub(crate) use field;
+pub(crate) use names;

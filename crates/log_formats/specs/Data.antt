@@ -42,13 +42,16 @@ sender_text false = codes "server"
 
 -- The event that ended a handshake: the kind of message, its sender, and how many messages came
 -- before it.
-abbrev pub stop_data : List ℕ → Bool → ℕ → Data
-stop_data message is_clients before =
+abbrev pub stop_object : List ℕ → List ℕ → ℕ → Data
+stop_object message sender before =
     object
     ((codes "message", form.text message)
-    ∷ (codes "sender", form.text (sender_text is_clients))
+    ∷ (codes "sender", form.text sender)
     ∷ (codes "messages_before", form.number before)
     ∷ [])
+
+abbrev pub stop_data : List ℕ → Bool → ℕ → Data
+stop_data message is_clients before = stop_object message (sender_text is_clients) before
 
 -- A fingerprint with the text that was hashed.
 abbrev pub print_data : List ℕ → List ℕ → Data

@@ -3,3 +3,5 @@ pub mod Cached
 pub mod Texts
 pub mod Lists
 pub mod Data
+pub mod ListTexts
+pub mod Members

@@ -1,10 +1,10 @@
 //! Values as JSON.
 use crate::cell::{Cell, Row};
 use json::Writer;
+use json_objects::object::Object;
 use serde::{Case, NameKind, Serialize, Serializer};
 use std::alloc::{AllocError, Global};
 use std::fmt::{Display, Write};
-use std::mem;
 
 /// The length of most JSON lines is below this, in bytes.
 pub const LINE_LEN: usize = 4096;
@@ -197,14 +197,7 @@ fn in_memory<T: Drop>(written: Result<T, Refusal>) -> Result<T, AllocError> {
 impl Json {
     /// Returns a writer that has written nothing, with this capacity in bytes.
     fn new(alloc: Global, room: usize) -> Result<Json, AllocError> {
-        Json::over(alloc, Vec::new(alloc), room)
-    }
-
-    /// Returns a writer that reuses this memory, with this capacity in bytes.
-    fn over(alloc: Global, memory: Vec<u8>, room: usize) -> Result<Json, AllocError> {
-        let mut memory = memory;
-        memory.clear();
-        memory.reserve(room)?;
+        let memory = Vec::with_capacity(alloc, room)?;
         Ok(Json {
             out: Writer::new(memory),
             room: String::new(alloc),
@@ -215,118 +208,6 @@ impl Json {
     fn into_bytes(self) -> Vec<u8> {
         let Json { out, .. } = self;
         out.into_inner()
-    }
-
-    /// Returns what was written, and starts anew.
-    fn take_bytes(&mut self, alloc: Global) -> Vec<u8> {
-        let out = mem::replace(&mut self.out, Writer::new(Vec::new(alloc)));
-        out.into_inner()
-    }
-
-    /// Continues behind these bytes, without a comma.
-    fn go_on(&mut self, bytes: Vec<u8>) {
-        self.out = Writer::new(bytes);
-    }
-}
-
-/// A JSON object whose fields are added one by one.
-#[derive(Drop)]
-pub struct Object {
-    json: Json,
-    // Everything written so far, with a comma at the end, while fields are added that are JSON
-    // already.
-    front: Option<Vec<u8>>,
-}
-
-impl Object {
-    /// Returns an object without fields that reuses this memory, with this capacity in bytes.
-    pub fn over(alloc: Global, memory: Vec<u8>, room: usize) -> Result<Object, AllocError> {
-        let mut json = Json::over(alloc, memory, room)?;
-        in_memory(json.begin_map(None))?;
-        Ok(Object { json, front: None })
-    }
-
-    /// Adds a field.
-    #[inline(always)]
-    pub fn add<T: Serialize>(&mut self, name: &str, value: &T) -> Result<(), AllocError> {
-        if self.front.is_some() {
-            self.go_on();
-        }
-        in_memory(self.json.key(name))?;
-        in_memory(value.serialize(&mut self.json))
-    }
-
-    /// Continues behind fields that are JSON already.
-    fn go_on(&mut self) {
-        if let Some(front) = self.front.take() {
-            self.json.go_on(front);
-        }
-    }
-
-    /// Takes everything written so far, with a comma at the end if there are fields.
-    fn take_front(&mut self, alloc: Global) -> Result<Vec<u8>, AllocError> {
-        if let Some(front) = self.front.take() {
-            return Ok(front);
-        }
-        let mut front = self.json.take_bytes(alloc);
-        if !matches!(front.last(), Some(b'{' | b',')) {
-            front.push(b',')?;
-        }
-        Ok(front)
-    }
-
-    /// Adds fields that are JSON already, separated by commas.
-    pub fn add_fields(&mut self, alloc: Global, fields: &[u8]) -> Result<(), AllocError> {
-        if fields.is_empty() {
-            return Ok(());
-        }
-        let mut front = self.take_front(alloc)?;
-        front.extend_from_slice(fields)?;
-        front.push(b',')?;
-        self.front = Some(front);
-        Ok(())
-    }
-
-    /// Adds a field whose value is JSON already.
-    pub fn add_json(&mut self, alloc: Global, name: &str, value: &str) -> Result<(), AllocError> {
-        if self.front.is_some() {
-            self.go_on();
-        }
-        in_memory(self.json.key(name))?;
-        let mut front = self.json.take_bytes(alloc);
-        front.extend_from_slice(value.as_bytes())?;
-        front.push(b',')?;
-        self.front = Some(front);
-        Ok(())
-    }
-
-    /// Returns what was written, without a comma at the end. No value ends in one.
-    fn into_front(self) -> Vec<u8> {
-        let Object { json, front } = self;
-        let mut bytes = match front {
-            Some(front) => front,
-            None => json.into_bytes(),
-        };
-        if matches!(bytes.last(), Some(b',')) {
-            bytes.pop();
-        }
-        bytes
-    }
-
-    /// Returns the object as JSON.
-    pub fn into_bytes(self) -> Result<Vec<u8>, AllocError> {
-        let mut bytes = self.into_front();
-        bytes.push(b'}')?;
-        Ok(bytes)
-    }
-
-    /// Returns the fields as JSON, without the braces.
-    pub fn into_fields(self) -> Vec<u8> {
-        let mut bytes = self.into_front();
-        if !bytes.is_empty() {
-            bytes.remove(0);
-        }
-        bytes
     }
 }
 
@@ -343,15 +224,15 @@ pub fn json_bytes<T: Serialize>(
 
 /// Returns a row as a JSON object, without the missing fields.
 pub fn json_row(alloc: Global, row: &Row<'_>) -> Result<Vec<u8>, AllocError> {
-    let mut line = Object::over(alloc, Vec::new(alloc), LINE_LEN)?;
+    let mut line = Object::over(Vec::new(alloc), LINE_LEN)?;
     for (name, cell) in &row.cells {
         match cell {
             Some(Cell::Json(text)) => line.add_json(alloc, name, text.as_str())?,
-            Some(cell) => line.add(name, cell)?,
+            Some(cell) => line.add(alloc, name, cell)?,
             None => {}
         }
     }
-    line.into_bytes()
+    line.into_bytes(alloc)
 }
 
 /// Returns a value as JSON text, with this initial capacity.

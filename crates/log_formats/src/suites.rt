@@ -1,8 +1,9 @@
 //! Names of cipher suites.
-ghost use Rattle.std.specs.Prelude.{◌≡◌};
+ghost use Rattle.std.specs.Prelude.{◌≡◌, ℕ, IsTrue};
 ghost use Rattle.std.specs.Option.{option_map};
 ghost use Rattle.log_formats.specs.Data.{some_suite, value_of};
 ghost use Rattle.log_formats.specs.Texts.{spec_text as spec_text_of, suite_text, text_bytes};
+ghost use Rattle.log_formats.specs.Texts.{unlisted_suite_text};
 ghost use Rattle.log_formats.specs.Suites.{are_numbered as are_numbered_in};
 
 use crate::cell::Cell;
@@ -89,6 +90,21 @@ impl Suites {
         ensures { result ≡ are_numbered_in self.now }
     {
         matches!(self.others, OtherSuites::Numbered)
+    }
+
+    /// Returns how suites without a name in the list are written.
+    pub(crate) fn others(&self) -> OtherSuites
+        ensures { result ≡ self.now.others }
+    {
+        self.others
+    }
+
+    /// Returns whether the list is empty: then the text of a suite doesn't depend on it.
+    pub fn are_unlisted(&self) -> bool
+        ensures { IsTrue result
+            → (n : ℕ) → suite_text self.now n ≡ unlisted_suite_text self.now.others n }
+    {
+        self.names.is_empty()
     }
 
     /// Returns a suite's name, or else its number.

@@ -1,7 +1,11 @@
 //! Texts: our names, numbers in hexadecimal, and what a peer sent.
-ghost use Rattle.std.specs.Prelude.{◌≡◌, ◌++◌, ◌∷◌, [], Some, IfOk, OnOk, IsOkAnd};
+ghost use Rattle.std.specs.Prelude.{◌≡◌, ◌++◌, ◌∷◌, ◌<◌, [], Some, IfOk, IfSome, OnOk, IsOkAnd};
+ghost use Rattle.std.specs.Prelude.{IsTrue, slice_index};
 ghost use Rattle.std.specs.Option.{option_map};
 ghost use Rattle.std.specs.String.{string_bytes};
+ghost use Rattle.hex.specs.Hex.{lower_digits};
+ghost use Rattle.text_forms.specs.Escaped.{escaped_byte, escaped_text as escaped_text_of};
+ghost use Rattle.text_forms.specs.Hexadecimal.{number_text as number_text_of};
 ghost use Rattle.log_formats.specs.Data.{cell_data, marked, text_data, value_of};
 ghost use Rattle.log_formats.specs.Data.{some_digits as digits_of, some_escaped as escaped_of};
 ghost use Rattle.log_formats.specs.Data.{some_group as group_of, some_text as text_of};
@@ -49,12 +53,16 @@ pub enum Text<'a> {
 }
 
 /// Returns whether a byte isn't escaped.
-fn is_plain(byte: u8) -> bool {
+fn is_plain(byte: u8) -> bool
+    ensures { IsTrue result → escaped_byte byte ≡ byte ∷ [] }
+{
     matches!(byte, b' '..=b'~') && !matches!(byte, b'\\' | b'\'' | b'"')
 }
 
 /// Returns the text in the bytes if none has to be escaped.
-fn plain_text(bytes: &[u8]) -> Option<&str> {
+pub(crate) fn plain_text(bytes: &[u8]) -> Option<&str>
+    ensures { IfSome result (λ text. text.now ≡ escaped_text_of bytes.now) }
+{
     for byte in bytes {
         if !is_plain(*byte) {
             return None;
@@ -93,11 +101,28 @@ fn write_digits<W: fmt::Write>(f: &mut Formatter<W>, bytes: &[u8]) -> fmt::Resul
     Ok(())
 }
 
+/// Returns a hexadecimal digit.
+fn digit(n: u8) -> u8
+    requires { n < 16 }
+    ensures { result ≡ slice_index lower_digits n }
+{
+    if n < 10 { b'0' + n } else { b'a' - 10 + n }
+}
+
 /// Returns a number of 2 bytes as ASCII.
-fn code_text(code: u16) -> [u8; 6] {
-    let mut text = *b"0x0000";
-    let _written = hex::encode_to_slice(code.to_be_bytes(), &mut text[2..]);
-    text
+#[tactic(auto, unfolding(hex::specs::Hex::encode_with))]
+pub(crate) fn code_text(code: u16) -> [u8; 6]
+    ensures { result ≡ number_text_of code }
+{
+    let [high, low] = code.to_be_bytes();
+    [
+        b'0',
+        b'x',
+        digit(high / 16),
+        digit(high % 16),
+        digit(low / 16),
+        digit(low % 16),
+    ]
 }
 
 /// Writes a number of 2 bytes.

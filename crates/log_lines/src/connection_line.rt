@@ -1,117 +1,39 @@
 //! The line of a connection as a JSON object. Each field is written as soon as it is computed. The
 //! text of a list or certificate that was written before is copied from a cache.
-ghost use Rattle.std.specs.Prelude.{⊤};
+ghost use Rattle.std.specs.Prelude.{◌≡◌, ◌++◌, ◌∷◌, [], IfOk, IfSome, OnOk};
+ghost use Rattle.log_formats.specs.Members.{member_if};
+ghost use Rattle.log_fields.specs.Known.{known_of};
+ghost use Rattle.log_fields.specs.Values.{defined_value};
 
 use crate::style::Style;
+use json_objects::object::Object;
 use log_fields::connection::compute;
 use log_fields::context::FieldContext;
 use log_fields::fields::{Field, fields};
 use log_fields::summary::Summary;
-use log_formats::cell::{Cell, TakesCell};
-use log_formats::lists::{Numbers, Texts};
-use log_formats::objects::{LINE_LEN, Object};
-use log_formats::text_cache::TextCache;
-use serde::Serialize;
+use log_formats::json_fields::FieldWriter;
+use log_formats::objects::LINE_LEN;
 use std::alloc::{AllocError, Global};
-use std::cell::RefCell;
 
-/// The length of most lists, and of most certificates' fields, is below this, in bytes.
+/// The length of most certificates' fields is below this, in bytes.
 const PART_LEN: usize = 512;
 
-/// Adds a field to a JSON object, under its name, unless it is missing.
-#[derive(Drop)]
-struct FieldWriter<'o> {
-    alloc: Global,
-    line: &'o mut Object,
-    place: usize,
-    name: &'static str,
-    cache: &'o RefCell<TextCache>,
-}
-
-impl FieldWriter<'_> {
-    /// Returns the text of the field with this value, apart from the line.
-    fn field_text<T: Serialize>(&self, value: &T) -> Result<Vec<u8>, AllocError> {
-        let mut part = Object::over(self.alloc, Vec::new(self.alloc), PART_LEN)?;
-        part.add(self.name, value)?;
-        Ok(part.into_fields())
-    }
-
-    /// Adds a list: its cached text if there is one.
-    fn add_texts(&mut self, texts: &Texts<'_>) -> Result<(), AllocError> {
-        if let Ok(cache) = self.cache.try_borrow() {
-            if let Some(text) = cache.list(self.place, texts) {
-                return self.line.add_fields(self.alloc, text);
-            }
-        }
-        if !texts.are_numbers() {
-            return self.line.add(self.name, texts);
-        }
-        let text = self.field_text(texts)?;
-        self.line.add_fields(self.alloc, text.as_slice())?;
-        // (without memory for the cache the line is complete all the same)
-        if let Ok(mut cache) = self.cache.try_borrow_mut() {
-            let _kept = cache.cache_list(self.alloc, self.place, texts, text.as_slice());
-        }
-        Ok(())
-    }
-
-    /// Adds a list of codes: its cached text if there is one.
-    fn add_codes(&mut self, codes: &[u8]) -> Result<(), AllocError> {
-        if let Ok(cache) = self.cache.try_borrow() {
-            if let Some(text) = cache.codes(self.place, codes) {
-                return self.line.add_fields(self.alloc, text);
-            }
-        }
-        let text = self.field_text(&Numbers::Codes(codes))?;
-        self.line.add_fields(self.alloc, text.as_slice())?;
-        if let Ok(mut cache) = self.cache.try_borrow_mut() {
-            let _kept = cache.cache_codes(self.alloc, self.place, codes, text.as_slice());
-        }
-        Ok(())
-    }
-}
-
-impl<'a> TakesCell<'a> for FieldWriter<'_> {
-    // (no clause says yet what the line gets)
-    ghost HasTaken = { λ value old new. ⊤ };
-
-    #[inline(always)]
-    fn take(&mut self, cell: Option<Cell<'a>>) -> Result<(), AllocError> {
-        match &cell {
-            Some(Cell::Texts(texts)) => self.add_texts(texts),
-            Some(Cell::Numbers(Numbers::Codes(codes))) => self.add_codes(codes),
-            Some(cell) => self.line.add(self.name, cell),
-            None => Ok(()),
-        }
-    }
-
-    #[inline(always)]
-    fn take_result(
-        &mut self,
-        cell: Result<Option<Cell<'a>>, AllocError>,
-    ) -> Result<(), AllocError> {
-        self.take(cell?)
-    }
-}
-
-/// Adds the field of this name and place.
+/// Adds the field at a place, with this name, to a line.
 #[inline(always)]
 fn add_field<'a>(
     context: &mut FieldContext<'a>,
-    cache: &RefCell<TextCache>,
     place: usize,
     name: &'static str,
     field: &Field,
-    line: &mut Object,
-) -> Result<(), AllocError> {
-    let mut writer = FieldWriter {
-        alloc: context.alloc,
-        line,
-        place,
-        name,
-        cache,
-    };
-    compute(context, field, &mut writer)
+    writer: &mut FieldWriter<'_>,
+) -> Result<(), AllocError>
+    ensures value { OnOk result (IfSome (defined_value field.now (known_of context.old))
+        (λ value. writer.new.line ≡ writer.old.line ++ member_if name.entry.now value)) }
+    ensures same { known_of context.new ≡ known_of context.old }
+{
+    writer.place = place;
+    writer.name = name;
+    compute(context, field, writer)
 }
 
 /// Returns the certificate that a field describes, if it was sent.
@@ -142,29 +64,60 @@ fn places_beside<'p>(field: &Field, places: &'p [usize]) -> &'p [usize] {
     places.get(..count).unwrap_or(places)
 }
 
+/// Returns a line without fields that reuses this memory, with this capacity in bytes.
+fn new_line<'c>(
+    alloc: Global,
+    style: &'c Style,
+    memory: Vec<u8>,
+    room: usize,
+) -> Result<FieldWriter<'c>, AllocError>
+    ensures { IfOk result (λ writer. writer.line ≡ 123 ∷ []) }
+{
+    Ok(FieldWriter {
+        alloc,
+        line: Object::over(memory, room)?,
+        place: 0,
+        name: "",
+        texts: &style.lists,
+    })
+}
+
+/// Returns the fields of a certificate at these places as JSON.
+fn certificate_text<'a>(
+    context: &mut FieldContext<'a>,
+    style: &Style,
+    places: &[usize],
+) -> Result<Vec<u8>, AllocError>
+    ensures { known_of context.new ≡ known_of context.old }
+{
+    let alloc = context.alloc;
+    let mut part = new_line(alloc, style, Vec::new(alloc), PART_LEN)?;
+    for place in places {
+        if let Some((name, _, field)) = fields().get(*place) {
+            add_field(context, *place, *name, field, &mut part)?;
+        }
+    }
+    part.line.into_text(alloc)
+}
+
 /// Adds the fields of a certificate at these places: their cached text if there is one.
 fn add_certificate<'a>(
     context: &mut FieldContext<'a>,
-    cache: &RefCell<TextCache>,
+    style: &Style,
     places: &[usize],
     certificate: &[u8],
     line: &mut Object,
 ) -> Result<(), AllocError> {
     let alloc = context.alloc;
-    if let Ok(cache) = cache.try_borrow() {
+    if let Ok(cache) = style.texts.try_borrow() {
         if let Some(text) = cache.certificate(places, certificate) {
-            return line.add_fields(alloc, text);
+            return line.add_text(alloc, text);
         }
     }
-    let mut part = Object::over(alloc, Vec::new(alloc), PART_LEN)?;
-    for place in places {
-        if let Some((name, _, field)) = fields().get(*place) {
-            add_field(context, cache, *place, *name, field, &mut part)?;
-        }
-    }
-    let text = part.into_fields();
-    line.add_fields(alloc, text.as_slice())?;
-    if let Ok(mut cache) = cache.try_borrow_mut() {
+    let text = certificate_text(context, style, places)?;
+    line.add_text(alloc, text.as_slice())?;
+    // (without memory for the cache the line is complete all the same)
+    if let Ok(mut cache) = style.texts.try_borrow_mut() {
         let _kept = cache.cache_certificate(alloc, places, certificate, text.as_slice());
     }
     Ok(())
@@ -180,7 +133,7 @@ pub fn json_line<'a>(
     room: Vec<u8>,
 ) -> Result<Vec<u8>, AllocError> {
     let mut context = style.context(alloc, summary);
-    let mut line = Object::over(alloc, room, LINE_LEN)?;
+    let mut writer = new_line(alloc, style, room, LINE_LEN)?;
     // (how many of the places are done)
     let mut count = 0;
     for (at, place) in places.iter().enumerate() {
@@ -194,10 +147,10 @@ pub fn json_line<'a>(
             Some(certificate) => {
                 let part = places_beside(field, places.get(at..).unwrap_or(&[]));
                 count = at.saturating_add(part.len());
-                add_certificate(&mut context, &style.texts, part, certificate, &mut line)?;
+                add_certificate(&mut context, style, part, certificate, &mut writer.line)?;
             }
-            None => add_field(&mut context, &style.texts, *place, *name, field, &mut line)?,
+            None => add_field(&mut context, *place, *name, field, &mut writer)?,
         }
     }
-    line.into_bytes()
+    writer.line.into_bytes(alloc)
 }

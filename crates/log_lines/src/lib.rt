@@ -5,7 +5,8 @@
 //! fields of their own; [`Style::message_line`] writes that of a message, and
 //! [`Style::certificate_line`] that of a certificate.
 //!
-//! Of what lines have, this crate has no clauses, only tests.
+//! A field adds the member of its name and defined value to a JSON line. All else that lines have is
+//! only tested.
 #![tactic(auto)]
 
 mod certificate_line;

@@ -8,11 +8,12 @@ use crate::message_line::message_row;
 use log_fields::columns::{certificate_fields, message_fields};
 use log_fields::connection::row_of;
 use log_fields::context::FieldContext;
-use log_fields::fields::fields;
+use log_fields::fields::{fields, names as field_names};
 use log_fields::summary::Summary;
 use log_formats::cell::Row;
 use log_formats::column::Column;
 use log_formats::comma::Formulas;
+use log_formats::list_texts::ListTexts;
 use log_formats::nearest::nearest;
 use log_formats::objects::json_row;
 use log_formats::suites::Suites;
@@ -59,7 +60,9 @@ pub struct Style {
     pub suites: Suites,
     /// A cache of the digests of fingerprints. It is borrowed while a line computes one.
     pub digests: RefCell<DigestCache>,
-    /// A cache of the text of lists, with these names of suites, and of certificates in JSON lines.
+    /// A cache of the text of lists in JSON lines, with these names of suites.
+    pub(crate) lists: RefCell<ListTexts>,
+    /// A cache of the text of certificates in JSON lines.
     pub(crate) texts: RefCell<TextCache>,
 }
 
@@ -273,12 +276,14 @@ impl Style {
                 return Err(StyleError::FieldsOfFormat(format));
             }
         }
+        let lists = ListTexts::new(alloc, field_names(), &suites);
         Ok(Style {
             format,
             formulas,
             lines: Lines::new(alloc, kind, names)?,
             suites,
             digests: RefCell::new(DigestCache::new(alloc)),
+            lists: RefCell::new(lists),
             texts: RefCell::new(TextCache::new(alloc)),
         })
     }
