@@ -1,5 +1,5 @@
 -- The text of an object's members.
-use Rattle.std.proofs.Common.{◌≡◌, ◌≤◌, ◌<◌, ◌-◌, ℕ, Bool, true, false, cond, List, [], ◌∷◌, ◌++◌, length, map, take, None, refl, sym, ap, ◌∙◌, append_assoc, append-nil, arith, take_at, length-append}
+use Rattle.std.proofs.Common.{◌≡◌, ◌≤◌, ◌<◌, ◌-◌, ℕ, Bool, true, false, cond, List, [], ◌∷◌, ◌++◌, length, map, take, refl, sym, ap, ◌∙◌, append_assoc, append-nil, arith, take_at, length-append}
 use Rattle.std.specs.List.{fold, join_with_byte}
 use Rattle.std.specs.Prelude.{flat_map}
 use Rattle.std.proofs.lemmas.List.Sums.{fold-append}
@@ -131,10 +131,10 @@ closed_empty (m ∷ ms) xs is few =
     absurd (omega (arith, ap length whole, length-append body (44 ∷ [])))
 
 -- one more member is written
-pub shown-member : (w v : Written) (k : List ℕ) (d : Data) → v.before ≡ w.before
+pub shown-member : (front : List ℕ) (w v : Written) (k : List ℕ) (d : Data) → v.before ≡ w.before
     → v.tokens ≡ w.tokens ++ key k ∷ json_tokens (json_of d)
-    → shown None v ≡ shown None w ++ (member_text (k, d) ++ 44 ∷ [])
-shown-member w v k d before tokens =
+    → shown front v ≡ shown front w ++ (member_text (k, d) ++ 44 ∷ [])
+shown-member front w v k d before tokens =
     let comma = cond (ends_value w.tokens) (44 ∷ []) [] in
     let e : List ℕ × Data = (k, d) in
     let text : print v.tokens ≡ print w.tokens ++ (comma ++ member_text e) =
@@ -142,12 +142,13 @@ shown-member w v k d before tokens =
     ∙ ap (λ l. print w.tokens ++ l) (print-member (ends_value w.tokens) e) in
     let ended : cond (ends_value v.tokens) (44 ∷ []) [] ≡ 44 ∷ [] =
     ap (λ b. cond b (44 ∷ []) []) (ap ends_value tokens ∙ ends-member w.tokens k (json_of d)) in
-    (λ i. before i ++ (text i ++ ended i)) ∙ simp append_assoc
+    (λ i. front ++ (before i ++ (text i ++ ended i))) ∙ simp append_assoc
 
 -- nothing is written yet
-pub shown-fresh : (w : Written) (xs : List ℕ) → w.before ≡ xs → w.tokens ≡ []
-    → shown None w ≡ xs
+pub shown-fresh : (front : List ℕ) (w : Written) → w.before ≡ [] → w.tokens ≡ []
+    → shown front w ≡ front
 unfolding print_from
-shown-fresh w xs before tokens =
-    (λ i. before i ++ (print (tokens i) ++ cond (ends_value (tokens i)) (44 ∷ []) []))
-    ∙ append-nil xs
+shown-fresh front w before tokens =
+    (λ i. front ++ (before i ++ (print (tokens i)
+    ++ cond (ends_value (tokens i)) (44 ∷ []) [])))
+    ∙ append-nil front

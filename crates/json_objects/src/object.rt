@@ -1,5 +1,5 @@
 //! A JSON object that is written member by member.
-ghost use Rattle.std.specs.Prelude.{◌≡◌, ◌++◌, ◌∷◌, [], List, ℕ, None, OnOk, IfOk};
+ghost use Rattle.std.specs.Prelude.{◌≡◌, ◌++◌, ◌∷◌, [], List, ℕ, OnOk, IfOk};
 ghost use Rattle.json.specs.Print.{ends_value};
 ghost use Rattle.json_objects.specs.Data.{Data};
 ghost use Rattle.json_objects.specs.Shown.{shown};
@@ -15,10 +15,10 @@ use std::mem;
 /// behind each member. After an error the object has to be dropped.
 #[derive(Drop)]
 pub struct Object {
+    // What comes before the members in the writer. A writer fills as many bytes ahead as it has, so
+    // it gets few.
+    front: Vec<u8>,
     writer: Writer,
-    // Everything written so far, with a comma at the end, while members are added that are JSON
-    // already.
-    front: Option<Vec<u8>>,
     is_after_member: bool,
 }
 
@@ -30,22 +30,28 @@ impl Model for Object {
 
     ghost use Rattle.json_objects.specs.Shown.{shown};
 
-    ghost view = { λ o. shown o.front o.writer };
+    ghost view = { λ o. shown o.front.items o.writer };
 
     ghost invariant = { λ o. o.is_after_member ≡ ends_value o.writer.tokens };
 }
 
-/// Continues behind members that are JSON already.
-fn go_on(writer: &mut Writer, front: &mut Option<Vec<u8>>, is_after_member: &mut bool)
+/// Takes everything that was written, with a comma behind it if that is a member.
+fn take_written(
+    alloc: Global,
+    writer: &mut Writer,
+    is_after_member: &mut bool,
+) -> Result<Vec<u8>, AllocError>
     requires { is_after_member.old ≡ ends_value writer.old.tokens }
-    ensures text { shown None writer.new ≡ shown front.old writer.old }
-    ensures none { front.new ≡ None }
+    ensures text { IfOk result (λ text. text.items ≡ shown [] writer.old) }
+    ensures rest { shown [] writer.new ≡ [] }
     ensures flag { is_after_member.new ≡ ends_value writer.new.tokens }
 {
-    if let Some(text) = front.take() {
-        *writer = Writer::new(text);
-        *is_after_member = false;
+    let has_member = mem::replace(is_after_member, false);
+    let mut written = mem::replace(writer, Writer::new(Vec::new(alloc))).into_inner();
+    if has_member {
+        written.push(b',')?;
     }
+    Ok(written)
 }
 
 /// Returns a name as the start of a member: quoted, with a colon behind it.
@@ -59,7 +65,7 @@ fn name_text(alloc: Global, name: &str) -> Result<Vec<u8>, AllocError>
 
 impl Object {
     /// Returns an object without members that reuses this memory, with this capacity in bytes.
-    pub fn over(memory: Vec<u8>, room: usize) -> Result<Object, AllocError>
+    pub fn over(alloc: Global, memory: Vec<u8>, room: usize) -> Result<Object, AllocError>
         ensures { IfOk result (λ o. o ≡ 123 ∷ []) }
     {
         let mut memory = memory;
@@ -67,8 +73,8 @@ impl Object {
         memory.reserve(room)?;
         memory.push(b'{')?;
         Ok(Object {
-            writer: Writer::new(memory),
-            front: None,
+            front: memory,
+            writer: Writer::new(Vec::new(alloc)),
             is_after_member: false,
         })
     }
@@ -78,7 +84,6 @@ impl Object {
         ensures { OnOk result ((d : Data) × T.IsData value.now d
             × (self.new ≡ self.old ++ (member_text (name.now, d) ++ 44 ∷ []))) }
     {
-        go_on(&mut self.writer, &mut self.front, &mut self.is_after_member);
         match write_member(alloc, &mut self.writer, name, value) {
             Ok(()) => {
                 self.is_after_member = true;
@@ -92,31 +97,13 @@ impl Object {
         }
     }
 
-    /// Takes everything written so far.
-    fn take_front(&mut self, alloc: Global) -> Result<Vec<u8>, AllocError>
-        ensures { IfOk result (λ front. front.items ≡ self.old) }
-    {
-        if let Some(front) = self.front.take() {
-            return Ok(front);
-        }
-        let writer = mem::replace(&mut self.writer, Writer::new(Vec::new(alloc)));
-        let mut front = writer.into_inner();
-        if self.is_after_member {
-            self.is_after_member = false;
-            front.push(b',')?;
-        }
-        self.is_after_member = false;
-        Ok(front)
-    }
-
     /// Adds members that are JSON already, with a comma behind each.
     pub fn add_text(&mut self, alloc: Global, text: &[u8]) -> Result<(), AllocError>
         ensures { OnOk result (self.new ≡ self.old ++ text.now) }
     {
-        let mut front = self.take_front(alloc)?;
-        front.extend_from_slice(text)?;
-        self.front = Some(front);
-        Ok(())
+        let written = take_written(alloc, &mut self.writer, &mut self.is_after_member)?;
+        self.front.extend_from_slice(written.as_slice())?;
+        self.front.extend_from_slice(text)
     }
 
     /// Adds a member whose value is JSON already.
@@ -129,13 +116,23 @@ impl Object {
         self.add_text(alloc, text.as_slice())
     }
 
+    /// Returns everything written so far.
+    fn into_all(self, alloc: Global) -> Result<Vec<u8>, AllocError>
+        ensures { IfOk result (λ all. all.items ≡ self) }
+    {
+        let mut object = self;
+        let written = take_written(alloc, &mut object.writer, &mut object.is_after_member)?;
+        let mut all = object.front;
+        all.extend_from_slice(written.as_slice())?;
+        Ok(all)
+    }
+
     /// Returns the object as JSON.
     pub fn into_bytes(self, alloc: Global) -> Result<Vec<u8>, AllocError>
         ensures { (ms : List (List ℕ)) → self ≡ 123 ∷ with_commas ms
             → IfOk result (λ b. b.items ≡ braced ms) }
     {
-        let mut object = self;
-        let mut bytes = object.take_front(alloc)?;
+        let mut bytes = self.into_all(alloc)?;
         // (if there are members, the text ends in a comma)
         if bytes.len() > 1 {
             bytes.pop();
@@ -149,8 +146,7 @@ impl Object {
         ensures { (ms : List (List ℕ)) → self ≡ 123 ∷ with_commas ms
             → IfOk result (λ b. b.items ≡ with_commas ms) }
     {
-        let mut object = self;
-        let mut bytes = object.take_front(alloc)?;
+        let mut bytes = self.into_all(alloc)?;
         if !bytes.is_empty() {
             bytes.remove(0);
         }

@@ -40,7 +40,7 @@ fn list_text(alloc: Global, name: &str, texts: &Texts<'_>) -> Result<Vec<u8>, Al
     ensures { IfOk result (λ text. text.items
         ≡ member_if name.now (Some (text_list (texts_of texts.now)))) }
 {
-    let mut part = Object::over(Vec::new(alloc), PART_LEN)?;
+    let mut part = Object::over(alloc, Vec::new(alloc), PART_LEN)?;
     add_list(alloc, &mut part, name, texts)?;
     part.into_text(alloc)
 }
@@ -109,7 +109,7 @@ fn codes_text(alloc: Global, name: &str, codes: &[u8]) -> Result<Vec<u8>, AllocE
     ensures { IfOk result (λ text. text.items
         ≡ member_if name.now (Some (number_list codes.now))) }
 {
-    let mut part = Object::over(Vec::new(alloc), PART_LEN)?;
+    let mut part = Object::over(alloc, Vec::new(alloc), PART_LEN)?;
     add_code_list(alloc, &mut part, name, codes)?;
     part.into_text(alloc)
 }

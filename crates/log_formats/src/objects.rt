@@ -224,7 +224,7 @@ pub fn json_bytes<T: Serialize>(
 
 /// Returns a row as a JSON object, without the missing fields.
 pub fn json_row(alloc: Global, row: &Row<'_>) -> Result<Vec<u8>, AllocError> {
-    let mut line = Object::over(Vec::new(alloc), LINE_LEN)?;
+    let mut line = Object::over(alloc, Vec::new(alloc), LINE_LEN)?;
     for (name, cell) in &row.cells {
         match cell {
             Some(Cell::Json(text)) => line.add_json(alloc, name, text.as_str())?,

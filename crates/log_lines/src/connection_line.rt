@@ -75,7 +75,7 @@ fn new_line<'c>(
 {
     Ok(FieldWriter {
         alloc,
-        line: Object::over(memory, room)?,
+        line: Object::over(alloc, memory, room)?,
         place: 0,
         name: "",
         texts: &style.lists,
