@@ -1,3 +1,4 @@
 pub mod Names
 pub mod Known
 pub mod Values
+pub mod Columns

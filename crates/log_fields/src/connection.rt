@@ -1,8 +1,9 @@
 //! The values of a connection's fields.
-ghost use Rattle.std.specs.Prelude.{◌≡◌, ◌/◌, ◌-◌, ◌++◌, Some, IfOk, IfSome, OnOk, flat_map, map};
+ghost use Rattle.std.specs.Prelude.{◌≡◌, ◌/◌, ◌-◌, ◌++◌, Option, Some, IfOk, IfSome, OnOk, flat_map, map};
 ghost use Rattle.std.specs.Net.Text.{ip_text};
 ghost use Rattle.std.specs.Option.{option_map};
 ghost use Rattle.std.specs.String.{string_bytes};
+ghost use Rattle.json_objects.specs.Data.{Data};
 ghost use Rattle.tls_summary.specs.HandshakeSummary.{view_summary};
 ghost use Rattle.log_formats.specs.Data.{cell_data, count_data, text_data, value_of};
 ghost use Rattle.log_fields.specs.Known.{known_of, own_certificate};
@@ -331,7 +332,8 @@ fn own_cell<'a>(
     }
 }
 
-/// Computes a field of a connection and passes it to `to`.
+/// Computes a field of a connection and passes it to `to`: its defined value, or else some value.
+#[tactic(auto, using(crate::proofs::OwnLemmas::some_taken))]
 pub fn compute<'a, T: TakesCell<'a>>(
     context: &mut FieldContext<'a>,
     field: &Field,
@@ -339,6 +341,7 @@ pub fn compute<'a, T: TakesCell<'a>>(
 ) -> Result<(), AllocError>
     ensures value { OnOk result (IfSome (defined_value field.now (known_of context.old))
         (λ value. T.HasTaken value to.old to.new)) }
+    ensures some { OnOk result ((value : Option Data) × T.HasTaken value to.old to.new) }
     ensures same { known_of context.new ≡ known_of context.old }
 {
     match field {

@@ -1,4 +1,8 @@
 //! The fields of a connection's line: their names, types and texts, and what computes them.
+ghost use Rattle.std.specs.Prelude.{◌≡◌};
+ghost use Rattle.std.specs.Option.{option_map};
+ghost use Rattle.log_fields.specs.Columns.{column_at as column_in};
+
 use connections::Side;
 use log_certificates::CertificateField;
 use log_formats::column::{Column, Type};
@@ -749,6 +753,14 @@ pub static FIELDS: &[Column<Field>] = rows!(columns);
 /// reads all of its rows.
 pub fn fields() -> &'static [Column<Field>] {
     FIELDS
+}
+
+/// Returns the row at a place of [`FIELDS`], if there is one.
+#[tactic(auto, unfolding(crate::specs::Columns::column_at))]
+pub fn column_at(place: usize) -> Option<&'static Column<Field>>
+    ensures { option_map (λ c. (c.now.0.now, c.now.2)) result ≡ column_in place }
+{
+    FIELDS.get(place)
 }
 
 /// The names of [`FIELDS`].

@@ -5,14 +5,15 @@
 //! fields of their own; [`Style::message_line`] writes that of a message, and
 //! [`Style::certificate_line`] that of a certificate.
 //!
-//! A field adds the member of its name and defined value to a JSON line. All else that lines have is
-//! only tested.
+//! The line of a connection in JSON has a clause ([`json_line`]); the others are only tested.
 #![tactic(auto)]
 
 mod certificate_line;
+mod certificate_texts;
 mod connection_line;
 mod format;
 mod message_line;
+mod owner;
 mod style;
 
 pub use connection_line::json_line;

@@ -1,8 +1,10 @@
 //! Which lines a log has, and how they are written.
 ghost use Rattle.std.specs.Prelude.{◌≡◌, IfOk};
+ghost use Rattle.log_fields.specs.Known.{known, known_of};
 ghost use Rattle.log_lines.specs.Style.{has_chains as has_chains_in, kind_of};
 
 use crate::certificate_line::certificate_row;
+use crate::certificate_texts::CertificateTexts;
 use crate::format::LineFormat;
 use crate::message_line::message_row;
 use log_fields::columns::{certificate_fields, message_fields};
@@ -17,7 +19,6 @@ use log_formats::list_texts::ListTexts;
 use log_formats::nearest::nearest;
 use log_formats::objects::json_row;
 use log_formats::suites::Suites;
-use log_formats::text_cache::TextCache;
 use log_formats::{comma, zeek};
 use log_messages::{SentCertificate, SentMessage};
 use std::alloc::{AllocError, Global};
@@ -63,7 +64,7 @@ pub struct Style {
     /// A cache of the text of lists in JSON lines, with these names of suites.
     pub(crate) lists: RefCell<ListTexts>,
     /// A cache of the text of certificates in JSON lines.
-    pub(crate) texts: RefCell<TextCache>,
+    pub(crate) certificates: RefCell<CertificateTexts>,
 }
 
 /// Why a style isn't possible.
@@ -284,7 +285,7 @@ impl Style {
             suites,
             digests: RefCell::new(DigestCache::new(alloc)),
             lists: RefCell::new(lists),
-            texts: RefCell::new(TextCache::new(alloc)),
+            certificates: RefCell::new(CertificateTexts::new(alloc)),
         })
     }
 
@@ -296,7 +297,9 @@ impl Style {
     }
 
     /// Returns a connection with this style's names and caches.
-    pub fn context<'a>(&'a self, alloc: Global, summary: &'a Summary<'a>) -> FieldContext<'a> {
+    pub fn context<'a>(&'a self, alloc: Global, summary: &'a Summary<'a>) -> FieldContext<'a>
+        ensures { known_of result ≡ known self.entry.now.suites summary.entry.now }
+    {
         FieldContext::new(alloc, &self.suites, &self.digests, summary)
     }
 

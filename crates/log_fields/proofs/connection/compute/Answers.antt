@@ -1,8 +1,8 @@
-use Rattle.std.proofs.Common.{IfSome, OnOk, subst, sym}
+use Rattle.std.proofs.Common.{None, IfSome, OnOk, subst, sym}
 use Rattle.log_formats.specs.Data.{value_of}
 use Rattle.log_fields.specs.Known.{known_of, own_certificate}
 use Rattle.log_fields.specs.Values.{defined_value, own_value}
-use Rattle.log_fields.proofs.OwnLemmas.{taken_if}
+use Rattle.log_fields.proofs.OwnLemmas.{cell_taken, taken_if}
 use Rattle.log_fields.proofs.connection.compute.Goals as goal
 
 pub returns-in-ServerCertificate-clause-value : goal.returns-in-ServerCertificate-clause-value
@@ -30,3 +30,16 @@ returns-in-ClientCertificate-clause-value g c =
     c.own_cell-in-ClientCertificate.result c.take_result-in-ClientCertificate.result value_of
     (λ v. g.T.TakesCell.HasTaken v c.args.to.now c.take_result-in-ClientCertificate.new.self)
     c.take_result-in-ClientCertificate.ensures c.own_cell-in-ClientCertificate.ensures.value)
+
+pub returns-in-ServerCertificate-clause-some : goal.returns-in-ServerCertificate-clause-some
+returns-in-ServerCertificate-clause-some g c =
+    cell_taken c.own_cell.result c.take_result.result value_of None
+    (λ v. g.T.TakesCell.HasTaken v c.args.to.now c.take_result.new.self)
+    c.take_result.ensures
+
+pub returns-in-ClientCertificate-clause-some : goal.returns-in-ClientCertificate-clause-some
+returns-in-ClientCertificate-clause-some g c =
+    cell_taken c.own_cell-in-ClientCertificate.result
+    c.take_result-in-ClientCertificate.result value_of None
+    (λ v. g.T.TakesCell.HasTaken v c.args.to.now c.take_result-in-ClientCertificate.new.self)
+    c.take_result-in-ClientCertificate.ensures
