@@ -3,9 +3,9 @@ use Rattle.std.proofs.Common.{if◌then◌else◌, ◌≡◌, ℕ, ◌+◌, ◌%
 use Rattle.std.proofs.lemmas.Bool.{ltb-true, ltb-false}
 use Rattle.std.proofs.lemmas.List.{drop_all}
 use Rattle.std.proofs.Math.Nat.{mod-add-mod}
-use Rattle.segments.specs.Cells.{Bytes, run}
+use Rattle.segments.specs.Cells.{Bytes, Held, known_behind, run}
 use Rattle.connections.specs.Segment.{breaks, first_of}
-use Rattle.connections.specs.Stream.{begun, begun_at, is_begun, noted, number_begun, behind_front, next_behind, forgetting, forgotten, has_urgent_next, passing_urgent, put, stopped, unlike, with_numbers, with_urgent, HasPut, HasTaken, IsNumberOf}
+use Rattle.connections.specs.Stream.{begun, begun_at, is_begun, noted, number_begun, behind_front, next_behind, forgetting, forgotten, has_urgent_next, passing_urgent, put, behind_missing, emptied, missing_in, not_skipping, skipping, stopped, unlike, with_numbers, with_urgent, HasPut, HasTaken, IsNumberOf}
 use Rattle.connections.specs.Stream.HasPut.{left_out, taken}
 use Rattle.connections.specs.Traffic.{plus}
 use Rattle.connections.specs.declared.segment.Segment.{Segment}
@@ -92,6 +92,45 @@ by_reading t Over e h = subst (λ x. IsNumberOf t.next x) (sym e) h
 pub stopped_number : (t : Stream) → IsNumberOf t.next t.reading
     → IsNumberOf (stopped t t.reading).next (stopped t t.reading).reading
 stopped_number t h = by_reading t t.reading refl h
+
+emptied_number : (t : Stream) (h : Held) → IsNumberOf t.next (Open h)
+    → IsNumberOf (emptied t h).next (emptied t h).reading
+emptied_number t h is =
+    (rw is.0 (remainder_of_sum h.first h.taken (length (run h.cells)) (2 ^ 32)), is.1)
+
+behind_number : (t : Stream) (h : Held) → IsNumberOf t.next (Open h)
+    → IsNumberOf (behind_missing t h).next (behind_missing t h).reading
+behind_number t h is = (
+  rw (emptied_number t h is).0
+      (remainder_of_sum h.first (h.taken + length (run h.cells)) (missing_in h) (2 ^ 32)),
+  is.1,
+)
+
+skipped_if : (b : Bool) (t : Stream) (h : Held) → t.reading ≡ Open h → IsNumberOf t.next (Open h)
+    → IsNumberOf (if b then behind_missing t h else t).next
+    (if b then behind_missing t h else t).reading
+skipped_if true t h e is = behind_number t h is
+skipped_if false t h e is = subst (λ x. IsNumberOf t.next x) (sym e) is
+
+skipped_by : (t : Stream) (r : Reading) → t.reading ≡ r → IsNumberOf t.next r
+    → IsNumberOf (skipping t r).next (skipping t r).reading
+skipped_by t Unbegun e is = subst (λ x. IsNumberOf t.next x) (sym e) is
+skipped_by t (Open h) e is = skipped_if (ltb 0 (known_behind h.cells)) t h e is
+skipped_by t Over e is = subst (λ x. IsNumberOf t.next x) (sym e) is
+
+pub skipped_number : (t : Stream) → IsNumberOf t.next t.reading
+    → IsNumberOf (skipping t t.reading).next (skipping t t.reading).reading
+skipped_number t is = skipped_by t t.reading refl is
+
+left_by : (t : Stream) (r : Reading) → t.reading ≡ r → IsNumberOf t.next r
+    → IsNumberOf (not_skipping t r).next (not_skipping t r).reading
+left_by t Unbegun e is = subst (λ x. IsNumberOf t.next x) (sym e) is
+left_by t (Open h) e is = emptied_number t h is
+left_by t Over e is = subst (λ x. IsNumberOf t.next x) (sym e) is
+
+pub not_skipped_number : (t : Stream) → IsNumberOf t.next t.reading
+    → IsNumberOf (not_skipping t t.reading).next (not_skipping t t.reading).reading
+not_skipped_number t is = left_by t t.reading refl is
 
 -- Past the end of the shorter list nothing differs.
 none_unlike : (xs : Bytes) → unlike xs [] ≡ 0

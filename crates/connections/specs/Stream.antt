@@ -1,6 +1,6 @@
 -- One direction of a connection.
 use Rattle.std.specs.Prelude.{◌≡◌, ℕ, ◌+◌, ◌-◌, ◌%◌, ◌^◌, ◌==◌, ⊤, Bool, true, false, not, nat_lt, ◌&&◌, ◌||◌, if◌then◌else◌, Option, Some, None, [], ◌∷◌, length, max, min, take, drop}
-use Rattle.segments.specs.Cells.{Bytes, Held, differing_in, known_behind, run, with_segment, without_front, IsTooMuch}
+use Rattle.segments.specs.Cells.{Bytes, Held, differing_in, gap, known_behind, run, with_segment, without_front, IsTooMuch}
 use Rattle.connections.specs.Numbers.{advance, ahead_of, is_behind}
 use Rattle.connections.specs.Segment.{breaks, ends, first_of, behind_of, urgent_of}
 use Rattle.connections.specs.Traffic.{plus}
@@ -53,6 +53,7 @@ silent_stream = record {
   repeated = 0;
   disagreeing = 0;
   passing = None;
+  has_skipped = false;
 }
 
 -- The number of the first kept byte after more are freed.
@@ -305,11 +306,52 @@ has_come_to (Some fin) next r = is_read_to fin next r
 abbrev pub is_over : Stream → Bool
 is_over s = s.is_broken || has_come_to s.fin s.next s.reading
 
--- Bytes are missing before others that came, or before a FIN.
+-- Bytes are missing before others that came, or before a FIN; or missing bytes were skipped.
+abbrev pub lacks_next : Stream → Reading → Bool
+lacks_next s (Open h) = is_behind s.last ((s.next + length (run h.cells)) % 2 ^ 32)
+lacks_next s Unbegun = false
+lacks_next s Over = false
+
 abbrev pub lacks : Stream → Reading → Bool
-lacks s (Open h) = is_behind s.last ((s.next + length (run h.cells)) % 2 ^ 32)
-lacks s Unbegun = false
-lacks s Over = false
+lacks s r = s.has_skipped || lacks_next s r
+
+-- The bytes in order are freed, read or not.
+abbrev pub emptied : Stream → Held → Stream
+emptied t h = record t {
+  reading = Open (without_front (length (run h.cells)) h);
+  next = (t.next + length (run h.cells)) % 2 ^ 32;
+  received = 0;
+}
+
+-- How many bytes are missing behind them.
+abbrev pub missing_in : Held → ℕ
+missing_in h = gap (without_front (length (run h.cells)) h).cells
+
+abbrev pub behind_missing : Stream → Held → Stream
+behind_missing t h = record (emptied t h) {
+  reading = Open (without_front (missing_in h) (without_front (length (run h.cells)) h));
+  next = ((emptied t h).next + missing_in h) % 2 ^ 32;
+  has_skipped = true;
+}
+
+-- If bytes came behind missing ones, the missing ones are skipped, and the unread ones before them.
+abbrev pub skipping : Stream → Reading → Stream
+skipping t (Open h) = if nat_lt 0 (known_behind h.cells) then behind_missing t h else t
+skipping t Unbegun = t
+skipping t Over = t
+
+-- How many these are.
+abbrev pub skipped_in : Stream → Reading → ℕ
+skipped_in t (Open h) = if nat_lt 0 (known_behind h.cells)
+    then plus (length (run h.cells) - t.received) (missing_in h) else 0
+skipped_in t Unbegun = 0
+skipped_in t Over = 0
+
+-- Without memory the missing ones aren't skipped.
+abbrev pub not_skipping : Stream → Reading → Stream
+not_skipping t (Open h) = emptied t h
+not_skipping t Unbegun = t
+not_skipping t Over = t
 
 -- How far it came in order, and whether it is read.
 abbrev pub front_of : Stream → Reading → Front

@@ -14,7 +14,7 @@ ghost use Rattle.connections.specs.declared.receiver.DropReason.{DropReason};
 ghost use Rattle.connections.specs.declared.segment.Segment.{Segment};
 ghost use Rattle.connections.specs.declared.stream.Stream.{Stream};
 ghost use Rattle.connections.specs.declared.stream.Reading.{Reading};
-ghost use Rattle.connections.specs.Stream.{begun_at, forgetting, handing_on, passing_urgent, silent_stream, noted, stopped, HasTaken, IsNumberOf};
+ghost use Rattle.connections.specs.Stream.{begun_at, forgetting, handing_on, passing_urgent, silent_stream, not_skipping, noted, skipping, stopped, HasTaken, IsNumberOf};
 
 use crate::five_tuple::End;
 
@@ -65,6 +65,10 @@ pub fn the_next_number_is_that_of_what_is_held()
         → IsNumberOf (forgetting acknowledged t).next (forgetting acknowledged t).reading }
     ensures stopped { (t : Stream) → IsNumberOf t.next t.reading
         → IsNumberOf (stopped t t.reading).next (stopped t t.reading).reading }
+    ensures skipped { (t : Stream) → IsNumberOf t.next t.reading
+        → IsNumberOf (skipping t t.reading).next (skipping t t.reading).reading }
+    ensures not_skipped { (t : Stream) → IsNumberOf t.next t.reading
+        → IsNumberOf (not_skipping t t.reading).next (not_skipping t t.reading).reading }
 {}
 
 /// Dropped and pending packets change nothing that is read: only counts and the pending segments.

@@ -1,7 +1,7 @@
 //! One direction of a connection.
-ghost use Rattle.std.specs.Prelude.{◌≡◌, ◌≤◌, ◌%◌, ◌^◌, length, max, false, OnOk, OnErr};
+ghost use Rattle.std.specs.Prelude.{◌≡◌, ◌≤◌, ◌%◌, ◌^◌, length, max, false, IfOk, OnOk, OnErr};
 ghost use Rattle.connections.specs.Segment.{breaks, first_of};
-ghost use Rattle.connections.specs.Stream.{begun_at, came, counts_fin as is_counted, differing_in_order, end_of, forgetting, front_of, handed_on, handing_on, has_urgent_next, held_in, is_cut_short, is_missing, is_over, lacks, next_bytes, noted, passed, passed_before, passing_behind, passing_urgent, silent_stream, stopped, unread_from, unlike, with_more_disagreeing, with_numbers, with_urgent, HasPut, HasTaken};
+ghost use Rattle.connections.specs.Stream.{begun_at, came, counts_fin as is_counted, differing_in_order, end_of, forgetting, front_of, handed_on, handing_on, has_urgent_next, held_in, is_cut_short, is_missing, is_over, lacks, lacks_next as lacks_by_number, next_bytes, not_skipping, noted, passed, passed_before, passing_behind, passing_urgent, silent_stream, skipped_in, skipping, stopped, unread_from, unlike, with_more_disagreeing, with_numbers, with_urgent, HasPut, HasTaken};
 
 use crate::numbers::{HALF, advance, is_behind};
 use crate::segment::Segment;
@@ -58,6 +58,8 @@ pub struct Stream {
     disagreeing: u64,
     // Once it is read no further: the number of the next byte to pass on, until one is missing.
     passing: Option<u32>,
+    // Whether missing bytes were skipped.
+    has_skipped: bool,
 }
 
 /// Returns how many bytes are stored, in order and out of order.
@@ -127,6 +129,7 @@ impl Stream {
             repeated: 0,
             disagreeing: 0,
             passing: None,
+            has_skipped: false,
         }
     }
 
@@ -480,9 +483,46 @@ impl Stream {
         }
     }
 
-    /// Returns whether bytes are missing before others that came, or before a FIN.
+    /// Skips the next missing bytes, and the unread bytes before them, if any came behind them.
+    /// Returns how many bytes it skipped, at least one; or 0, and nothing changes.
+    ///
+    /// `AllocError` if there is no memory for the bytes behind them. Then only the bytes before
+    /// them are left out.
+    pub fn skip_gap(&mut self) -> Result<usize, AllocError>
+        ensures count { IfOk result (λ n. n ≡ skipped_in self.old self.old.reading) }
+        ensures skipped { OnOk result (self.new ≡ skipping self.old self.old.reading) }
+        ensures left_out { OnErr result (self.new ≡ not_skipping self.old self.old.reading) }
+    {
+        let Reading::Open(segments) = &mut self.reading else {
+            return Ok(0);
+        };
+        if segments.held_behind() == 0 {
+            return Ok(0);
+        }
+        let in_order = segments.available().len();
+        let unread = in_order.saturating_sub(self.received);
+        self.next = self.next.wrapping_add(count(segments.available()));
+        self.received = 0;
+        segments.take(in_order);
+        let Ok(missing) = segments.skip() else {
+            return Err(AllocError);
+        };
+        self.next = self.next.wrapping_add((missing % 0x1_0000_0000) as u32);
+        self.has_skipped = true;
+        Ok(unread.saturating_add(missing))
+    }
+
+    /// Returns whether bytes are missing before others that came, or before a FIN, or were skipped
+    /// as missing.
     pub fn has_gap(&self) -> bool
         ensures { result ≡ lacks self.now self.now.reading }
+    {
+        self.has_skipped || self.lacks_next()
+    }
+
+    /// Returns whether bytes are missing before others that came, or before a FIN.
+    fn lacks_next(&self) -> bool
+        ensures { result ≡ lacks_by_number self.now self.now.reading }
     {
         match &self.reading {
             Reading::Open(segments) => {

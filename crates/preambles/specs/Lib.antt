@@ -1,5 +1,6 @@
 pub mod Dialogues
 pub mod Fronts
+pub mod Gaps
 pub mod Ldap
 pub mod Lines
 pub mod Packets
@@ -8,6 +9,7 @@ pub mod Rows
 pub mod Tds
 pub mod TdsPayload
 pub mod Tunnels
+pub mod Values
 pub mod Walk
 pub mod Words
 pub mod Xmpp

@@ -142,13 +142,14 @@ greeted d c is_last = if is_last then Reply d c else GreetingRest d c
 -- The server's first line says which protocol it is: 220 (RFC 5321, section 3.1; RFC 959, section
 -- 5.4), 200 or 201 (RFC 3977, section 5.1), +OK (RFC 1939, section 4), an untagged line (RFC 9051,
 -- section 7.1), a capability in quotes (RFC 5804, section 1.7), or a line with a prefix (RFC 1459,
--- section 2.3). c is the client's first command, which it answers.
+-- section 2.3). c is the client's first command, which it answers. An answer of HTTP (RFC 9112,
+-- section 4) shows that the client's line was a request.
 unfoldable pub greeting : Words → List ℕ → Phase
 greeting c line =
     if code_of line == 220 && is_lhlo c.first then greeted dialect.Lmtp c (is_last line)
     else if code_of line == 220 then greeted dialect.Codes c (is_last line)
     else if code_of line == 200 || code_of line == 201 then Reply dialect.Nntp c
-    else if nat_le 400 (code_of line) then Over outcome.Plain
+    else if nat_le 400 (code_of line) || begins (codes "HTTP/1.") line then Over outcome.Plain
     else if begins (codes "+OK") line then Reply dialect.Pop3 c
     else if begins (codes "* ") line then Reply dialect.Imap c
     else if begins (codes "\"") line then GreetingRest dialect.Sieve c

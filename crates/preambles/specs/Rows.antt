@@ -82,10 +82,20 @@ frame_of (Ldap r q) = ldap_frame q
 frame_of (Xmpp q) = frame.Until 62
 frame_of p = frame.Until 10
 
--- Requests of HTTP (RFC 9110, section 9.3) but CONNECT.
+-- Requests of WebDAV (RFC 4918, section 9; RFC 3253, section 3.6; RFC 5323, section 2).
+unfoldable pub is_webdav : List ℕ → Bool
+is_webdav line = begins (codes "PROPFIND ") line || begins (codes "PROPPATCH ") line
+    || begins (codes "MKCOL ") line || begins (codes "COPY ") line || begins (codes "MOVE ") line
+    || begins (codes "LOCK ") line || begins (codes "UNLOCK ") line || begins (codes "REPORT ") line
+    || begins (codes "SEARCH ") line
+
+-- Requests of HTTP (RFC 9110, section 9.3; RFC 5789, section 2) but CONNECT, and the preface of
+-- HTTP/2 (RFC 9113, section 3.4).
 unfoldable pub is_plain_http : List ℕ → Bool
 is_plain_http line = begins (codes "GET ") line || begins (codes "POST ") line
     || begins (codes "PUT ") line || begins (codes "HEAD ") line || begins (codes "OPTIONS ") line
+    || begins (codes "DELETE ") line || begins (codes "PATCH ") line || begins (codes "TRACE ") line
+    || begins (codes "PRI * HTTP/2.0") line || is_webdav line
 
 -- The client's first line. The header of the PROXY protocol, version 1, is a line (section 2.1 of
 -- its text). CAP and NICK begin IRC (RFC 2812, section 3.1). Any other line may be a command,

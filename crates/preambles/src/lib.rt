@@ -8,6 +8,9 @@
 //! `specs/Rows.antt` is the grammar: which side each phase reads, how far, and what follows. The
 //! first 64 bytes of a line or packet decide what follows; the others are passed over.
 //!
+//! Where bytes of a side are missing, [`Preamble::again`] and [`Preamble::passed`] are the two places
+//! from which the dialogue may go on.
+//!
 //! Behind the dialogue of SQL Server, TLS is the payload of packets: a [`TdsReader`] takes it out.
 //!
 //! Not followed:
@@ -18,6 +21,7 @@
 #![tactic(auto)]
 
 mod front;
+mod gaps;
 pub mod laws;
 mod ldap;
 mod lines;

@@ -200,7 +200,7 @@ pub(crate) fn greeting(command: Command, line: &[u8]) -> Phase
         greeted(Dialect::Codes, command, is_last(line))
     } else if code == 200 || code == 201 {
         Phase::Reply(Dialect::Nntp, command)
-    } else if code >= 400 {
+    } else if code >= 400 || begins(line, b"HTTP/1.") {
         Phase::Over(Outcome::Plain)
     } else if begins(line, b"+OK") {
         Phase::Reply(Dialect::Pop3, command)

@@ -80,7 +80,7 @@ fn kept_with(frame: Frame, front: Front, byte: u8) -> Front
 /// Follows both sides up to where TLS begins.
 #[derive(Clone, Copy)]
 pub struct Preamble {
-    phase: Phase,
+    pub(crate) phase: Phase,
     front: Front,
     left: u32,
 }
@@ -134,7 +134,7 @@ impl Preamble {
     }
 
     /// Returns the place at which a phase begins.
-    fn enter(phase: Phase) -> Preamble
+    pub(crate) fn enter(phase: Phase) -> Preamble
         ensures { view result ≡ begin phase }
     {
         Preamble {

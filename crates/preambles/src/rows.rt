@@ -1,6 +1,6 @@
 //! Each phase's row: which side it reads, how far, and what follows.
 ghost use Rattle.std.specs.Prelude.{◌≡◌};
-ghost use Rattle.preambles.specs.Rows.{first_byte as behind_first_byte, packet_next as behind_packet, packet_reads as side_of_packet, first_line as first_line_of, first_unit, frame_of as frame, irc_command as behind_irc_command, is_plain_http as is_http, is_text as text, next as next_of, outcome_of as outcome, reads as side_of, recognizes as recognized, value as value_of};
+ghost use Rattle.preambles.specs.Rows.{first_byte as behind_first_byte, packet_next as behind_packet, packet_reads as side_of_packet, first_line as first_line_of, first_unit, frame_of as frame, irc_command as behind_irc_command, is_plain_http as is_http, is_webdav as is_of_webdav, is_text as text, next as next_of, outcome_of as outcome, reads as side_of, recognizes as recognized, value as value_of};
 
 use crate::ldap::{ldap_frame, ldap_next, ldap_reads};
 use crate::lines::{answer, behind_answer, greeting, greeting_rest, irc_answer};
@@ -92,6 +92,22 @@ pub(crate) fn frame_of(phase: Phase) -> Frame
     }
 }
 
+/// Whether a line is a request of WebDAV.
+#[tactic(auto, unfolding(crate::specs::Rows::is_webdav))]
+fn is_webdav(line: &[u8]) -> bool
+    ensures { result ≡ is_of_webdav line.now }
+{
+    begins(line, b"PROPFIND ")
+        || begins(line, b"PROPPATCH ")
+        || begins(line, b"MKCOL ")
+        || begins(line, b"COPY ")
+        || begins(line, b"MOVE ")
+        || begins(line, b"LOCK ")
+        || begins(line, b"UNLOCK ")
+        || begins(line, b"REPORT ")
+        || begins(line, b"SEARCH ")
+}
+
 /// Whether a line is an HTTP request other than CONNECT.
 #[tactic(auto, unfolding(crate::specs::Rows::is_plain_http))]
 fn is_plain_http(line: &[u8]) -> bool
@@ -102,6 +118,11 @@ fn is_plain_http(line: &[u8]) -> bool
         || begins(line, b"PUT ")
         || begins(line, b"HEAD ")
         || begins(line, b"OPTIONS ")
+        || begins(line, b"DELETE ")
+        || begins(line, b"PATCH ")
+        || begins(line, b"TRACE ")
+        || begins(line, b"PRI * HTTP/2.0")
+        || is_webdav(line)
 }
 
 /// The phase behind the client's first line.
@@ -203,7 +224,7 @@ fn packet_next(phase: Phase, front: &[u8]) -> Phase
 }
 
 /// A value isn't a command: a positive answer to it ends a login.
-fn value() -> Command
+pub(crate) fn value() -> Command
     ensures { result ≡ value_of }
 {
     Command {

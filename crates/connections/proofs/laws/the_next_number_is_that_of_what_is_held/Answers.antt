@@ -1,4 +1,4 @@
-use Rattle.connections.proofs.StreamLemmas.{accepted, begun_at_number, forgotten_number, noted_number, stopped_number, urgent_number}
+use Rattle.connections.proofs.StreamLemmas.{accepted, begun_at_number, forgotten_number, noted_number, not_skipped_number, skipped_number, stopped_number, urgent_number}
 use Rattle.connections.proofs.laws.the_next_number_is_that_of_what_is_held.Goals as goal
 
 pub returns-clause-accepted : goal.returns-clause-accepted
@@ -18,3 +18,9 @@ returns-clause-stopped c = stopped_number
 
 pub returns-clause-begun : goal.returns-clause-begun
 returns-clause-begun c = begun_at_number
+
+pub returns-clause-skipped : goal.returns-clause-skipped
+returns-clause-skipped c = skipped_number
+
+pub returns-clause-not_skipped : goal.returns-clause-not_skipped
+returns-clause-not_skipped c = not_skipped_number
