@@ -1,5 +1,5 @@
 -- The fields of a TCP segment.
-use Rattle.std.specs.Prelude.{◌≡◌, ℕ, ◌+◌, ◌-◌, ◌/◌, ◌%◌, ◌^◌, ◌==◌, Bool, true, false, ◌&&◌, ◌||◌, not, nat_lt, if◌then◌else◌, Option, Some, None, List, [], ◌∷◌, length}
+use Rattle.std.specs.Prelude.{◌≡◌, ℕ, ◌+◌, ◌-◌, ◌/◌, ◌%◌, ◌^◌, ◌==◌, Bool, true, false, ◌&&◌, ◌||◌, not, nat_lt, if◌then◌else◌, Option, Some, None, [], length}
 use Rattle.connections.specs.FiveTuple.{five_tuple_between}
 use Rattle.connections.specs.declared.five_tuple.FiveTuple.{FiveTuple}
 use Rattle.connections.specs.declared.five_tuple.Protocol.TheVariants.{Tcp}
@@ -33,16 +33,10 @@ asks s = begins s && not (acknowledges s)
 abbrev pub answers : Segment → Bool
 answers s = begins s && acknowledges s
 
--- The first byte of a handshake record (RFC 8446, section 5.1).
-abbrev pub begins_handshake : List ℕ → Bool
-begins_handshake [] = false
-begins_handshake (b ∷ rest) = b == 22
-
--- A stream may begin with it: it has a SYN, or more than one byte, or the first of a handshake
--- record. Any other single byte may be a keep-alive (RFC 9293, section 3.8.4).
+-- A stream may begin with it: it has a SYN, or more than one byte. A single byte may be a
+-- keep-alive (RFC 9293, section 3.8.4).
 abbrev pub begins_stream : Segment → Bool
-begins_stream s =
-    begins s || (nat_lt 1 (length s.payload.now) || begins_handshake s.payload.now)
+begins_stream s = begins s || nat_lt 1 (length s.payload.now)
 
 -- A checksum with which every receiver drops the packet.
 abbrev pub is_refused : Checksum → Bool

@@ -1,6 +1,6 @@
 //! TCP segments.
 ghost use Rattle.std.specs.Prelude.{◌≡◌, ◌<◌};
-ghost use Rattle.connections.specs.Segment.{has_flag as is_set, ends, begins, breaks, acknowledges, asks, answers, first_of, behind_of, end_with_fin, five_tuple_of, begins_handshake as begins_record, begins_stream, begins_one, has_data, takes_numbers, urgent_of, data_of_syn, bytes_alone, without_flag as without_flag_of, header_of, without_fin as without_fin_of, IsWithoutData};
+ghost use Rattle.connections.specs.Segment.{has_flag as is_set, ends, begins, breaks, acknowledges, asks, answers, first_of, behind_of, end_with_fin, five_tuple_of, begins_stream, begins_one, has_data, takes_numbers, urgent_of, data_of_syn, bytes_alone, without_flag as without_flag_of, header_of, without_fin as without_fin_of, IsWithoutData};
 
 use crate::five_tuple::{End, FiveTuple, Protocol};
 
@@ -18,9 +18,6 @@ const ACK: u8 = 0x10;
 
 /// The urgent pointer is valid.
 const URG: u8 = 0x20;
-
-/// The type of handshake records (RFC 8446, section 5.1).
-const HANDSHAKE: u8 = 22;
 
 /// The result for the checksums of a packet.
 #[derive(Clone, Copy, Debug, PartialEq, Eq)]
@@ -150,16 +147,6 @@ fn without_flag(flags: u8, weight: u8) -> u8
     }
 }
 
-/// Returns whether bytes begin with the first one of a handshake record.
-fn begins_handshake(bytes: &[u8]) -> bool
-    ensures { result ≡ begins_record bytes.now }
-{
-    match bytes {
-        [first, ..] => *first == HANDSHAKE,
-        [] => false,
-    }
-}
-
 impl<'a> Segment<'a> {
     /// Returns the five-tuple.
     pub fn between(&self) -> FiveTuple
@@ -210,13 +197,12 @@ impl<'a> Segment<'a> {
         has_flag(self, ACK)
     }
 
-    /// Returns whether a stream may begin with it: it has a SYN, or more than one byte of data, or
-    /// the first byte of a handshake record. Any other single byte may be a keep-alive, which the
-    /// receiver already has (RFC 9293, section 3.8.4).
+    /// Returns whether a stream may begin with it: it has a SYN, or more than one byte of data. A
+    /// single byte may be a keep-alive, which the receiver already has (RFC 9293, section 3.8.4).
     pub(crate) fn begins_stream(&self) -> bool
         ensures { result ≡ begins_stream self.now }
     {
-        self.begins() || self.payload.len() > 1 || begins_handshake(self.payload)
+        self.begins() || self.payload.len() > 1
     }
 
     /// Returns whether a connection may begin with it: it is a SYN or a SYN-ACK without FIN, or has
