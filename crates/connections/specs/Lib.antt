@@ -10,6 +10,7 @@ pub mod Waiting
 pub mod Connection
 pub mod Ending
 pub mod Table
+pub mod Lost
 pub mod Memory
 pub mod Traffic
 pub mod Dropped

@@ -26,6 +26,7 @@ mod five_tuple;
 mod hash_keys;
 mod host;
 mod laws;
+mod lost;
 mod memory;
 mod numbers;
 mod pending;

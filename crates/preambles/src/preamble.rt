@@ -121,9 +121,9 @@ impl Preamble {
         recognizes(self.phase)
     }
 
-    /// Whether the bytes of a side are read next.
+    /// Returns whether the bytes of a side are read next.
     #[tactic(auto, unfolding(crate::specs::Walk::is_due))]
-    fn is_due(&self, side: Side) -> bool
+    pub fn is_due(&self, side: Side) -> bool
         ensures { result ≡ due side (view self.now) }
     {
         match (side, side_read(self.phase)) {
