@@ -59,7 +59,12 @@ FIRST_BYTE = {
     "first_byte_of_server_tls13": ("openssl_tls13", "s", False),
     "first_byte_of_both": ("openssl_tls13", "cs", False),
 }
-NAMES = [*LOST, *PIECES, *FIRST_BYTE]
+# The server's packets alone, whose first has one byte. And a connection without its opening, whose
+# first packet is a keep-alive: its byte, which the client sent before, is that of a record's type.
+ALONE, KEEP_ALIVE = "first_byte_of_server_alone", "keep_alive_of_type_22"
+OF_SERVER = """version cipher curve server_version comp_method ssl_server_exts cert_count
+    cert_chain_fps ja3s ja3s_string""".split()
+NAMES = [*LOST, *PIECES, *FIRST_BYTE, ALONE, KEEP_ALIVE]
 TLS_PORT = 14433
 
 
@@ -156,5 +161,49 @@ def first_byte(folder: Path, name: str) -> list[Line]:
     return [expected.line(fields | by_tshark, sources, ["last_alert", "gap"])]
 
 
+def of_server(folder: Path) -> list[Line]:
+    """The server is the originator, since its packet is the first. Nothing of a handshake is in
+    front of a ClientHello."""
+    stored = misleading.STORED
+    segments = packets.read(stored.read_bytes())
+    client = segments[0].source
+    first, *others = [one for one in segments if one.source != client and one.payload]
+    put(folder / f"{ALONE}.pcap", [first.part(0, 1), first.part(1, len(first.payload)), *others])
+    known = misleading.stored_line(stored)
+    ends = {
+        f"id.{one}_{part}": known[f"id.{other}_{part}"]
+        for one, other in (("orig", "resp"), ("resp", "orig"))
+        for part in "hp"
+    }
+    of_tshark = {field: known[field] for field in OF_SERVER if field in known}
+    by_hand = {"established": False, "outcome": "no_handshake"}
+    absent = ["server_name", "client_version", "gap"]
+    sources = {
+        "the first packet": list(ends),
+        f"{stored.stem}, tshark": list(of_tshark),
+        "docs/HANDSHAKES.md: nothing is before a ClientHello": [*by_hand, *absent],
+    }
+    return [expected.line(ends | of_tshark | by_hand, sources, absent)]
+
+
+def keep_alive(folder: Path) -> list[Line]:
+    stored = misleading.STORED
+    segments = packets.read(stored.read_bytes())
+    begin = next(at for at, one in enumerate(segments) if one.payload)
+    hello = segments[begin]
+    number = ((hello.sequence - 1) % 2**32).to_bytes(4, "big")
+    tcp = hello.tcp[:4] + number + hello.tcp[8:]
+    probe = packets.replace(hello, tcp=tcp, payload=b"\x16")
+    put(folder / f"{KEEP_ALIVE}.pcap", [probe, *segments[begin:]])
+    known = misleading.stored_line(stored)
+    fields = {field: known[field] for field in misleading.OF_TLS if field in known}
+    source = f"{stored.stem}, tshark; a keep-alive's byte is none of the stream (RFC 9293, 3.8.4)"
+    return [expected.line(fields, {source: [*fields, "gap"]}, ["gap"])]
+
+
 def record(folder: Path, name: str) -> list[Line]:
+    if name == ALONE:
+        return of_server(folder)
+    if name == KEEP_ALIVE:
+        return keep_alive(folder)
     return first_byte(folder, name) if name in FIRST_BYTE else lost(folder, name)
