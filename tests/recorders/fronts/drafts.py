@@ -19,7 +19,10 @@ DRAFTS = {
     "draft_21": (0x7F15, "TLSv13-draft21"),
     "draft_28": (0x7F1C, "TLSv13-draft28"),
     "draft_facebook23": (0xFB17, "TLSv13-facebook23"),
+    "draft_facebook26": (0xFB1A, "TLSv13-facebook26"),
     "draft_boringssl2": (0x7E02, "TLSv13-boringssl2"),
+    # Of no draft that is known, so it is written as a number.
+    "draft_unknown": (0xFB28, "0xfb28"),
 }
 NAMES = [*DRAFTS]
 OLD_FORMS = range(0x7F00, 0x7F16)

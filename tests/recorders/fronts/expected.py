@@ -11,6 +11,8 @@ from tests.support import packets, suite_names
 from tests.support.shapes import Line
 
 NAMES = {"TLSv1.2": "TLSv12", "TLSv1.3": "TLSv13"}
+# The source of `search`.
+NO_DIALOGUE = "by hand: no dialogue of docs/CAPTURES.md has these bytes"
 
 
 def line(fields: Line, sources: dict[str, list[str]], absent: Iterable[str] = ()) -> Line:
@@ -43,9 +45,13 @@ def ends(file: Path, port: int) -> Line:
     }
 
 
-def of_front(file: Path, port: int, seen: Line, found_by: str) -> list[Line]:
-    """Returns one line. Fields that both tshark and the peer know must agree."""
-    found = wanted.lines(file)
+def of_front(
+    file: Path, port: int, seen: Line, found_by: str, decoded: int | None = None
+) -> list[Line]:
+    """Returns one line. Fields that both tshark and the peer know must agree. tshark takes the port
+    `decoded` for TLS."""
+    found = wanted.lines(file, decoded)
+    source = "the dialogue" if found_by != "search" else NO_DIALOGUE
     known = ends(file, port)
     by_peer = {
         "server_name": seen["server_name"],
@@ -72,7 +78,7 @@ def of_front(file: Path, port: int, seen: Line, found_by: str) -> list[Line]:
                 {
                     "the first packet": [*known, "proto"],
                     "seen": [*by_peer, "outcome", "last_alert", *none],
-                    "the dialogue": ["found_by"],
+                    source: ["found_by"],
                 },
                 ["last_alert", *none],
             )
@@ -89,7 +95,7 @@ def of_front(file: Path, port: int, seen: Line, found_by: str) -> list[Line]:
             {
                 "seen": [*by_peer, *none],
                 "tshark": [*others, "last_alert", "gap"],
-                "the dialogue": ["found_by"],
+                source: ["found_by"],
             },
             ["last_alert", "gap", *none],
         )

@@ -78,17 +78,18 @@ def packet(kind: int, content: bytes, status: int = 1) -> bytes:
 @dataclass(frozen=True)
 class Talk:
     """The port, what both sides say in turn before TLS, the name of the dialogue, and what of TLS
-    follows: all, or other bytes in turn."""
+    follows: all, or other bytes in turn. And the capture whose fields hold."""
 
     port: int
     said: list[tuple[str, bytes]]
     found_by: str | None
     tls: list[tuple[str, bytes]] | None = None
+    stored: Path = STORED
 
 
-def stored_talk() -> list[tuple[str, bytes]]:
-    """Returns the payloads of the stored capture's first connection, in turn."""
-    segments = packets.read(STORED.read_bytes())
+def stored_talk(stored: Path = STORED) -> list[tuple[str, bytes]]:
+    """Returns the payloads of a stored capture's first connection, in turn."""
+    segments = packets.read(stored.read_bytes())
     client = segments[0].source
     ends = segments[0].ends
     return [
@@ -129,6 +130,31 @@ def client_hello() -> bytes:
     return stored_talk()[0][1]
 
 
+def http(first: str, body: bytes, *more: str) -> bytes:
+    """Returns a message of HTTP with a body (RFC 9112, section 2.1)."""
+    lines = [first, *more, f"Content-Length: {len(body)}", "", ""]
+    return "\r\n".join(lines).encode() + body
+
+
+def echoes() -> dict[str, Talk]:
+    """Returns uploads of a ClientHello by methods of HTTP. The answers have a server's TLS in their
+    bodies, some the upload too."""
+    hello = client_hello()
+    tls = b"".join(part for side, part in stored_talk() if side == "s")
+
+    def echo(method: str, status: str, body: bytes) -> Talk:
+        request = http(f"{method} /kept HTTP/1.1", hello, "Host: example.test")
+        return Talk(80, [("c", request), ("s", http(f"HTTP/1.1 {status}", body))], None, [])
+
+    return {
+        "upload_is_echoed": echo("PUT", "200 OK", tls),
+        "patch_is_echoed": echo("PATCH", "200 OK", tls),
+        "patch_is_echoed_with_hello": echo("PATCH", "200 OK", hello + tls),
+        "propfind_is_echoed": echo("PROPFIND", "207 Multi-Status", hello + tls),
+        "delete_is_echoed": echo("DELETE", "200 OK", hello + tls),
+    }
+
+
 def talks() -> dict[str, Talk]:
     """Returns the captures by name."""
     greeting = ("s", b"220 mail.example.test ESMTP\r\n")
@@ -147,9 +173,6 @@ def talks() -> dict[str, Talk]:
     challenge = b"HTTP/1.1 407 Proxy Authentication Required\r\nContent-Length: " + str(
         len(FAKE)
     ).encode() + b"\r\nProxy-Authenticate: Basic realm=\"it\"\r\n\r\n"
-    upload = b"PUT /kept HTTP/1.1\r\nHost: example.test\r\nContent-Length: " + str(
-        len(client_hello())
-    ).encode() + b"\r\n\r\n"
     tls = stored_talk()
     answer = b"".join(part for side, part in tls if side == "s")
     version = (VERSION, b"\x10\0\4\x20\0\0")
@@ -211,13 +234,7 @@ def talks() -> dict[str, Talk]:
         "hello_of_responder_behind_connect": Talk(8080, home, "http_connect", of_responder(3)),
         "hello_of_responder_behind_starttls": Talk(25, smtp, "smtp", of_responder(3)),
         "small_records_behind_starttls": Talk(25, smtp, "smtp", hello_in_small_records()),
-        "upload_is_echoed": Talk(
-            80,
-            [("c", upload + client_hello()), ("s", b"HTTP/1.1 200 OK\r\nContent-Length: "
-              + str(len(answer)).encode() + b"\r\n\r\n" + answer)],
-            None,
-            [],
-        ),
+        **echoes(),
     }
 
 
@@ -246,7 +263,7 @@ def frames(talk: Talk) -> list[tuple[int, bytes]]:
     segment("c", SYN)
     segment("s", SYN | ACK)
     segment("c", ACK)
-    behind = stored_talk() if talk.tls is None else talk.tls
+    behind = stored_talk(talk.stored) if talk.tls is None else talk.tls
     for side, payload in [*talk.said, *behind]:
         for at in range(0, len(payload), 1400):
             segment(side, ACK | PSH, payload[at : at + 1400])
@@ -262,9 +279,9 @@ OF_TLS = """version cipher curve server_name established resumed outcome ssl_his
 OF_HELLO = "server_name client_version client_ciphers ssl_client_exts ja3 ja4".split()
 
 
-def stored_line() -> Line:
-    """Returns the stored line of the capture, by the time of its first packet."""
-    time = packets.read(STORED.read_bytes())[0].time / 1_000_000
+def stored_line(stored: Path = STORED) -> Line:
+    """Returns the stored line of a capture, by the time of its first packet."""
+    time = packets.read(stored.read_bytes())[0].time / 1_000_000
     lines = map(json.loads, (TOP / "crates/tlslog/stdout").read_text().splitlines())
     [found] = [line for line in lines if abs(line["ts"] - time) < 0.0000015]
     return found
@@ -272,12 +289,14 @@ def stored_line() -> Line:
 
 def record(folder: Path, name: str) -> list[Line]:
     """Makes a capture, and returns its line."""
-    talk = talks()[name]
-    file = folder / f"{name}.pcap"
+    return record_talk(folder / f"{name}.pcap", talks()[name])
+
+
+def record_talk(file: Path, talk: Talk) -> list[Line]:
     file.write_bytes(packets.pcap(frames(talk)))
     if talk.found_by is None:
         return []
-    stored = stored_line()
+    stored = stored_line(talk.stored)
     kept = OF_TLS if talk.tls is None or len(talk.tls) > 2 else OF_HELLO
     of_tshark = {field: stored[field] for field in kept if field in stored}
     front = {
@@ -292,14 +311,10 @@ def record(folder: Path, name: str) -> list[Line]:
     if talk.tls is not None and talk.tls[1:] == [("s", ALERT)]:
         by_hand["last_alert"] = "handshake_failure"
     absent = [] if front["s"] else ["resp_preamble_bytes"]
-    return [
-        expected.line(
-            {**known, **of_tshark, **by_hand},
-            {
-                "the first packet": list(known),
-                "tshark, of the stored capture": list(of_tshark),
-                "the RFC of the dialogue": [*by_hand, *absent],
-            },
-            absent,
-        )
-    ]
+    grammar = "the RFC of the dialogue" if talk.found_by != "search" else expected.NO_DIALOGUE
+    sources = {
+        "the first packet": list(known),
+        "tshark, of the stored capture": list(of_tshark),
+        grammar: [*by_hand, *absent],
+    }
+    return [expected.line({**known, **of_tshark, **by_hand}, sources, absent)]

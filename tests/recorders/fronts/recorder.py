@@ -18,10 +18,12 @@ from tests.recorders.fronts import (
     browser,
     drafts,
     expected,
+    gaps,
     misleading,
     offers,
     old_hello,
     plain,
+    searched,
     shifted,
     talks,
 )
@@ -201,7 +203,7 @@ def found_by(name: str) -> str:
 def names() -> list[str]:
     of_browser = [browser.NAME, browser.SHORT, *browser.KEPT]
     of_others = [*old_hello.NAMES, *shifted.NAMES, *drafts.NAMES, *offers.NAMES, *misleading.NAMES]
-    return [*captures(), *of_others, *of_browser]
+    return [*captures(), *of_others, *searched.NAMES, *gaps.NAMES, *of_browser]
 
 
 def record(folder: Path, chosen: list[str]) -> bool:
@@ -225,6 +227,10 @@ def record(folder: Path, chosen: list[str]) -> bool:
                 lines = offers.record(work, folder, name)
             elif name in misleading.NAMES:
                 lines = misleading.record(folder, name)
+            elif name in searched.NAMES:
+                lines = searched.record(work, folder, name)
+            elif name in gaps.NAMES:
+                lines = gaps.record(folder, name)
             elif name == browser.NAME:
                 lines = browser.record(folder)
             elif name == browser.SHORT:
