@@ -18,6 +18,7 @@ from tests.recorders.fronts import (
     browser,
     drafts,
     expected,
+    live,
     misleading,
     offers,
     old_hello,
@@ -200,7 +201,7 @@ def found_by(name: str) -> str:
 
 def names() -> list[str]:
     of_browser = [browser.NAME, browser.SHORT, *browser.KEPT]
-    of_others = [*old_hello.NAMES, *shifted.NAMES, *drafts.NAMES, *offers.NAMES, *misleading.NAMES]
+    of_others = [*old_hello.NAMES, *shifted.NAMES, *drafts.NAMES, *offers.NAMES, *misleading.NAMES, *live.NAMES]
     return [*captures(), *of_others, *of_browser]
 
 
@@ -213,6 +214,9 @@ def record(folder: Path, chosen: list[str]) -> bool:
         (work / "hello.record").write_bytes(shifted.stored_hello())
         (work / "freetds.conf").write_text(FREETDS)
         for name in chosen or names():
+            if name in live.NAMES:
+                wanted_entries.keep(folder, f"{name}.pcap", live.record(work, folder, name))
+                continue
             if name in known:
                 lines = record_behind(work, folder, name, *known[name])
             elif name in old_hello.NAMES:
