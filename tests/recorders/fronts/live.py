@@ -88,6 +88,7 @@ def scenes() -> dict[str, Scene]:
         "live_sieve_dovecot": starttls(
             servers.DOVECOT, "sieve", 4190, "RFC 5804, 2.2", b"LOGOUT\r\n"
         ),
+        "live_nntp_inn": starttls(servers.INN, "nntp", 119, "RFC 4642, 2.2", b"DATE\r\nQUIT\r\n"),
         "live_irc_inspircd": starttls(
             servers.INSPIRCD, "irc", 6667, "IRCv3, tls-3.1", b"QUIT\r\n"
         ),
@@ -250,13 +251,14 @@ def record(work: Path, folder: Path, name: str) -> dict[str, object]:
     if not shown:
         sys.exit(f"record: {name}: no peer printed a version:\n{said}")
     version = shown["version"].replace("TLS1", "TLSv1")
-    print(name, file.stat().st_size, "bytes", shown[0], flush=True)
+    printed = " ".join(shown[0].split())
+    print(name, file.stat().st_size, "bytes", printed, flush=True)
     package = scene.server.packages.split()[0]
     # The program, without the settings in front of it.
     program = re.sub(r"^(env )?(\S+=\S* )*", "", scene.client).split(" -")[0]
     return {
         "is": f"{scene.found_by} of {package}, {version}; `{program}`",
         "rule": scene.rule,
-        "peers": f"{package} {version_of(package)}, {scene.client_package} {client_version}: `{shown[0]}`",
+        "peers": f"{package} {version_of(package)}, {scene.client_package} {client_version}: `{printed}`",
         "lines": [line_of(file, scene, version, shown["cipher"])],
     }

@@ -23,7 +23,7 @@ class Server:
 
 POSTFIX = Server(
     "postfix",
-    ["postfix -c WORK/postfix start-fg"],
+    ["/usr/lib/postfix/sbin/master -c WORK/postfix -s"],
     [25],
     {
         "postfix/main.cf": """compatibility_level = 3.6
@@ -56,7 +56,11 @@ pickup unix n - n 60 1 pickup
 qmgr unix n - n 300 1 qmgr
 """,
     },
-    ["install -d -o postfix WORK/data", "install -d WORK/queue"],
+    [
+        "install -d -o postfix WORK/data",
+        "install -d WORK/queue",
+        "postfix -c WORK/postfix check",
+    ],
 )
 DOVECOT = Server(
     "dovecot-core dovecot-imapd dovecot-pop3d dovecot-lmtpd dovecot-managesieved",
@@ -182,8 +186,43 @@ database config
 )
 INN = Server(
     "inn2",
-    [],
+    ["env INNCONF=WORK/news/inn.conf /usr/lib/news/bin/nnrpd -D -f -b 127.0.0.1 -p 119"],
     [119],
+    {
+        "news/inn.conf": """domain: example.test
+pathhost: news.example.test
+mta: /bin/true
+hismethod: hisv6
+enableoverview: false
+pathnews: /usr/lib/news
+pathetc: WORK/news
+pathdb: WORK/news
+pathrun: WORK/news
+pathlog: WORK/news
+pathtmp: WORK/news
+pathspool: WORK/news
+tlscertfile: WORK/ec.pem
+tlskeyfile: WORK/news/ec.key
+""",
+        "news/active": "it.test 0000000000 0000000001 y\n",
+        "news/history": "",
+        "news/storage.conf": "method trash {\n  newsgroups: *\n  class: 0\n}\n",
+        "news/readers.conf": """auth it {
+  hosts: *
+  default: it
+}
+access it {
+  users: it
+  newsgroups: *
+  access: R
+}
+""",
+    },
+    [
+        "install -o news -g news -m 600 WORK/ec.key WORK/news/ec.key",
+        "chown -R news:news WORK/news",
+        "runuser -u news -- env INNCONF=WORK/news/inn.conf /usr/lib/news/bin/makedbz -i -o",
+    ],
 )
 POSTGRES = Server(
     "postgresql-15",
@@ -214,10 +253,11 @@ MARIADB = Server(
         " --auth-root-authentication-method=normal",
     ],
 )
+# With the X server that the client needs.
 XRDP = Server(
-    "xrdp",
-    ["xrdp --nodaemon --config WORK/xrdp.ini"],
-    [3389],
+    "xrdp xvfb",
+    ["Xvfb :9 -screen 0 640x480x16 -listen tcp", "xrdp --nodaemon --config WORK/xrdp.ini"],
+    [6009, 3389],
     {
         "xrdp.ini": """[Globals]
 ini_version=1
