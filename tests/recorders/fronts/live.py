@@ -223,8 +223,7 @@ def line_of(file: Path, scene: Scene, version: str, cipher: str) -> Line:
             raise ValueError(f"{field}: tshark {fields.get(field)!r}, the peer {value!r}")
     counted = preambles(file, scene.port)
     absent = [name for name, count in counted.items() if not count]
-    absent += ["server_name"] * (not scene.has_name)
-    absent += ["last_alert"] * ("last_alert" not in fields) + ["gap"]
+    absent += [name for name in ("server_name", "last_alert", "gap") if name not in fields]
     fields |= {name: count for name, count in counted.items() if count}
     fields |= {**expected.ends(file, scene.port), "found_by": scene.found_by}
     others = [name for name in (*fields, *absent) if name not in (*by_peer, "found_by")]

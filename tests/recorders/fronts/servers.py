@@ -193,7 +193,7 @@ INN = Server(
 pathhost: news.example.test
 mta: /bin/true
 hismethod: hisv6
-enableoverview: false
+ovmethod: tradindexed
 pathnews: /usr/lib/news
 pathetc: WORK/news
 pathdb: WORK/news
@@ -206,6 +206,7 @@ tlskeyfile: WORK/news/ec.key
 """,
         "news/active": "it.test 0000000000 0000000001 y\n",
         "news/history": "",
+        "news/overview/group.index": "",
         "news/storage.conf": "method trash {\n  newsgroups: *\n  class: 0\n}\n",
         "news/readers.conf": """auth it {
   hosts: *
