@@ -82,7 +82,7 @@ def stop(started: list[peers.Peer]) -> None:
 
 
 def preambles(file: Path, port: int, port_of_tls: int | None) -> dict[str, int]:
-    """Counts the bytes of each side in front of the first segment in which tshark finds a record."""
+    """Counts the bytes of each side in front of its first segment with a record of tshark's."""
     counted, found = {"orig": 0, "resp": 0}, set()
     for row in wanted.rows(file, port_of_tls, udp=False):
         side = "resp" if int(row["tcp.srcport"][0]) == port else "orig"
@@ -96,9 +96,9 @@ def preambles(file: Path, port: int, port_of_tls: int | None) -> dict[str, int]:
 
 
 def line_of(file: Path, scene: live_scenes.Scene, version: str, cipher: str) -> Line:
-    """Returns the expected line: tshark's fields, of which version and cipher must be the peer's."""
-    # With the port given as TLS's, tshark skips text in front. It takes PostgreSQL's single byte for
-    # the beginning of a record, and finds that TLS without.
+    """Returns the expected line: tshark's fields. Version and cipher must be the peer's, too."""
+    # tshark skips text in front of TLS if the port is TLS's. PostgreSQL's single byte it would take
+    # for the beginning of a record, but it follows that dialogue.
     port = None if scene.found_by == "postgresql" else scene.port
     [fields] = wanted.lines(file, port)
     by_peer = {"version": expected.NAMES[version], "established": True}

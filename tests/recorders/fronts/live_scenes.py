@@ -7,7 +7,7 @@ from dataclasses import dataclass
 from tests.recorders.fronts import proxies, servers
 
 NAME = "example.test"
-STARTTLS = "openssl s_client -ign_eof -connect 127.0.0.1:{port} -starttls {protocol} -servername " + NAME
+STARTTLS = "openssl s_client -ign_eof -connect 127.0.0.1:{port} -starttls {protocol}"
 CURL = "curl -skv -m 60 "
 WEB = f" --connect-to {NAME}:8443:127.0.0.1:8443 https://{NAME}:8443/"
 WEB_BY_NAME = f" --connect-to {NAME}:8443:localhost:8443 https://{NAME}:8443/"
@@ -34,6 +34,7 @@ def starttls(
 ) -> Scene:
     """Returns a scene of `openssl s_client`."""
     command = STARTTLS.format(port=port, protocol=protocol or found_by)
+    command += f" -servername {NAME}"
     if found_by == "xmpp":
         command += f" -xmpphost {NAME}"
     return Scene(server, found_by, port, rule, "openssl", command, words)

@@ -83,7 +83,8 @@ http_access allow it
 
 def microsocks(words: str) -> Server:
     """Returns microsocks with these options."""
-    return Server("microsocks openssl", [WEB, f"microsocks -i 127.0.0.1 -p 1080 {words}"], [8443, 1080])
+    command = f"microsocks -i 127.0.0.1 -p 1080 {words}"
+    return Server("microsocks openssl", [WEB, command], [8443, 1080])
 
 
 def haproxy(words: str) -> Server:

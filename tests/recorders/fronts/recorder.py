@@ -1,7 +1,8 @@
 """Captures of TLS after other bytes, from live peers, with their expected lines in wanted.json.
 
 It needs `openssl`, `gnutls-cli`, `gnutls-serv`, `curl`, `psql`, `tsql`, `chromium`, `tcpdump`,
-`tshark`, `unshare`, `stdbuf` and `ip`.
+`tshark`, `unshare`, `stdbuf` and `ip`. Those named `live_` need the packages of their servers and
+clients, which they name.
 """
 
 from __future__ import annotations

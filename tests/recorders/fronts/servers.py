@@ -225,17 +225,18 @@ access it {
         "runuser -u news -- env INNCONF=WORK/news/inn.conf /usr/lib/news/bin/makedbz -i -o",
     ],
 )
+AS_POSTGRES = "runuser -u postgres -- /usr/lib/postgresql/15/bin/"
 POSTGRES = Server(
     "postgresql-15",
     [
-        "runuser -u postgres -- /usr/lib/postgresql/15/bin/postgres -D WORK/pg -k '' -h 127.0.0.1"
+        f"{AS_POSTGRES}postgres -D WORK/pg -k '' -h 127.0.0.1"
         " -c ssl=on -c ssl_cert_file=WORK/pg/ec.pem -c ssl_key_file=WORK/pg/ec.key"
     ],
     [5432],
     {},
     [
         "install -d -o postgres WORK/pg",
-        "runuser -u postgres -- /usr/lib/postgresql/15/bin/initdb -D WORK/pg -A trust -U me --no-sync",
+        f"{AS_POSTGRES}initdb -D WORK/pg -A trust -U me --no-sync",
         "install -o postgres -m 600 WORK/ec.pem WORK/ec.key WORK/pg",
     ],
 )
