@@ -19,7 +19,9 @@ from tests.recorders.fronts import expected, live_scenes, servers
 from tests.support.shapes import Line
 
 # A client prints this when it is ready for the words of a scene.
-READY = ["Verify return code", "rror:", "Simple Client Mode"]
+READY = ["Verify return code", "rror:", "Mode change"]
+# What a client of terminals prints between words.
+COLORS = re.compile(r"\x1b(\[[0-9;?]*[a-zA-Z]|\([A-Z])")
 # What peers print: a version and a suite.
 SUITE = r"(?P<cipher>(?:TLS|ECDHE)[-_][-_A-Z0-9]+)"
 SHOWN = (
@@ -124,7 +126,7 @@ def notes_of(scene: live_scenes.Scene, printed: str) -> dict[str, str]:
     for name in names:
         versions.setdefault(version_of(name), name)
     # The program, without the settings in front of it and its words, but for the protocol.
-    words = re.sub(r"^(env )?(\S+=\S* )*", "", scene.client)
+    words = re.sub(r"^(env )?(\S+=\S* )*(script \S+ ')?", "", scene.client)
     program = re.split(r" [-'/]", words)[0]
     program += (re.findall(r" -starttls \S+", words) or [""])[0]
     return {
@@ -148,7 +150,7 @@ def record(work: Path, folder: Path, name: str) -> dict[str, object]:
             client.tell(scene.words)
             client.waits_for([], 10)
         client.end(SECONDS)
-    said = client.output() + "".join(one.output() for one in started)
+    said = COLORS.sub("", client.output()) + "".join(one.output() for one in started)
     stop(started)
     shown = next((found for one in SHOWN if (found := one.search(said))), None)
     if not shown:

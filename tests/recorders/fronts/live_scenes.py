@@ -80,6 +80,11 @@ def other_lines() -> dict[str, Scene]:
         "live_irc_inspircd": starttls(
             servers.INSPIRCD, "irc", 6667, "IRCv3, tls-3.1", b"QUIT\r\n"
         ),
+        "live_irc_inspircd_irssi": Scene(
+            servers.INSPIRCD, "irc", 6667, "IRCv3, tls-3.1", "irssi",
+            "script -qec 'irssi --home=WORK/irssi -n it' WORK/typescript", b"/quit\r",
+            has_name=False,
+        ),
         "live_ftp_proftpd": login(servers.PROFTPD, "ftp", 21, "RFC 4217, 4.1"),
         "live_xmpp_prosody": starttls(servers.PROSODY, "xmpp", 5222, "RFC 6120, 5.4", end),
         "live_xmpp_prosody_server": starttls(

@@ -122,6 +122,12 @@ INSPIRCD = Server(
 <sslprofile name="it" provider="gnutls" certfile="WORK/ec.pem" keyfile="WORK/ec.key">
 <starttls provider="it">
 """,
+        # Of the client.
+        "irssi/config": """servers = ({
+  address = "127.0.0.1"; port = "6667"; autoconnect = "yes";
+  use_tls = "no"; starttls = "yes"; tls_verify = "no";
+});
+""",
     },
 )
 PROFTPD = Server(
