@@ -11,6 +11,8 @@ from pathlib import Path
 from tests.support import script
 
 HOST = "127.0.0.1"
+# KiB for packets that a busy tcpdump hasn't yet read; on `lo` each takes 64.
+BUFFER = "32768"
 
 
 def enter_own_network() -> None:
@@ -42,6 +44,8 @@ class Dump:
             "lo",
             "--immediate-mode",
             "-U",
+            "-B",
+            BUFFER,
             "-w",
             str(self.file),
             self.words,

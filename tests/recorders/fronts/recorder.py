@@ -1,7 +1,8 @@
 """Captures of TLS after other bytes, from live peers, with their expected lines in wanted.json.
 
 It needs `openssl`, `gnutls-cli`, `gnutls-serv`, `curl`, `psql`, `tsql`, `chromium`, `tcpdump`,
-`tshark`, `unshare`, `stdbuf` and `ip`.
+`tshark`, `unshare`, `stdbuf` and `ip`. Those named `live_` need the packages of their servers and
+clients, which they name.
 """
 
 from __future__ import annotations
@@ -19,6 +20,7 @@ from tests.recorders.fronts import (
     drafts,
     expected,
     gaps,
+    live,
     misleading,
     offers,
     old_hello,
@@ -203,7 +205,7 @@ def found_by(name: str) -> str:
 def names() -> list[str]:
     of_browser = [browser.NAME, browser.SHORT, *browser.KEPT]
     of_others = [*old_hello.NAMES, *shifted.NAMES, *drafts.NAMES, *offers.NAMES, *misleading.NAMES]
-    return [*captures(), *of_others, *searched.NAMES, *gaps.NAMES, *of_browser]
+    return [*captures(), *of_others, *searched.NAMES, *gaps.NAMES, *live.NAMES, *of_browser]
 
 
 def record(folder: Path, chosen: list[str]) -> bool:
@@ -215,6 +217,9 @@ def record(folder: Path, chosen: list[str]) -> bool:
         (work / "hello.record").write_bytes(shifted.stored_hello())
         (work / "freetds.conf").write_text(FREETDS)
         for name in chosen or names():
+            if name in live.NAMES:
+                wanted_entries.keep(folder, f"{name}.pcap", live.record(work, folder, name))
+                continue
             if name in known:
                 lines = record_behind(work, folder, name, *known[name])
             elif name in old_hello.NAMES:
