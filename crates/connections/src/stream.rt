@@ -351,6 +351,13 @@ impl Stream {
         true
     }
 
+    /// Returns the number behind the last byte that came.
+    pub fn last(&self) -> u32
+        ensures { result ≡ self.now.last }
+    {
+        self.last
+    }
+
     /// Returns how many bytes its sender sent, by the sequence numbers of its segments. Missing
     /// bytes count, and retransmitted ones count once. Segments 2^31 or more bytes ahead of the
     /// others don't count.
