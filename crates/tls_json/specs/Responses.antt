@@ -7,15 +7,16 @@ use Rattle.layouts.specs.Meaning.{Answer, Refusal, Broken, Lacks}
 use Rattle.layouts.specs.Reading.{reading}
 use Rattle.layouts.specs.declared.result.ErrorKind.{ErrorKind}
 use Rattle.layouts.specs.declared.result.ErrorKind.TheVariants as kind
-use Rattle.ocsp.specs.Response.{BasicOcspResponse, OcspResponse, ResponseBytes, basic_ocsp_response, ocsp_response}
+use Rattle.ocsp.specs.Response.{BasicOcspResponse, OcspResponse, ResponseBytes, ResponseData, basic_ocsp_response, ocsp_response}
 use Rattle.ocsp.specs.Single.{SingleResponse}
+use Rattle.ocsp.specs.declared.single.RevokedInfo.{RevokedInfo}
 use Rattle.ocsp.specs.declared.single.CertStatus.{CertStatus}
 use Rattle.ocsp.specs.declared.single.CertStatus.TheVariants as status
 use Rattle.serde_json.specs.Data.{Data}
 use Rattle.x509_text.specs.Number.{serial_number_text}
 use Rattle.x509_text.specs.ObjectText.{object_text}
 use Rattle.tls_json.specs.Outline.{Entries, object_of}
-use Rattle.tls_json.specs.Whole.{text, whole, some_whole, some_code, list_of, name_or_code}
+use Rattle.tls_json.specs.Whole.{text, whole, some_whole, list_of, name_or_code}
 
 -- id-pkix-ocsp-basic, 1.3.6.1.5.5.7.48.1.1
 abbrev pub BASIC : Bytes
@@ -53,11 +54,20 @@ cert_status_text status.Good = codes "good"
 cert_status_text (status.Revoked info) = codes "revoked"
 cert_status_text status.Unknown = codes "unknown"
 
+abbrev pub reason_data : ℕ → Data
+reason_data n = name_or_code (reason_name n) n
+
+abbrev pub reason_entries : Option ℕ → Entries
+reason_entries None = []
+reason_entries (Some n) = (codes "revocationReason", reason_data n) ∷ []
+
+abbrev pub revoked_entries : RevokedInfo → Entries
+revoked_entries info =
+    whole (codes "revocationTime") info.revocation_time ∷ reason_entries info.revocation_reason
+
 abbrev pub revocation_entries : CertStatus → Entries
 revocation_entries status.Good = []
-revocation_entries (status.Revoked info) =
-    whole (codes "revocationTime") info.revocation_time
-    ∷ some_code (codes "revocationReason") reason_name info.revocation_reason
+revocation_entries (status.Revoked info) = revoked_entries info
 revocation_entries status.Unknown = []
 
 -- SingleResponse. Its times are in seconds since 1970-01-01 00:00 UTC.
@@ -69,12 +79,18 @@ single_data r = object_of (
     ++ whole (codes "thisUpdate") r.this_update ∷ []
     ++ some_whole (codes "nextUpdate") r.next_update)
 
+-- ResponseData
+abbrev pub data_entries : ResponseData → Entries
+data_entries d =
+    whole (codes "producedAt") d.produced_at
+    ∷ list_of (codes "responses") (map single_data d.responses)
+    ∷ []
+
 -- BasicOCSPResponse
 abbrev pub basic_entries : BasicOcspResponse → Entries
 basic_entries b =
-    whole (codes "producedAt") b.tbs_response_data.produced_at
-    ∷ list_of (codes "responses") (map single_data b.tbs_response_data.responses)
-    ∷ text (codes "signatureAlgorithm") (object_text b.signature_algorithm.algorithm)
+    data_entries b.tbs_response_data
+    ++ text (codes "signatureAlgorithm") (object_text b.signature_algorithm.algorithm)
     ∷ []
 
 -- Why bytes can't be read.
@@ -109,24 +125,26 @@ basic_or_error (Ok b) = basic_entries b
 basic_or_error (Err name) = text (codes "error") name ∷ []
 
 -- ResponseBytes; only a BasicOCSPResponse has fields.
+abbrev pub answered_entries : ResponseBytes → Entries
+answered_entries a =
+    if bytes_eq a.response_type BASIC
+    then basic_or_error (read_whole (reading basic_ocsp_response a.response)) else []
+
 abbrev pub answer_entries : ResponseBytes → Entries
 answer_entries a =
-    text (codes "responseType") (object_text a.response_type)
-    ∷ if bytes_eq a.response_type BASIC then
-    basic_or_error (read_whole (reading basic_ocsp_response a.response)) else []
+    text (codes "responseType") (object_text a.response_type) ∷ answered_entries a
 
 abbrev pub some_answer : Option ResponseBytes → Entries
 some_answer None = []
 some_answer (Some a) = answer_entries a
 
 -- OCSPResponse
+abbrev pub status_data : ℕ → Data
+status_data n = name_or_code (response_status_name n) n
+
 abbrev pub response_entries : OcspResponse → Entries
-response_entries r = (
-  codes "responseStatus",
-  name_or_code (response_status_name r.response_status)
-      r.response_status,
-)
-    ∷ some_answer r.response_bytes
+response_entries r =
+    (codes "responseStatus", status_data r.response_status) ∷ some_answer r.response_bytes
 
 abbrev pub response_or_error : Result OcspResponse (List ℕ) → Entries
 response_or_error (Ok r) = response_entries r

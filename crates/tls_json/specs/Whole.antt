@@ -1,5 +1,5 @@
 -- Values with what is in their lists, which an outline leaves out.
-use Rattle.std.specs.Prelude.{◌≡◌, ℕ, ℤ, List, [], ◌∷◌, map, Option, Some, None, IfOk, Vec, ⊤, ⊥}
+use Rattle.std.specs.Prelude.{◌≡◌, ℕ, ℤ, List, [], ◌∷◌, map, Option, Some, None, IfOk, Vec, ⊤}
 use Rattle.std.specs.Borrow.{Bor}
 use Rattle.std.specs.declared.alloc.Global.{Global}
 use Rattle.hex.specs.Hex.{encode_lower}
@@ -42,11 +42,6 @@ some_whole name (Some z) = whole name z ∷ []
 abbrev pub name_or_code : Option (List ℕ) → ℕ → Data
 name_or_code (Some name) n = string name
 name_or_code None n = number (unsigned n)
-
--- A code that may be missing.
-abbrev pub some_code : List ℕ → (ℕ → Option (List ℕ)) → Option ℕ → Entries
-some_code name name_of None = []
-some_code name name_of (Some n) = (name, name_or_code (name_of n) n) ∷ []
 
 -- Byte strings, each in hexadecimal.
 abbrev pub blobs_of : List (List ℕ) → List Data

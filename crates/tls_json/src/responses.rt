@@ -5,23 +5,28 @@ ghost use Rattle.layouts.specs.Answers.{refusal_of};
 ghost use Rattle.layouts.specs.Items.{items_in};
 ghost use Rattle.layouts.specs.Reading.{reading};
 ghost use Rattle.serde_json.specs.Data.{array};
-ghost use Rattle.ocsp.specs.Response.{basic_ocsp_response, ocsp_response, view_basic, view_response, view_response_bytes};
+ghost use Rattle.ocsp.specs.Response.{basic_ocsp_response, ocsp_response, view_basic, view_data, view_response, view_response_bytes};
 ghost use Rattle.ocsp.specs.Single.{single_response, view_single};
 ghost use Rattle.tls_json.specs.Views.{items_of};
-ghost use Rattle.tls_json.specs.Outline.{Entries};
-ghost use Rattle.tls_json.specs.Whole.{Is, HasMembers, name_or_code, some_code};
-ghost use Rattle.tls_json.specs.Responses.{answer_entries, basic_entries, basic_or_error, cert_status_text};
-ghost use Rattle.tls_json.specs.Responses.{kind_name as kind_name_of, read_whole, reason_name as reason_name_of};
-ghost use Rattle.tls_json.specs.Responses.{refusal_name as refusal_name_of, response_data, response_or_error};
-ghost use Rattle.tls_json.specs.Responses.{response_entries, response_status_name, revocation_entries};
-ghost use Rattle.tls_json.specs.Responses.{single_data, some_answer, viewed};
+ghost use Rattle.tls_json.specs.Outline.{Entries, object_of};
+ghost use Rattle.tls_json.specs.Whole.{Is, HasMembers, name_or_code};
+ghost use Rattle.tls_json.specs.Responses.{answer_entries, answered_entries, basic_entries, data_entries};
+ghost use Rattle.tls_json.specs.Responses.{basic_or_error, cert_status_text};
+ghost use Rattle.tls_json.specs.Responses.{kind_name as kind_name_of, read_whole};
+ghost use Rattle.tls_json.specs.Responses.{reason_data, reason_entries};
+ghost use Rattle.tls_json.specs.Responses.{reason_name as reason_name_of};
+ghost use Rattle.tls_json.specs.Responses.{refusal_name as refusal_name_of, response_data};
+ghost use Rattle.tls_json.specs.Responses.{response_entries, response_status_name};
+ghost use Rattle.tls_json.specs.Responses.{revocation_entries, revoked_entries, single_data};
+ghost use Rattle.tls_json.specs.Responses.{some_answer, status_data, viewed};
 
 use crate::json::Value;
 use crate::object::ObjectBuilder;
 use layouts::{Err, Error, ErrorKind, Items, Needed};
 use ocsp::{
-    BasicOcspResponse, CertStatus, OcspResponse, OcspResponseStatus, ResponseBytes, SingleResponse,
-    SingleResponses, oid, parse_basic_ocsp_response, parse_ocsp_response,
+    BasicOcspResponse, CertStatus, OcspResponse, OcspResponseStatus, ResponseBytes, ResponseData,
+    RevokedInfo, SingleResponse, SingleResponses, oid, parse_basic_ocsp_response,
+    parse_ocsp_response,
 };
 use std::alloc::{AllocError, Global};
 use x509_text::{object_text, serial_number_text};
@@ -81,15 +86,36 @@ fn code(name: Option<&'static str>, number: u8) -> Value
     }
 }
 
+fn status_value(status: OcspResponseStatus) -> Value
+    ensures { Is (status_data status.0) result }
+{
+    code(status_name(status), status.0)
+}
+
+fn reason_value(reason: u8) -> Value
+    ensures { Is (reason_data reason) result }
+{
+    code(reason_name(reason), reason)
+}
+
 /// Adds why a certificate was revoked, if the response has it.
 fn with_reason(object: ObjectBuilder, reason: Option<u8>) -> ObjectBuilder
-    ensures { (es : Entries) → HasMembers es object → HasMembers
-        (es ++ some_code (codes "revocationReason") reason_name_of reason) result }
+    ensures { (es : Entries) → HasMembers es object
+        → HasMembers (es ++ reason_entries reason) result }
 {
     match reason {
-        Some(reason) => object.add("revocationReason", Ok(code(reason_name(reason), reason))),
+        Some(reason) => object.add("revocationReason", Ok(reason_value(reason))),
         None => object,
     }
+}
+
+/// Adds when and why a certificate was revoked.
+fn with_revoked(object: ObjectBuilder, info: RevokedInfo) -> ObjectBuilder
+    ensures { (es : Entries) → HasMembers es object
+        → HasMembers (es ++ revoked_entries info) result }
+{
+    let dated = object.whole("revocationTime", info.revocation_time);
+    with_reason(dated, info.revocation_reason)
 }
 
 /// Adds when and why a certificate was revoked, if it was.
@@ -98,10 +124,7 @@ fn with_revocation(object: ObjectBuilder, status: CertStatus) -> ObjectBuilder
         → HasMembers (es ++ revocation_entries status) result }
 {
     match status {
-        CertStatus::Revoked(info) => {
-            let dated = object.whole("revocationTime", info.revocation_time);
-            with_reason(dated, info.revocation_reason)
-        }
+        CertStatus::Revoked(info) => with_revoked(object, info),
         CertStatus::Good | CertStatus::Unknown => object,
     }
 }
@@ -132,19 +155,25 @@ fn singles<'a>(alloc: Global, list: Items<'a, SingleResponses>) -> Result<Value,
     Ok(Value::List(all))
 }
 
+/// Adds the fields of a ResponseData.
+fn with_data(alloc: Global, object: ObjectBuilder, signed: &ResponseData<'_>) -> ObjectBuilder
+    ensures { (es : Entries) → HasMembers es object
+        → HasMembers (es ++ data_entries (view_data signed.now)) result }
+{
+    object
+        .whole("producedAt", signed.produced_at)
+        .add("responses", singles(alloc, signed.responses))
+}
+
 /// Adds the fields of a BasicOCSPResponse.
 fn with_basic(alloc: Global, object: ObjectBuilder, basic: &BasicOcspResponse<'_>) -> ObjectBuilder
     ensures { (es : Entries) → HasMembers es object
         → HasMembers (es ++ basic_entries (view_basic basic.now)) result }
 {
-    let answered = basic.tbs_response_data;
-    object
-        .whole("producedAt", answered.produced_at)
-        .add("responses", singles(alloc, answered.responses))
-        .text(
-            "signatureAlgorithm",
-            object_text(alloc, basic.signature_algorithm.algorithm),
-        )
+    with_data(alloc, object, &basic.tbs_response_data).text(
+        "signatureAlgorithm",
+        object_text(alloc, basic.signature_algorithm.algorithm),
+    )
 }
 
 fn kind_name(kind: ErrorKind) -> &'static str
@@ -204,39 +233,57 @@ fn with_basic_in(alloc: Global, object: ObjectBuilder, bytes: &[u8]) -> ObjectBu
     }
 }
 
+/// Adds the fields of a BasicOCSPResponse, if the answer has this type.
+fn with_answered(alloc: Global, object: ObjectBuilder, answer: &ResponseBytes<'_>) -> ObjectBuilder
+    ensures { (es : Entries) → HasMembers es object
+        → HasMembers (es ++ answered_entries (view_response_bytes answer.now)) result }
+{
+    if answer.response_type.content == oid::BASIC.content {
+        with_basic_in(alloc, object, answer.response)
+    } else {
+        object
+    }
+}
+
 /// Adds the fields of a ResponseBytes: its type, and what a BasicOCSPResponse has.
 fn with_answer(alloc: Global, object: ObjectBuilder, answer: &ResponseBytes<'_>) -> ObjectBuilder
     ensures { (es : Entries) → HasMembers es object
         → HasMembers (es ++ answer_entries (view_response_bytes answer.now)) result }
 {
     let typed = object.text("responseType", object_text(alloc, answer.response_type));
-    if answer.response_type.content == oid::BASIC.content {
-        with_basic_in(alloc, typed, answer.response)
-    } else {
-        typed
+    with_answered(alloc, typed, answer)
+}
+
+/// Adds the fields of a ResponseBytes, if there is one.
+fn with_some_answer(
+    alloc: Global,
+    object: ObjectBuilder,
+    answer: &Option<ResponseBytes<'_>>,
+) -> ObjectBuilder
+    ensures { (es : Entries) → HasMembers es object → HasMembers
+        (es ++ some_answer (option_map view_response_bytes answer.now)) result }
+{
+    match answer {
+        Some(answer) => with_answer(alloc, object, answer),
+        None => object,
     }
 }
 
-/// Adds the fields of an OCSPResponse.
-fn with_response(alloc: Global, object: ObjectBuilder, response: &OcspResponse<'_>) -> ObjectBuilder
-    ensures { (es : Entries) → HasMembers es object
-        → HasMembers (es ++ response_entries (view_response response.now)) result }
+/// Writes the fields of an OCSPResponse.
+fn fields(alloc: Global, response: &OcspResponse<'_>) -> Result<Value, AllocError>
+    ensures { IfOk result (Is (object_of (response_entries (view_response response.now)))) }
 {
-    let status = response.response_status;
-    let front = object.add("responseStatus", Ok(code(status_name(status), status.0)));
-    match &response.response_bytes {
-        Some(answer) => with_answer(alloc, front, answer),
-        None => front,
-    }
+    let status = status_value(response.response_status);
+    let front = ObjectBuilder::new(alloc).add("responseStatus", Ok(status));
+    with_some_answer(alloc, front, &response.response_bytes).finish()
 }
 
 /// Writes an OCSPResponse by its fields, or the name of the error if it can't be parsed to its end.
 pub fn ocsp_response(alloc: Global, bytes: &[u8]) -> Result<Value, AllocError>
     ensures { IfOk result (Is (response_data bytes.now)) }
 {
-    let object = ObjectBuilder::new(alloc);
     match response_in(bytes) {
-        Ok(response) => with_response(alloc, object, &response).finish(),
-        Err(name) => object.name("error", name).finish(),
+        Ok(response) => fields(alloc, &response),
+        Err(name) => ObjectBuilder::new(alloc).name("error", name).finish(),
     }
 }

@@ -47,9 +47,10 @@ fn with_algorithm(
 fn timestamp(alloc: Global, signed: &SignedCertificateTimestamp<'_>) -> Result<Value, AllocError>
     ensures { IfOk result (Is (timestamp_data (view_timestamp signed.now))) }
 {
+    let key_id = signed.id.key_id;
     let front = ObjectBuilder::new(alloc)
         .decimal("sct_version", u64::from(signed.version.0))
-        .bytes("id", signed.id.key_id)
+        .bytes("id", key_id)
         .decimal("timestamp", signed.timestamp)
         .some_bytes("extensions", signed.extensions.0);
     with_algorithm(alloc, front, &signed.signature.alg)
@@ -58,13 +59,11 @@ fn timestamp(alloc: Global, signed: &SignedCertificateTimestamp<'_>) -> Result<V
 }
 
 /// Lists timestamps in order, up to the first that can't be read.
-fn timestamps<'a>(
-    alloc: Global,
-    list: Items<'a, SignedCertificateTimestamp<'a>>,
-) -> Result<Value, AllocError>
+fn timestamps<'a>(alloc: Global, bytes: &'a [u8]) -> Result<Value, AllocError>
     ensures { IfOk result (Is (array (items_of (map timestamp_data
-        (items_in serialized_timestamp list.entry.bytes.now))))) }
+        (items_in serialized_timestamp bytes.now))))) }
 {
+    let list: Items<SignedCertificateTimestamp> = Items::new(bytes);
     let mut all = Vec::new(alloc);
     for signed in list {
         all.push(timestamp(alloc, &signed)?)?;
@@ -72,11 +71,19 @@ fn timestamps<'a>(
     Ok(Value::List(all))
 }
 
-/// Lists byte strings in order, each in hexadecimal.
-fn all_blobs<'a>(alloc: Global, list: Items<'a, Counted2>) -> Result<Value, AllocError>
-    ensures { IfOk result (Is (array (items_of (blobs_of
-        (items_in (counted 2) list.entry.bytes.now))))) }
+/// Returns the bytes from the first timestamp that can't be read.
+fn rest<'a>(bytes: &'a [u8]) -> &'a [u8]
+    ensures { result.now ≡ left_in serialized_timestamp bytes.now }
 {
+    let list: Items<SignedCertificateTimestamp> = Items::new(bytes);
+    list.rest()
+}
+
+/// Lists byte strings in order, each in hexadecimal.
+fn all_blobs<'a>(alloc: Global, bytes: &'a [u8]) -> Result<Value, AllocError>
+    ensures { IfOk result (Is (array (items_of (blobs_of (items_in (counted 2) bytes.now))))) }
+{
+    let list: Items<Counted2> = Items::new(bytes);
     let mut all = Vec::new(alloc);
     for one in list {
         all.push(blob(alloc, one)?)?;
@@ -89,9 +96,8 @@ fn with_timestamps(alloc: Global, object: ObjectBuilder, bytes: &[u8]) -> Object
     ensures { (es : Entries) → HasMembers es object → HasMembers (es ++ parsed_entries
         (left_in serialized_timestamp bytes.now) (items_in serialized_timestamp bytes.now)) result }
 {
-    let list: Items<SignedCertificateTimestamp> = Items::new(bytes);
-    match list.rest() {
-        [] => object.add("scts", timestamps(alloc, list)),
+    match rest(bytes) {
+        [] => object.add("scts", timestamps(alloc, bytes)),
         _ => object,
     }
 }
@@ -100,7 +106,7 @@ fn with_timestamps(alloc: Global, object: ObjectBuilder, bytes: &[u8]) -> Object
 fn list(alloc: Global, bytes: &[u8]) -> Result<Value, AllocError>
     ensures { IfOk result (Is (list_data bytes.now)) }
 {
-    let raw = ObjectBuilder::new(alloc).add("sct_list", all_blobs(alloc, Items::new(bytes)));
+    let raw = ObjectBuilder::new(alloc).add("sct_list", all_blobs(alloc, bytes));
     with_timestamps(alloc, raw, bytes).finish()
 }
 

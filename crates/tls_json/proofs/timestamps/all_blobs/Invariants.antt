@@ -10,4 +10,4 @@ invariant-loop-one l =
     (goal.iterator-loop-one).can_next l.one-iterator ×
     (goal.iterator-loop-one).is_finite l.one-iterator ×
     (map view l.all.items ++ blobs_of (items_in (counted 2) l.one-iterator.bytes.now)
-    ≡ blobs_of (items_in (counted 2) l.fn.list.bytes.now))
+    ≡ blobs_of (items_in (counted 2) l.fn.bytes))

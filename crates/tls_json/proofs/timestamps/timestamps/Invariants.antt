@@ -11,4 +11,4 @@ invariant-loop-signed l =
     (goal.iterator-loop-signed).is_finite l.signed-iterator ×
     (map view l.all.items
     ++ map timestamp_data (items_in serialized_timestamp l.signed-iterator.bytes.now)
-    ≡ map timestamp_data (items_in serialized_timestamp l.fn.list.bytes.now))
+    ≡ map timestamp_data (items_in serialized_timestamp l.fn.bytes))
