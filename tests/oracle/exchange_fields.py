@@ -30,6 +30,8 @@ BYTES = {
     "identity",
 }
 TEXTS = {"psk_identity_hint", "psk_identity"}
+# Certificates, OCSP responses and timestamps.
+ELSEWHERE = {"certificates", "ocsp_response", "scts"}
 ESCAPES = {"t": b"\t", "r": b"\r", "n": b"\n"}
 
 
@@ -47,11 +49,11 @@ def unescaped(text: str) -> bytes:
 
 
 def leaves(value: Any, name: str | None = None) -> Iterator[str]:
-    """Returns the fields that have values, in their order, without those of certificates, which
+    """Returns the fields that have values, in their order, without those that
     tests/tlslog/certificates compares."""
     if isinstance(value, dict):
         for field, inner in value.items():
-            if field != "certificates":
+            if field not in ELSEWHERE:
                 yield from leaves(inner, field)
     elif isinstance(value, list):
         for inner in value:

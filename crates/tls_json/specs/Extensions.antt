@@ -40,10 +40,6 @@ heartbeat = codes "mode" ∷ []
 abbrev pub protocol_names : List (List ℕ)
 protocol_names = codes "protocol_name_list" ∷ []
 
--- RFC 6962, section 3.3
-abbrev pub timestamps : List (List ℕ)
-timestamps = codes "sct_list" ∷ []
-
 -- RFC 8879, section 3
 abbrev pub compress_certificate : List (List ℕ)
 compress_certificate = codes "algorithms" ∷ []

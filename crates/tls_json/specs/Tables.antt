@@ -1,5 +1,5 @@
 -- The fields of messages in order, by the names of the RFCs.
-use Rattle.std.specs.Prelude.{◌++◌, ℕ, Bool, true, false, List, [], ◌∷◌, codes, Option, Some, None}
+use Rattle.std.specs.Prelude.{◌++◌, ◌==◌, if◌then◌else◌, ℕ, Bool, true, false, List, [], ◌∷◌, codes, Option, Some, None}
 use Rattle.std.specs.Borrow.{Bor}
 use Rattle.serde_json.specs.Data.{Data}
 use Rattle.layouts.specs.Items.{left_in}
@@ -36,6 +36,7 @@ use Rattle.tls_json.specs.Outline.{
   bytes_if,
   some_name,
 }
+use Rattle.tls_json.specs.Responses.{response_data}
 
 -- A handshake message (RFC 5246, section 7.4; of DTLS RFC 6347, section 4.2.2) whose body has n
 -- bytes.
@@ -129,12 +130,17 @@ abbrev pub ticket_fields : ℕ → List ℕ → Data
 ticket_fields hint ticket =
     object_of (decimal (codes "ticket_lifetime_hint") hint ∷ bytes (codes "ticket") ticket ∷ [])
 
--- A CertificateStatus (RFC 6066, section 8).
+-- A CertificateStatus (RFC 6066, section 8): the response's bytes, and its fields if it is an
+-- OCSPResponse, which has type 1.
+abbrev pub ocsp_entries : ℕ → List ℕ → Entries
+ocsp_entries status_type response =
+    if status_type == 1 then (codes "ocsp_response", response_data response) ∷ [] else []
+
 abbrev pub status_fields : TlsCertificateStatusContents → Data
 status_fields status = object_of (
     decimal (codes "status_type") status.status_type
     ∷ bytes (codes "response") status.blob.now
-    ∷ [])
+    ∷ ocsp_entries status.status_type status.blob.now)
 
 -- A NextProtocol (draft-agl-tls-nextprotoneg-04, section 3).
 abbrev pub next_protocol_names : List (List ℕ)

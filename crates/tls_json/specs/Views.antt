@@ -1,7 +1,7 @@
 -- The data that a value stands for.
 use Rattle.std.specs.Prelude.{List, [], ◌∷◌, map, string_bytes, ℕ}
 use Rattle.std.specs.Borrow.{Bor}
-use Rattle.serde_json.specs.Data.{Data, boolean, number, unsigned, string, array, object, Items, no_items, item, Members, no_members, member}
+use Rattle.serde_json.specs.Data.{Data, boolean, number, unsigned, negative, string, array, object, Items, no_items, item, Members, no_members, member}
 use Rattle.tls_json.specs.declared.json.Value.{Value, fold-Value}
 use Rattle.tls_json.specs.declared.json.Value.TheOpen.{Value-F}
 
@@ -16,6 +16,7 @@ members_of (m ∷ ms) = member m.0.now m.1 (members_of ms)
 -- one level, in which each inner value is data already
 abbrev pub view_step : Value-F Data → Data
 view_step (Value-F.Number n) = number (unsigned n)
+view_step (Value-F.Whole z) = number (negative z)
 view_step (Value-F.Boolean b) = boolean b
 view_step (Value-F.Name s) = string s.now
 view_step (Value-F.Text s) = string (string_bytes s)

@@ -4,7 +4,8 @@ ghost use Rattle.serde_json.specs.Data.{array, no_items};
 ghost use Rattle.layouts.specs.Items.{left_in};
 ghost use Rattle.layouts.specs.Layout.{counted};
 ghost use Rattle.tls_json.specs.Outline.{Shows, Entries, list, HasNames, HasFields};
-ghost use Rattle.tls_json.specs.Tables.{chain_fields, list_if, request_fields, ticket_fields, status_fields, next_protocol_names, verify_request_fields, finished_fields, key_update_fields};
+ghost use Rattle.tls_json.specs.Whole.{Is, HasMembers};
+ghost use Rattle.tls_json.specs.Tables.{chain_fields, list_if, request_fields, ticket_fields, ocsp_entries, status_fields, next_protocol_names, verify_request_fields, finished_fields, key_update_fields};
 
 use crate::certificate::certificate;
 use crate::datagrams::whole_message;
@@ -12,6 +13,8 @@ use crate::hello::{client_hello, hello_retry_request, server_hello, server_hello
 use crate::json::{ParsedValue, Value};
 use crate::key_exchange::{client_key_exchange, server_key_exchange, signature};
 use crate::negotiated::NegotiatedParameters;
+use crate::object::ObjectBuilder;
+use crate::responses::ocsp_response;
 use crate::suite::SuiteText;
 use crate::table::{Table, Values, single};
 use crate::text::{blob, blobs, codes, escaped, numbers};
@@ -24,6 +27,9 @@ use tls_hs::{
     TlsCertificateStatusContents, TlsMessageHandshake, TlsNextProtocolContent,
 };
 use tls_records::{DTLSBodyView, DTLSClientHelloView, DTLSMessageHandshakeBody};
+
+/// The type of a status that is an OCSPResponse (RFC 6066, section 8).
+const OCSP: u8 = 1;
 
 /// A body, and the bytes after its last field.
 #[derive(Drop)]
@@ -129,14 +135,31 @@ fn ticket(alloc: Global, lifetime_hint: u32, ticket: &[u8]) -> Result<Value, All
         .finish()
 }
 
+/// Adds the fields of a response, if it is an OCSPResponse.
+fn with_ocsp(
+    alloc: Global,
+    object: ObjectBuilder,
+    status_type: u8,
+    response: &[u8],
+) -> ObjectBuilder
+    ensures { (es : Entries) → HasMembers es object
+        → HasMembers (es ++ ocsp_entries status_type response.now) result }
+{
+    if status_type == OCSP {
+        object.add("ocsp_response", ocsp_response(alloc, response))
+    } else {
+        object
+    }
+}
+
 /// Writes a CertificateStatus (RFC 6066, section 8).
 fn status(alloc: Global, status: &TlsCertificateStatusContents<'_>) -> Result<Value, AllocError>
-    ensures { IfOk result (Shows (status_fields status.now)) }
+    ensures { IfOk result (Is (status_fields status.now)) }
 {
-    Table::new(alloc)
+    let raw = ObjectBuilder::new(alloc)
         .decimal("status_type", u64::from(status.status_type))
-        .bytes("response", status.blob)
-        .finish()
+        .bytes("response", status.blob);
+    with_ocsp(alloc, raw, status.status_type, status.blob).finish()
 }
 
 /// Writes a NextProtocol (draft-agl-tls-nextprotoneg-04, section 3).

@@ -8,6 +8,7 @@ use crate::json::{ParsedValue, Value};
 use crate::offers;
 use crate::table::{Table, Values, single};
 use crate::text::{blob, blobs, code_text, codes, escaped, numbers};
+use crate::timestamps::timestamp_list;
 use layouts::{Counted1, Counted2, IResult, InPlace, Items, counted1, counted2};
 use std::alloc::{AllocError, Global};
 use tls_base::{NamedGroup, TlsExtensionType, TlsVersion};
@@ -132,14 +133,6 @@ fn protocol_name_list(alloc: Global, content: &[u8]) -> ParsedValue
         names = names.add(escaped(alloc, protocol));
     }
     Some(single(alloc, "protocol_name_list", names.finish()))
-}
-
-/// Parses signed_certificate_timestamp (RFC 6962, section 3.3).
-fn timestamps(alloc: Global, content: &[u8]) -> ParsedValue
-    ensures { IfSome result (ReadsAs names_of.timestamps) }
-{
-    let list = whole_list::<Counted2>(counted2(content))?;
-    Some(single(alloc, "sct_list", blobs(alloc, list)))
 }
 
 /// Parses certificate_authorities (RFC 8446, section 4.2.4).
@@ -355,7 +348,7 @@ fn read(alloc: Global, sender: Sender, kind: TlsExtensionType, content: &[u8]) -
         TlsExtensionType::ApplicationLayerProtocolNegotiation => {
             protocol_name_list(alloc, content)
         }
-        TlsExtensionType::SignedCertificateTimestamp => timestamps(alloc, content),
+        TlsExtensionType::SignedCertificateTimestamp => timestamp_list(alloc, content),
         TlsExtensionType::Cookie => cookie(alloc, content),
         TlsExtensionType::PskExchangeModes => key_exchange_modes(alloc, content),
         TlsExtensionType::CertificateAuthorities => authorities(alloc, content),

@@ -18,6 +18,8 @@ pub type ParsedValue = Option<Result<Value, AllocError>>;
 pub enum Value {
     /// A number, in decimal.
     Number(u64),
+    /// A number that may be negative, in decimal.
+    Whole(i64),
     /// True or false.
     Boolean(bool),
     /// A fixed name.
@@ -46,6 +48,7 @@ fn print<S: Serializer>(value: &Value, out: &mut S) -> Result<(), S::Error>
 {
     match value {
         Value::Number(number) => out.u64(*number),
+        Value::Whole(number) => out.i64(*number),
         Value::Boolean(boolean) => out.bool(*boolean),
         Value::Name(name) => out.str(name),
         Value::Text(text) => out.str(text.as_str()),

@@ -17,6 +17,9 @@
 //! The fields of key exchanges and signatures depend on the version and the cipher suite of the
 //! ServerHello: [`NegotiatedParameters`].
 //!
+//! OCSP responses and certificate timestamps are bytes, with their fields beside them. Clauses on
+//! these are about lists too (`specs/Whole.antt`).
+//!
 //! Nothing is left out. A body or an extension that can't be parsed is its bytes in hexadecimal.
 //! Bytes after the last field of a body are in `rest` beside the body. Bytes that the last list of
 //! a body leaves are in `rest` inside it.
@@ -35,10 +38,13 @@ mod json;
 mod key_exchange;
 mod message;
 mod negotiated;
+mod object;
 mod offers;
+mod responses;
 mod suite;
 mod table;
 mod text;
+mod timestamps;
 
 pub use alert::AlertJson;
 pub use change::ChangeCipherSpecJson;

@@ -3,6 +3,7 @@ ghost use Rattle.std.specs.Prelude.{IfOk};
 ghost use Rattle.hex.specs.Hex.{encode_lower};
 ghost use Rattle.serde_json.specs.Data.{string, array, no_items};
 ghost use Rattle.tls_json.specs.Outline.{Shows, number_text, bytes};
+ghost use Rattle.tls_json.specs.Whole.{Is};
 
 use crate::json::Value;
 use crate::table::Values;
@@ -11,7 +12,8 @@ use std::alloc::{AllocError, Global};
 
 /// Writes bytes in hexadecimal.
 pub fn blob(alloc: Global, bytes: &[u8]) -> Result<Value, AllocError>
-    ensures { IfOk result (Shows (string (encode_lower bytes.now))) }
+    ensures shows { IfOk result (Shows (string (encode_lower bytes.now))) }
+    ensures is { IfOk result (Is (string (encode_lower bytes.now))) }
 {
     Ok(Value::Text(hex::encode(alloc, bytes)?))
 }
