@@ -174,11 +174,12 @@ def is_named(der: bytes, host: str) -> bool:
 
 
 def curve(der: bytes) -> str | None:
-    """The name of the key's curve, which openssl also finds by explicit parameters."""
+    """The name of the key's curve, which openssl also finds by explicit parameters. Those of Oakley
+    have no object identifier, and so no name here."""
     command = ["openssl", "pkey", "-pubin", "-text_pub", "-noout", "-ec_param_enc", "named_curve"]
     key = openssl(der, "-pubkey").encode()
     text = subprocess.run(command, input=key, stdout=subprocess.PIPE, check=True).stdout
-    return found(r"ASN1 OID: (.*)$", text.decode("latin-1"))
+    return found(r"ASN1 OID: (?!Oakley)(.*)$", text.decode("latin-1"))
 
 
 def of_time(der: bytes, at: float) -> Line:

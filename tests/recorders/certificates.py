@@ -204,6 +204,8 @@ UNREAD, SECOND_NAME = "unread", b"\x82\x0b*.wild.test"
 # and that whose third extension begins with a UTF8String instead of an OBJECT IDENTIFIER.
 SUBJECT_TAG, EXTENSION_TAG, NO_EXTENSION = "subject_tag", "extension_tag", "no_extension"
 KEY_USAGE = bytes.fromhex("0603551d0f")
+# The case whose basicConstraints are cut: see `BYTES`.
+CUT_CONSTRAINTS = "cut_constraints"
 SUBJECT = bytes.fromhex("30173115301306035504030c0c") + b"example.test"
 # Bytes of certificates that OpenSSL's server doesn't take as they are in the capture: a
 # pathLenConstraint of 127 is -1, one of 2^64 - 1 is 2^64; cA has two bytes, of which one is there;
@@ -212,11 +214,12 @@ SUBJECT = bytes.fromhex("30173115301306035504030c0c") + b"example.test"
 BYTES = {
     ("path_lengths", 0): ("0101ff02017f", "0101ff0201ff"),
     ("path_lengths", 1): ("020900ffffffffffffffff", "0209010000000000000000"),
-    ("cut_constraints", 0): ("30030101ff", "30030102ff"),
+    (CUT_CONSTRAINTS, 0): ("30030101ff", "30030102ff"),
     ("no_uses", 0): ("03020780", "03020700"),
 }
 # The capture before bytes were changed, and the cases whose fields aren't all read from the other.
-INTACT, BY_HAND = "intact.pcap", (BROKEN, UNREAD, SUBJECT_TAG, EXTENSION_TAG, NO_EXTENSION)
+INTACT = "intact.pcap"
+BY_HAND = (BROKEN, UNREAD, SUBJECT_TAG, EXTENSION_TAG, NO_EXTENSION, CUT_CONSTRAINTS)
 UNREAD_FIELDS = {
     "cert_chain_order": None,
     "not_before": None, "validity_days": None, "not_yet_valid": None, "san_dns": ["example.test"],
@@ -231,7 +234,7 @@ UNREAD_OF_LINE = {
 
 
 # What differs from the intact certificate in those cases: of the connection, of the certificate.
-# "ERROR" is the place of the extension that isn't read.
+# PLACE is that of the extension that isn't read.
 OTHERS = {
     UNREAD: (UNREAD_FIELDS, UNREAD_OF_LINE),
     SUBJECT_TAG: (
@@ -251,6 +254,10 @@ OTHERS = {
             "unread_fields": ["extensions@PLACE:tag"],
         },
     ),
+    CUT_CONSTRAINTS: (
+        {"is_ca": False, "cert_unread_fields": ["basicConstraints:complete"]},
+        {"basic_constraints.ca": None, "unread_fields": ["basicConstraints:complete"]},
+    ),
     NO_EXTENSION: (
         {"cert_unread_fields": ["extensions@PLACE:tag"]},
         {
@@ -265,9 +272,8 @@ PLACES = {"ber_true": 2, EXTENSION_TAG: 1, NO_EXTENSION: 2}
 NOTED = {
     "path_lengths": [["pathLenConstraint:verify"], ["pathLenConstraint:too_large"]],
     "ber_true": [["critical@PLACE:verify", "cA:verify"]],
-    "cut_constraints": [["basicConstraints:complete"]],
 }
-# Fields that openssl prints nothing for, or not as fields.
+# Fields that are empty, which openssl prints nothing for.
 BESIDE = {("no_uses", 0): {"key_usage": [], "ext_key_usage": []}}
 
 

@@ -113,11 +113,9 @@ pub fn natural_number(number: &[u8]) -> Option<u64>
 pub fn natural_fault(number: &[u8]) -> Option<ErrorKind>
     ensures { result ≡ natural_fault_of number.now }
 {
-    if is_negative(number) {
-        return Some(ErrorKind::Verify);
-    }
-    match small_number(number) {
+    match natural_number(number) {
         Some(_) => None,
+        None if is_negative(number) => Some(ErrorKind::Verify),
         None => Some(ErrorKind::TooLarge),
     }
 }

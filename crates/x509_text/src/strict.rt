@@ -53,11 +53,11 @@ impl<'a> InPlace<'a> for StrictExtensions {
 }
 
 /// The first fault by DER, unless BER has it too.
-fn unless_of_ber(der: Option<ListFault>, ber: Option<ListFault>) -> Option<ListFault>
-    ensures { result ≡ unless_of_ber_by der.entry ber.entry }
+fn unless_of_ber(by_der: Option<ListFault>, by_ber: Option<ListFault>) -> Option<ListFault>
+    ensures { result ≡ unless_of_ber_by by_der by_ber }
 {
-    let der = der?;
-    match ber {
+    let der = by_der?;
+    match by_ber {
         Some(ber) if der.at == ber.at => None,
         _ => Some(der),
     }
