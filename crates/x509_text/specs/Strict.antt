@@ -1,8 +1,8 @@
 -- BER's TRUE: a BOOLEAN that is neither 0 nor 255 (X.690, sections 8.2.2 and 11.1). It is read, and
 -- DER forbids it.
-use Rattle.std.specs.Prelude.{◌==◌, Option, Some, None, Result, Ok, Err, if◌then◌else◌}
+use Rattle.std.specs.Prelude.{◌==◌, Option, Some, None, Ok, Err, if◌then◌else◌}
 use Rattle.layouts.specs.Bytes.{Bytes}
-use Rattle.layouts.specs.Layout.{Layout, rest, ◌>>=◌, ◌>>◌}
+use Rattle.layouts.specs.Layout.{Layout, rest, ◌>>◌}
 use Rattle.layouts.specs.Meaning.{Answer}
 use Rattle.layouts.specs.Reading.{reading}
 use Rattle.layouts.specs.declared.result.ErrorKind.{ErrorKind}
