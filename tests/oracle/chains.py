@@ -1,7 +1,8 @@
 """The certificates that tshark has in captures: tests/oracle/write chains CAPTURE..
 
 It prints a line for each Certificate in the clear that has some: the capture, the client's port, the
-sender, and each certificate in base64, in the order of the chain. `captures/chains` was written so.
+sender, and each certificate in base64, in the order of the chain. `captures/chains` was written so,
+except for the second certificate of `cut_constraints`: tshark stops at the first.
 """
 
 from __future__ import annotations

@@ -6,8 +6,8 @@ tests/oracle/write stored FIELD..
 The stored lines are those that the gate compares with tlslog's: crates/tlslog/stdout,
 captures/dtls/lines, and wanted.json of captures/certificates and captures/tunnels. Without FIELD
 all fields that tshark has are compared, except `gap`. `write` sets these fields in each line, at
-their places: so a new field comes into all lines. Two captures have a certificate that tshark or openssl
-can't read, so the chains of their lines stay as they are.
+their places: so a new field comes into all lines. Some captures have a certificate that tshark or
+openssl can't read, so the chains of their lines stay as they are.
 """
 
 from __future__ import annotations
@@ -19,6 +19,7 @@ from pathlib import Path
 
 from tests.oracle import recorded_tunnels, wanted
 from tests.oracle.wanted import is_same, key
+from tests.recorders import certificates
 from tests.support import log_columns, packets
 from tests.support.shapes import Line
 
@@ -31,6 +32,8 @@ CERTIFICATES, TUNNELS = TOP / "captures/certificates", TOP / "captures/tunnels"
 NAMES = log_columns.names()
 # A certificate of each of these can't be read by tshark or openssl.
 UNREAD = ("broken.pcap", "unread.pcap")
+# At a certificate of these they stop.
+STOPPING = {f"{case}.pcap" for case in certificates.BY_HAND} - {*UNREAD}
 OF_CHAIN = NAMES[NAMES.index("cert_count") : NAMES.index("ja3")]
 
 
@@ -72,6 +75,8 @@ def of_certificates(judge: Judge, file: Path) -> str:
     """The connections before the certificates of each capture."""
     found = json.loads(file.read_text())
     for name, lines in found.items():
+        if name in STOPPING:
+            continue
         right = {key(line): line for line in wanted.lines(file.parent / name)}
         left_out = OF_CHAIN if name in UNREAD else ()
         lines["connections"] = [

@@ -101,7 +101,7 @@ def of_certificate(der: bytes) -> Line:
         "san_dns": [name for kind, name in names if kind == "DNS"],
         "san_ip": [str(ipaddress.ip_address(name)) for kind, name in names if kind == "IP Address"],
         "key_type": KEY_TYPES.get(key, "unknown"),
-        "key_curve": found(r"ASN1 OID: (.*)$", text),
+        "key_curve": curve(der) if key == "id-ecPublicKey" else None,
         "sig_alg": outer,
         "tbs_sig_alg": inner if inner != outer else None,
         "weak_signature": bool(WEAK_HASH.search(hash_of(text, outer))),
@@ -166,14 +166,20 @@ def is_chain_in_order(chain: list[bytes]) -> bool | None:
     return all(issuer == names[at + 1][0] for at, (_, issuer) in enumerate(names[:-1]))
 
 
-def is_name_of(host: str, name: str) -> bool:
-    """Whether a name matches a host (RFC 9525, section 6.3): it is equal, or its first label is `*`
-    and the others are equal."""
-    host, name = (text.lower().rstrip(".") for text in (host, name))
-    if name.startswith("*."):
-        first, _, rest = host.partition(".")
-        return bool(first) and rest == name[2:]
-    return host == name
+@functools.lru_cache(maxsize=None)
+def is_named(der: bytes, host: str) -> bool:
+    """Whether openssl matches a host with a certificate that has names of hosts. (Without any it
+    would take the commonName.)"""
+    return "does match" in openssl(der, "-checkhost", host)
+
+
+def curve(der: bytes) -> str | None:
+    """The name of the key's curve, which openssl also finds by explicit parameters. Those of Oakley
+    have no object identifier, and so no name here."""
+    command = ["openssl", "pkey", "-pubin", "-text_pub", "-noout", "-ec_param_enc", "named_curve"]
+    key = openssl(der, "-pubkey").encode()
+    text = subprocess.run(command, input=key, stdout=subprocess.PIPE, check=True).stdout
+    return found(r"ASN1 OID: (?!Oakley)(.*)$", text.decode("latin-1"))
 
 
 def of_time(der: bytes, at: float) -> Line:
@@ -193,7 +199,7 @@ def of_talk(host: str | None, server: bytes | None, client: bytes | None, at: fl
     if server:
         said |= of_certificate(server) | of_time(server, at)
         if host:
-            said["sni_matches_cert"] = any(is_name_of(host, name) for name in said["san_dns"])
+            said["sni_matches_cert"] = bool(said["san_dns"]) and is_named(server, host)
     if client:
         own = of_certificate(client)
         said |= {"client_subject": own["subject"], "client_issuer": own["issuer"]}
@@ -237,6 +243,11 @@ def others(kind: str, text: str) -> list[str]:
     """The names of a kind in subjectAltName that `openssl x509 -ext` prints in its own form."""
     names = found(r"X509v3 Subject Alternative Name: *\n\s+(.*)$", text)
     return [name[len(kind) :] for name in (names or "").split(", ") if name.startswith(kind)]
+
+
+def number(text: str) -> int | None:
+    """A number that fits in 64 bits: no other is logged."""
+    return int(text) if int(text) < 1 << 64 else None
 
 
 def directory(name: str) -> str:
@@ -283,7 +294,7 @@ def of_line(der: bytes, at: float) -> Line:
         "san.email": [name for kind, name in names if kind == "email"],
         "san.ip": own["san_ip"],
         "basic_constraints.ca": constraints and "CA:TRUE" in constraints,
-        "basic_constraints.path_len": path and int(path[1]),
+        "basic_constraints.path_len": path and number(path[1]),
         "key_usage": listed(r"X509v3 Key Usage:.*\n\s+(.*)$", USAGES, text),
         "ext_key_usage": listed(r"X509v3 Extended Key Usage:.*\n\s+(.*)$", PURPOSES, text),
         "self_issued": own["self_issued"],

@@ -3,9 +3,10 @@
 Both peers are OpenSSL's, in this process (Python's `ssl` over buffers); their bytes are put into
 segments of TCP. Where the server staples an OCSP response they are openssl's programs. wanted.json
 has the expected lines: of connections by tshark's fields and what `openssl x509` and `openssl ocsp`
-print of the certificates and the response, of certificates by openssl alone. In `broken`, `expired`
-and `unread` bytes of certificates were changed after the handshake: what tshark or openssl can't
-read then is written here by hand. It needs `tshark` and `openssl`.
+print of the certificates and the response, of certificates by openssl alone. In `broken`, `expired`,
+`unread` and those of `BY_HAND` bytes of certificates were changed after the handshake: what tshark
+or openssl can't read then is written here by hand. So is what is noted of extensions (`NOTED`). It
+needs `tshark` and `openssl`.
 """
 
 from __future__ import annotations
@@ -45,6 +46,11 @@ CPS.1 = "http://example.test/cps"
 C = DE
 CN = a directory
 """
+# BasicConstraints with cA as 1, a TRUE of BER and not of DER (X.690, sections 8.2.2 and 11.1).
+BER_CA = "3003010101"
+# A keyUsage that is critical, and so by a TRUE of BER.
+CRITICAL, BER_CRITICAL = bytes.fromhex("0603551d0f0101ff"), bytes.fromhex("0603551d0f010101")
+ODD_NAMES = "DNS:*.test,DNS:a_b.test,DNS:*.dot.test"
 # The content of the names that openssl doesn't print by its bytes (RFC 5280, section 4.2.1.6).
 OTHER_NAMES = [
     "otherName:060A2B060104018237140203A0130C11" + b"user@example.test".hex().upper(),
@@ -108,6 +114,41 @@ CERTIFICATES = {
         f"subjectAltName = DNS:timestamps.test\n{timestamps()}",
         "issuer",
     ),
+    "below": ("/CN=below.test", EC, "basicConstraints = CA:TRUE, pathlen:127\n", "issuer"),
+    "above": ("/CN=above.test", EC, f"basicConstraints = CA:TRUE, pathlen:{2**64 - 1}\n", "issuer"),
+    "ber": (
+        "/CN=ber.test",
+        EC,
+        f"subjectAltName = DNS:ber.test\nbasicConstraints = DER:{BER_CA}\n"
+        "keyUsage = critical, digitalSignature\n",
+        "issuer",
+    ),
+    "explicit": (
+        "/CN=explicit.test",
+        [*EC, "-pkeyopt", "ec_param_enc:explicit"],
+        "subjectAltName = DNS:explicit.test\n",
+        "issuer",
+    ),
+    "oakley": (
+        "/CN=oakley.test",
+        ["-newkey", "ec", "-pkeyopt", "ec_paramgen_curve:Oakley-EC2N-3"],
+        "subjectAltName = DNS:oakley.test\n",
+        "issuer",
+    ),
+    "dsa": ("/CN=dsa.test", ["-newkey", "dsa:dsa.params"], "subjectAltName = DNS:dsa.test\n", "issuer"),
+    "cut_constraints": (
+        "/CN=cut.test",
+        EC,
+        "subjectAltName = DNS:cut.test\nbasicConstraints = CA:TRUE\nkeyUsage = digitalSignature\n",
+        "issuer",
+    ),
+    "no_uses": (
+        "/CN=uses.test",
+        EC,
+        "keyUsage = digitalSignature\nextendedKeyUsage = DER:3000\n",
+        "issuer",
+    ),
+    "odd_names": ("/CN=odd.test", EC, f"subjectAltName = {ODD_NAMES}\n", "issuer"),
     "person": (
         "/O=Caf\u00e9/CN=a person",
         ["-newkey", "ed25519"],
@@ -128,6 +169,19 @@ CASES = {
     "expired": (["leaf", "issuer"], [], "example.test"),
     "unread": (["leaf", "issuer"], [], "example.test"),
     "timestamps": (["timestamps", "issuer"], [], "timestamps.test"),
+    "path_lengths": (["below", "above"], [], "below.test"),
+    "ber_true": (["ber", "issuer"], [], "ber.test"),
+    "explicit_curves": (["explicit", "oakley", "issuer"], [], "explicit.test"),
+    "dsa": (["dsa", "issuer"], [], "dsa.test"),
+    "cut_constraints": (["cut_constraints", "issuer"], [], "cut.test"),
+    "no_uses": (["no_uses", "issuer"], [], "uses.test"),
+    "single_label": (["odd_names"], [], "host.test"),
+    "underscore": (["odd_names"], [], "A_B.test"),
+    "underscore_for_wildcard": (["odd_names"], [], "a_b.dot.test"),
+    "trailing_dot": (["odd_names"], [], "host.dot.test."),
+    "subject_tag": (["leaf", "issuer"], [], "example.test"),
+    "extension_tag": (["leaf", "issuer"], [], "example.test"),
+    "no_extension": (["leaf", "issuer"], [], "example.test"),
     "stapled_good": (["leaf", "issuer"], [], "example.test"),
     "stapled_revoked": (["curve", "issuer"], [], "other.test"),
     "stapled_unknown": (["curve", "issuer"], [], "other.test"),
@@ -146,8 +200,26 @@ ALGORITHM, OTHER = bytes.fromhex("06082a8648ce3d040302"), bytes.fromhex("06082a8
 # The case in which the first certificate begins in month 13 (kind of error "Verify"), and the second
 # name in its subjectAltName doesn't fit in the list ("Complete").
 UNREAD, SECOND_NAME = "unread", b"\x82\x0b*.wild.test"
+# The cases in which the first certificate's subject, or the second extension, has the tag of a SET,
+# and that whose third extension begins with a UTF8String instead of an OBJECT IDENTIFIER.
+SUBJECT_TAG, EXTENSION_TAG, NO_EXTENSION = "subject_tag", "extension_tag", "no_extension"
+KEY_USAGE = bytes.fromhex("0603551d0f")
+# The case whose basicConstraints are cut: see `BYTES`.
+CUT_CONSTRAINTS = "cut_constraints"
+SUBJECT = bytes.fromhex("30173115301306035504030c0c") + b"example.test"
+# Bytes of certificates that OpenSSL's server doesn't take as they are in the capture: a
+# pathLenConstraint of 127 is -1, one of 2^64 - 1 is 2^64; cA has two bytes, of which one is there;
+# the only bit of keyUsage isn't set (RFC 5280, sections 4.2.1.3 and 4.2.1.9; X.690, sections 8.1.3
+# and 8.3.3).
+BYTES = {
+    ("path_lengths", 0): ("0101ff02017f", "0101ff0201ff"),
+    ("path_lengths", 1): ("020900ffffffffffffffff", "0209010000000000000000"),
+    (CUT_CONSTRAINTS, 0): ("30030101ff", "30030102ff"),
+    ("no_uses", 0): ("03020780", "03020700"),
+}
 # The capture before bytes were changed, and the cases whose fields aren't all read from the other.
-INTACT, BY_HAND = "intact.pcap", (BROKEN, UNREAD)
+INTACT = "intact.pcap"
+BY_HAND = (BROKEN, UNREAD, SUBJECT_TAG, EXTENSION_TAG, NO_EXTENSION, CUT_CONSTRAINTS)
 UNREAD_FIELDS = {
     "cert_chain_order": None,
     "not_before": None, "validity_days": None, "not_yet_valid": None, "san_dns": ["example.test"],
@@ -161,6 +233,50 @@ UNREAD_OF_LINE = {
 }
 
 
+# What differs from the intact certificate in those cases: of the connection, of the certificate.
+# PLACE is that of the extension that isn't read.
+OTHERS = {
+    UNREAD: (UNREAD_FIELDS, UNREAD_OF_LINE),
+    SUBJECT_TAG: (
+        {
+            "subject": None, "self_issued": None, "cert_chain_order": None,
+            "cert_error": ["0:tag"], "cert_unread_fields": ["subject:tag"],
+        },
+        {
+            "certificate.subject": None, "self_issued": None, "error": "tag",
+            "unread_fields": ["subject:tag"],
+        },
+    ),
+    EXTENSION_TAG: (
+        {"cert_unread_fields": ["extensions@PLACE:tag"]},
+        {
+            "basic_constraints.ca": None, "key_usage": None, "ext_key_usage": None,
+            "unread_fields": ["extensions@PLACE:tag"],
+        },
+    ),
+    CUT_CONSTRAINTS: (
+        {"is_ca": False, "cert_unread_fields": ["basicConstraints:complete"]},
+        {"basic_constraints.ca": None, "unread_fields": ["basicConstraints:complete"]},
+    ),
+    NO_EXTENSION: (
+        {"cert_unread_fields": ["extensions@PLACE:tag"]},
+        {
+            "key_usage": None, "ext_key_usage": None,
+            "unread_fields": ["extensions@PLACE:tag"],
+        },
+    ),
+}
+# The number of the extension at PLACE, from 0.
+PLACES = {"ber_true": 2, EXTENSION_TAG: 1, NO_EXTENSION: 2}
+# What is noted of the certificates in their places.
+NOTED = {
+    "path_lengths": [["pathLenConstraint:verify"], ["pathLenConstraint:too_large"]],
+    "ber_true": [["critical@PLACE:verify", "cA:verify"]],
+}
+# Fields that are empty, which openssl prints nothing for.
+BESIDE = {("no_uses", 0): {"key_usage": [], "ext_key_usage": []}}
+
+
 def run(*words: str) -> None:
     subprocess.run(words, stdout=subprocess.DEVNULL, stderr=subprocess.PIPE, check=True)
 
@@ -172,6 +288,7 @@ def make(work: Path, name: str) -> None:
     conf.write_text(
         f"[req]\ndistinguished_name = dn\nx509_extensions = v3\nstring_mask = utf8only\nutf8 = yes\n[dn]\n[v3]\n{extensions}"
     )
+    key = [word.replace("dsa.params", str(work / "dsa.params")) for word in key]
     words = [
         "openssl",
         "req",
@@ -191,6 +308,21 @@ def make(work: Path, name: str) -> None:
     if signer:
         words += ["-CA", str(work / f"{signer}.pem"), "-CAkey", str(work / f"{signer}.key")]
     run(*words)
+    pem = work / f"{name}.pem"
+    pem.write_text(ssl.DER_cert_to_PEM_cert(as_sent(ssl.PEM_cert_to_DER_cert(pem.read_text()))))
+
+
+def make_parameters(work: Path) -> None:
+    """Makes the parameters of a DSA key, and of a server's key exchange."""
+    generate = ["openssl", "genpkey", "-genparam"]
+    bits = ["-pkeyopt", "dsa_paramgen_bits:2048", "-pkeyopt", "dsa_paramgen_q_bits:256"]
+    run(*generate, "-algorithm", "DSA", *bits, "-out", str(work / "dsa.params"))
+    run(*generate, "-algorithm", "DH", "-pkeyopt", "group:ffdhe2048", "-out", str(work / "dh.params"))
+
+
+def as_sent(one: bytes) -> bytes:
+    """Returns a certificate as it is given to the server, which sends it as it is."""
+    return one.replace(CRITICAL, BER_CRITICAL) if b"ber.test" in one else one
 
 
 def context(work: Path, side: int, chain: list[str], other: bool) -> ssl.SSLContext:
@@ -202,6 +334,8 @@ def context(work: Path, side: int, chain: list[str], other: bool) -> ssl.SSLCont
         file = work / "chain.pem"
         file.write_text("".join((work / f"{name}.pem").read_text() for name in chain))
         made.load_cert_chain(file, work / f"{chain[0]}.key")
+        if chain[0] == "dsa":
+            made.load_dh_params(work / "dh.params")
     if other:
         made.verify_mode = ssl.CERT_OPTIONAL
         made.load_verify_locations(work / "root.pem")
@@ -308,7 +442,39 @@ def bent(case: str, place: int, one: bytes) -> bytes:
         at = one.index(b"\x17\x0d") + 4
         front = one[:at] + b"13" + one[at + 2 :]
         return front.replace(SECOND_NAME, b"\x82\x7f" + SECOND_NAME[2:], 1)
+    if (case, place) in BYTES:
+        return one.replace(*map(bytes.fromhex, BYTES[case, place]), 1)
+    if (case, place) == (SUBJECT_TAG, 0):
+        # (a Name of one attribute: the last of its bytes are the host's)
+        at = one.index(SUBJECT)
+        return one[:at] + b"\x31" + one[at + 1 :]
+    if (case, place) == (EXTENSION_TAG, 0):
+        at = one.index(extensions(one)[PLACES[case]])
+        return one[:at] + b"\x31" + one[at + 1 :]
+    if (case, place) == (NO_EXTENSION, 0):
+        return one.replace(KEY_USAGE, b"\x0c" + KEY_USAGE[1:], 1)
     return one
+
+
+def extensions(one: bytes) -> list[bytes]:
+    """Returns the extensions of a certificate (RFC 5280, section 4.1)."""
+    [(_, content)] = stapled.elements(one)
+    [(_, signed), *_] = stapled.elements(content)
+    *_, (_, explicit) = stapled.elements(signed)
+    [(_, listed)] = stapled.elements(explicit)
+    return [stapled.element(*part) for part in stapled.elements(listed)]
+
+
+def placed(case: str, one: bytes, fields: Line) -> Line:
+    """Returns fields with the place of an extension of the intact certificate: the count of bytes
+    before it."""
+    place = sum(map(len, extensions(one)[: PLACES.get(case, 0)]))
+    return {
+        field: [text.replace("PLACE", str(place)) for text in value]
+        if field in ("unread_fields", "cert_unread_fields")
+        else value
+        for field, value in fields.items()
+    }
 
 
 def sent(
@@ -329,10 +495,21 @@ def detail(case: str, place: int, one: bytes, at: float) -> Line:
     line["fingerprint_sha1"] = hashlib.sha1(there).hexdigest()
     if (case, place) == (BROKEN, 1):
         return line | {"error": FAULT}
-    if (case, place) == (UNREAD, 0):
-        return without_none(wanted_certificates.of_line(one, at) | line | UNREAD_OF_LINE)
+    if case in OTHERS and place == 0:
+        changed = placed(case, one, OTHERS[case][1])
+        return without_none(wanted_certificates.of_line(one, at) | line | changed)
     others = {"san.other": OTHER_NAMES} if (case, place) == ("facts", 0) else {}
+    noted = noted_of(case, place, there)
+    others |= BESIDE.get((case, place), {}) | ({"unread_fields": noted} if noted else {})
     return wanted_certificates.of_line(there, at) | line | others
+
+
+def noted_of(case: str, place: int, one: bytes) -> list[str] | None:
+    """Returns what is noted of a certificate of the server that openssl can read."""
+    of_chain = NOTED.get(case, [])
+    if place >= len(of_chain):
+        return None
+    return placed(case, one, {"unread_fields": of_chain[place]})["unread_fields"]
 
 
 def without_none(line: Line) -> Line:
@@ -344,6 +521,9 @@ def wanted_of(work: Path, file: Path, case: str) -> dict[str, list[Line]]:
     [connection] = wanted.lines(file) if case not in BY_HAND else [wanted_by_hand(work, case)]
     if case in STAPLED:
         connection |= wanted_certificates.of_response(stapled_response(work, case))
+        connection = in_order(connection)
+    if case in NOTED:
+        connection["cert_unread_fields"] = noted_of(case, 0, der(work, server[0]))
         connection = in_order(connection)
     times = time_of_messages(file)
     lines = []
@@ -376,7 +556,8 @@ def wanted_by_hand(work: Path, case: str) -> Line:
     chain = [bent(case, place, der(work, name)) for place, name in enumerate(CASES[case][0])]
     found["cert_chain_fps"] = [wanted_certificates.fingerprint(one) for one in chain]
     of_broken = {"cert_error": [f"1:{FAULT}"], "cert_chain_order": None}
-    found |= of_broken if case == BROKEN else UNREAD_FIELDS
+    own = der(work, CASES[case][0][0])
+    found |= of_broken if case == BROKEN else placed(case, own, OTHERS[case][0])
     return in_order(found)
 
 
@@ -418,6 +599,7 @@ def record(folder: Path, chosen: list[str]) -> bool:
     lines = json.loads(stored.read_text()) if chosen and stored.exists() else {}
     with tempfile.TemporaryDirectory() as room:
         work = Path(room)
+        make_parameters(work)
         for name in CERTIFICATES:
             make(work, name)
         for case in chosen or CASES:

@@ -35,8 +35,8 @@ WEAK = {
 }
 FORBIDDEN = {"0x0000", "0x0004", "0x0005", "0x0018"}
 STRONG = {
-    "0x1301", "0x1302", "0x1303", "0x009e", "0x009f", "0xc02b", "0xc02c", "0xc02f", "0xc030",
-    "0xcca8", "0xcca9",
+    "0x1301", "0x1302", "0x1303", "0x009e", "0x009f", "0x00a3", "0xc02b", "0xc02c", "0xc02f",
+    "0xc030", "0xcca8", "0xcca9",
 }
 # The lists of suites of the stored lines with nothing but weak ones, judged by hand: of SSL 2.0, of
 # RSA key transport, of CBC with SHA-1. Each other list has a suite of TLS 1.3, or one with forward

@@ -118,7 +118,8 @@ def kind_of(field: str, value: Any) -> str:
     if field in ADDRESSES:
         return "vector[addr]"
     if isinstance(value, list):
-        return "vector[string]" if isinstance(value[0], str) else "vector[count]"
+        # (an empty list is one of names: lists of numbers are left out)
+        return "vector[string]" if isinstance([*value, ""][0], str) else "vector[count]"
     return {bool: "bool", int: "count", str: "string", dict: "string"}[type(value)]
 
 

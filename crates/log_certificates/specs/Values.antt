@@ -36,12 +36,11 @@ use Rattle.x509.specs.GeneralName.{
   Other,
 }
 use Rattle.x509.specs.Name.{AttributeTypeAndValue}
-use Rattle.x509.specs.PublicKey.{key_of}
 use Rattle.x509_text.specs.Algorithm.{same_algorithm}
 use Rattle.x509_text.specs.Exponent.{exponent_of, natural_text, natural_value}
 use Rattle.x509_text.specs.GeneralName.{general_name_text}
 use Rattle.x509_text.specs.Host.{alt_names, is_host, labels, names_host}
-use Rattle.x509_text.specs.Key.{curve_of, is_weak_by, key_length_by, key_type_of}
+use Rattle.x509_text.specs.Key.{is_weak_by, key_curve_of, key_length_by, key_type_of}
 use Rattle.x509_text.specs.Name.{name_text}
 use Rattle.x509_text.specs.Number.{serial_number_text}
 use Rattle.x509_text.specs.ObjectText.{object_text}
@@ -93,7 +92,7 @@ abbrev pub exponent_in : Option SubjectPublicKeyInfo → Option Bytes
 exponent_in = option_and_then exponent_of
 
 abbrev pub curve_in : Option SubjectPublicKeyInfo → Option Bytes
-curve_in = option_and_then (λ k. curve_of (key_of k))
+curve_in = option_and_then key_curve_of
 
 -- The key has less than 112 bits of security.
 abbrev pub is_weak : SubjectPublicKeyInfo → Option Bool

@@ -5,6 +5,7 @@ ghost use Rattle.x509.specs.Certificate.{view_algorithm};
 ghost use Rattle.x509_text.specs.Exponent.{natural_text as natural_text_of};
 ghost use Rattle.x509_text.specs.ObjectText.{object_text as object_text_of};
 ghost use Rattle.log_formats.specs.Data.{count_data, marked, text_data, value_of};
+ghost use Rattle.log_certificates.specs.Noted.{NotesLast, noted};
 ghost use Rattle.log_certificates.specs.Read.{view_read};
 ghost use Rattle.log_certificates.specs.Values.{algorithm_value, certificate_value, curve_in};
 ghost use Rattle.log_certificates.specs.Values.{differing, exponent_in, has_weak_key as is_weak_of};
@@ -233,8 +234,10 @@ pub fn certificate_cell<'c>(
     read: &ReadCertificate<'_>,
     field: &CertificateField,
 ) -> Result<Option<Cell<'c>>, AllocError>
-    ensures { IfOk result (λ cell. IfSome (certificate_value field.now (view_read read.now))
+    ensures value { IfOk result (λ cell. IfSome (certificate_value field.now (view_read read.now))
         (λ value. value_of cell ≡ value)) }
+    ensures noted { IfOk result (λ cell. NotesLast field.now
+        (noted read.now.certificate.tbs_certificate.extensions.bytes.now) (value_of cell)) }
 {
     match field {
         CertificateField::Version => Ok(version_cell(read)),

@@ -205,7 +205,7 @@ pub(crate) fn policies_cell<'c>(
 }
 
 /// Returns the basicConstraints (section 4.2.1.9).
-fn constraints<'a>(extensions: Items<'a, Extensions>) -> Option<BasicConstraints<'a>>
+pub(crate) fn constraints<'a>(extensions: Items<'a, Extensions>) -> Option<BasicConstraints<'a>>
     ensures { option_map view_basic_constraints result
         ≡ constraints_in (items_in extension extensions.entry.bytes.now) }
 {
@@ -217,7 +217,7 @@ fn constraints<'a>(extensions: Items<'a, Extensions>) -> Option<BasicConstraints
 }
 
 /// Returns how many certificates may come between this one and the last; `None` if there is no
-/// limit, or one that is negative, or 2^64 or above.
+/// limit, or one that is negative, or 2^64 or above, which [`unread_fields`](crate::faults) notes.
 fn path_length(read: &ReadCertificate<'_>) -> Option<u64>
     ensures { result ≡ path_length_of (view_read read.now).extensions }
 {

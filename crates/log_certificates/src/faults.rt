@@ -1,8 +1,15 @@
 //! The fields of a certificate that can't be read, or not to their end.
-ghost use Rattle.std.specs.Prelude.{◌≡◌};
+ghost use Rattle.std.specs.Prelude.{◌≡◌, ◌++◌, map, IfOk, OnOk};
+ghost use Rattle.std.specs.String.{string_bytes};
+ghost use Rattle.layouts.specs.Items.{items_in};
+ghost use Rattle.x509.specs.Certificate.{extension};
+ghost use Rattle.log_formats.specs.Data.{value_of as data_of};
 ghost use Rattle.log_certificates.specs.Names.{error_text};
+ghost use Rattle.log_certificates.specs.Noted.{EndsInTexts, ca_fault_of, fault_texts, noted};
+ghost use Rattle.log_certificates.specs.Noted.{fault_text as fault_text_of, place_text as place_text_of};
+ghost use Rattle.log_certificates.specs.Noted.{path_length_fault_of, place_texts};
 
-use crate::extensions::value_of;
+use crate::extensions::{constraints, value_of};
 use crate::read::{ReadCertificate, kind_of};
 use layouts::{Err, Error, ErrorKind, InPlace, Items};
 use log_formats::cell::Cell;
@@ -15,7 +22,10 @@ use x509::{
     Extensions, oid, parse_authority_info_access, parse_basic_constraints,
     parse_certificate_policies, parse_extended_key_usage, parse_general_names, parse_key_usage,
 };
-use x509_text::{ListFault, extensions_fault, general_names_fault, name_fault, purposes_fault};
+use x509_text::{
+    ListFault, ca_fault, critical_fault, extensions_fault, general_names_fault, name_fault,
+    natural_fault, purposes_fault,
+};
 
 /// Returns the name of a broken rule.
 pub fn error_name(kind: ErrorKind) -> &'static str
@@ -31,30 +41,59 @@ pub fn error_name(kind: ErrorKind) -> &'static str
     }
 }
 
-/// Appends a field that can't be read, such as `notBefore:tag`.
+/// Returns a field with the rule that it breaks, such as `notBefore:tag`.
+fn fault_text(alloc: Global, name: &str, kind: ErrorKind) -> Result<String, AllocError>
+    ensures { IfOk result (λ text. string_bytes text ≡ fault_text_of name.now kind) }
+{
+    let mut text = String::new(alloc);
+    text.push_str(name)?;
+    text.push(':')?;
+    text.push_str(error_name(kind))?;
+    Ok(text)
+}
+
+/// Appends a field that breaks a rule, such as `notBefore:tag`.
 fn add_unread(
     alloc: Global,
     all: &mut Vec<String>,
     name: &'static str,
     why: Option<ErrorKind>,
-) -> Result<(), AllocError> {
+) -> Result<(), AllocError>
+    ensures { OnOk result (map string_bytes all.new.items
+        ≡ map string_bytes all.old.items ++ fault_texts name.now why) }
+{
     if let Some(kind) = why {
-        all.push(format!(in alloc; "{name}:{}", error_name(kind))?)?;
+        all.push(fault_text(alloc, name, kind)?)?;
     }
     Ok(())
 }
 
-/// Appends a list that ends before its bytes, with the count of bytes in front of the item that
-/// can't be read, such as `subject@12:tag`.
+/// Returns a list with the count of bytes in front of the item that breaks a rule, such as
+/// `subject@12:tag`.
+fn place_text(alloc: Global, name: &str, fault: ListFault) -> Result<String, AllocError>
+    ensures { IfOk result (λ text. string_bytes text ≡ place_text_of name.now fault) }
+{
+    let mut text = String::new(alloc);
+    text.push_str(name)?;
+    text.push('@')?;
+    text.push_str(itoa::Buffer::new().format(fault.at as u64))?;
+    text.push(':')?;
+    text.push_str(error_name(fault.kind))?;
+    Ok(text)
+}
+
+/// Appends a list with an item that breaks a rule, such as `subject@12:tag`.
 fn add_list(
     alloc: Global,
     all: &mut Vec<String>,
     name: &'static str,
     fault: Option<ListFault>,
-) -> Result<(), AllocError> {
+) -> Result<(), AllocError>
+    ensures { OnOk result (map string_bytes all.new.items
+        ≡ map string_bytes all.old.items ++ place_texts name.now fault) }
+{
     if let Some(fault) = fault {
-        let (at, kind) = (fault.at, error_name(fault.kind));
-        all.push(format!(in alloc; "{name}@{at}:{kind}")?)?;
+        all.push(place_text(alloc, name, fault)?)?;
     }
     Ok(())
 }
@@ -203,16 +242,56 @@ fn add_extensions(
     add_value(alloc, all, "SignedCertificateTimestampList", timestamps)
 }
 
-/// Returns the fields that can't be read, or not to their end; `None` if all can.
-pub(crate) fn unread_fields<'c>(
+/// Returns the broken rule if cA is BER's TRUE.
+fn ca_fault_in(extensions: Items<'_, Extensions>) -> Option<ErrorKind>
+    ensures { result ≡ ca_fault_of (items_in extension extensions.entry.bytes.now) }
+{
+    ca_fault(value_of(extensions, oid::BASIC_CONSTRAINTS)?)
+}
+
+/// Returns why a pathLenConstraint isn't logged.
+fn path_length_fault(extensions: Items<'_, Extensions>) -> Option<ErrorKind>
+    ensures { result ≡ path_length_fault_of (items_in extension extensions.entry.bytes.now) }
+{
+    natural_fault(constraints(extensions)?.path_len_constraint?)
+}
+
+/// Appends what is noted of extensions that can be read: BER's TRUE, and a pathLenConstraint that
+/// isn't logged.
+fn add_noted(
     alloc: Global,
-    read: &ReadCertificate<'_>,
-) -> Result<Option<Cell<'c>>, AllocError> {
+    all: &mut Vec<String>,
+    extensions: Items<'_, Extensions>,
+) -> Result<(), AllocError>
+    ensures { OnOk result (map string_bytes all.new.items
+        ≡ map string_bytes all.old.items ++ noted extensions.entry.bytes.now) }
+{
+    add_list(alloc, all, "critical", critical_fault(extensions))?;
+    add_unread(alloc, all, "cA", ca_fault_in(extensions))?;
+    add_unread(alloc, all, "pathLenConstraint", path_length_fault(extensions))
+}
+
+/// Returns the fields that can't be read, or not to their end.
+fn unread(alloc: Global, read: &ReadCertificate<'_>) -> Result<Vec<String>, AllocError> {
     let mut all = Vec::new(alloc);
     add_fields(alloc, &mut all, read)?;
     let extensions = read.certificate.tbs_certificate.extensions;
     add_extensions(alloc, &mut all, extensions)?;
     let outer = read.unread.signature_algorithm;
     add_unread(alloc, &mut all, "signatureAlgorithm", outer)?;
+    Ok(all)
+}
+
+/// Returns the fields that can't be read, or not to their end, and behind them what is noted of
+/// those that can; `None` if there is nothing.
+pub(crate) fn unread_fields<'c>(
+    alloc: Global,
+    read: &ReadCertificate<'_>,
+) -> Result<Option<Cell<'c>>, AllocError>
+    ensures { IfOk result (λ cell. EndsInTexts
+        (noted read.now.certificate.tbs_certificate.extensions.bytes.now) (data_of cell)) }
+{
+    let mut all = unread(alloc, read)?;
+    add_noted(alloc, &mut all, read.certificate.tbs_certificate.extensions)?;
     Ok(some_texts(Texts::Owned(all)))
 }

@@ -7,7 +7,8 @@ use Rattle.layouts.specs.Layout.{Layout, number, look, test, ◌>>=◌, ◌>>◌
 use Rattle.layouts.specs.Meaning.{Refusal}
 use Rattle.layouts.specs.Reading.{reading}
 use Rattle.layouts.specs.Items.{value_of}
-use Rattle.layouts.specs.declared.result.ErrorKind.TheVariants.{Verify}
+use Rattle.layouts.specs.declared.result.ErrorKind.TheVariants.{TooLarge, Verify}
+use Rattle.layouts.specs.declared.result.ErrorKind.{ErrorKind}
 use Rattle.der.specs.Element.{tagged}
 use Rattle.der.specs.Values.{integer}
 use Rattle.x509.specs.Certificate.{SubjectPublicKeyInfo}
@@ -53,6 +54,13 @@ hexadecimal_text bytes = 48 ∷ 120 ∷ encode_lower (without_padding bytes)
 -- The number of an INTEGER, from 0 to 2^64 - 1.
 abbrev pub natural_value : Bytes → Option ℕ
 natural_value bytes = if is_negative bytes then None else small (number_of bytes)
+
+-- Why an INTEGER has no such number: pathLenConstraint is INTEGER (0..MAX) (RFC 5280, section
+-- 4.2.1.9).
+abbrev pub natural_fault : Bytes → Option ErrorKind
+natural_fault bytes =
+    if is_negative bytes then Some Verify else
+    if nat_lt (number_of bytes) (2 ^ 64) then None else Some TooLarge
 
 abbrev pub number_text : Option ℕ → Bytes → Bytes
 number_text (Some n) bytes = decimal n

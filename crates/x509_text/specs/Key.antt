@@ -10,6 +10,7 @@ use Rattle.x509.specs.KeyParameters.{parameter_bits}
 use Rattle.x509.specs.PublicKey.{PublicKey, key_of, Rsa, Ec, PKCS_1, EC_PUBLIC_KEY, EDWARDS}
 use Rattle.x509_text.specs.CurveSizes.{curve_sizes}
 use Rattle.x509_text.specs.Object.{SizedCurve}
+use Rattle.x509_text.specs.Parameters.{described_curve}
 
 -- id-dsa: 1.2.840.10040.4.1
 abbrev pub DSA : Bytes
@@ -37,6 +38,14 @@ key_length_of _ = None
 abbrev pub curve_of : Result PublicKey Refusal → Option Bytes
 curve_of (Ok (Ec curve)) = Some curve
 curve_of _ = None
+
+-- The named curve, or else the one that the parameters describe (RFC 3279, section 2.3.5).
+abbrev pub or_described : Option Bytes → Option Bytes → Option Bytes
+or_described (Some curve) described = Some curve
+or_described None described = described
+
+abbrev pub key_curve_of : SubjectPublicKeyInfo → Option Bytes
+key_curve_of k = or_described (curve_of (key_of k)) (described_curve k.algorithm)
 
 abbrev pub or_named : Option ℕ → Option ℕ → Option ℕ
 or_named (Some bits) named = Some bits

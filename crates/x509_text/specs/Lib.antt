@@ -16,6 +16,8 @@ pub mod Value
 pub mod Name
 pub mod Host
 pub mod CurveSizes
+pub mod KnownCurves
+pub mod Parameters
 pub mod Key
 pub mod Algorithm
 pub mod Chain
@@ -27,3 +29,4 @@ pub mod Number
 pub mod Time
 pub mod Usage
 pub mod Exponent
+pub mod Strict

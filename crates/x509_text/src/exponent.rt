@@ -7,7 +7,7 @@ ghost use Rattle.std.specs.String.{string_bytes};
 ghost use Rattle.layouts.specs.Answers.{Gives};
 ghost use Rattle.layouts.specs.Bytes.{Bytes, number_of};
 ghost use Rattle.x509.specs.Certificate.{view_key_info};
-ghost use Rattle.x509_text.specs.Exponent.{exponent_content, exponent_of, natural, natural_value, natural_text as natural_text_of, rsa_exponent as rsa_exponent_layout, small};
+ghost use Rattle.x509_text.specs.Exponent.{exponent_content, exponent_of, natural, natural_fault as natural_fault_of, natural_value, natural_text as natural_text_of, rsa_exponent as rsa_exponent_layout, small};
 
 use crate::number::{is_negative, without_padding};
 use der::{Integer, tag, tagged};
@@ -106,6 +106,18 @@ pub fn natural_number(number: &[u8]) -> Option<u64>
         return None;
     }
     small_number(number)
+}
+
+/// Why [`natural_number`] returns none: `Verify` if the number is negative, `TooLarge` if it is 2^64
+/// or above.
+pub fn natural_fault(number: &[u8]) -> Option<ErrorKind>
+    ensures { result ≡ natural_fault_of number.now }
+{
+    match natural_number(number) {
+        Some(_) => None,
+        None if is_negative(number) => Some(ErrorKind::Verify),
+        None => Some(ErrorKind::TooLarge),
+    }
 }
 
 /// A non-negative number as text, from the bytes of its INTEGER: in decimal if it is below 2^64,

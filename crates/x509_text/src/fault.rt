@@ -20,7 +20,7 @@ pub struct ListFault {
 }
 
 /// The kind of a refusal.
-fn kind_of(refusal: Err<Error<&[u8]>>) -> ErrorKind
+pub(crate) fn kind_of(refusal: Err<Error<&[u8]>>) -> ErrorKind
     ensures { result ≡ kind_by (refusal_of refusal.entry) }
 {
     match refusal {
@@ -30,7 +30,7 @@ fn kind_of(refusal: Err<Error<&[u8]>>) -> ErrorKind
 }
 
 /// The first item that can't be read; `None` if the items cover all bytes.
-fn list_fault<'a, T: InPlace<'a>>(items: Items<'a, T>) -> Option<ListFault>
+pub(crate) fn list_fault<'a, T: InPlace<'a>>(items: Items<'a, T>) -> Option<ListFault>
     ensures { result ≡ fault_in T.layout items.entry.bytes.now }
 {
     match items.refusal() {

@@ -7,9 +7,10 @@ ghost use Rattle.x509.specs.Certificate.{view_key_info};
 ghost use Rattle.x509.specs.PublicKey.{key_of};
 ghost use Rattle.x509.specs.KeyParameters.{parameter_bits};
 ghost use Rattle.x509_text.specs.CurveSizes.{curve_sizes};
-ghost use Rattle.x509_text.specs.Key.{curve_of, is_weak_by, key_length_by, key_length_of, key_type_of, size_in};
+ghost use Rattle.x509_text.specs.Key.{is_weak_by, key_curve_of, key_length_by, key_length_of, key_type_of, size_in};
 ghost use Rattle.x509_text.specs.Object.{view_size};
 
+use crate::parameters::described_curve;
 use crate::tables::{CURVE_SIZES, CurveSize};
 use der::ObjectIdentifier;
 use x509::{PublicKey, SubjectPublicKeyInfo, oid};
@@ -101,14 +102,17 @@ pub fn is_weak_key(info: SubjectPublicKeyInfo) -> Option<bool>
     }
 }
 
-/// The curve of a key on a named curve; [`object_name`](crate::object_name) and
-/// [`object_text`](crate::object_text) return its name.
+/// The curve of a key on an elliptic curve, named or with the parameters of secp224r1, secp256k1,
+/// P-256, P-384, P-521, brainpoolP256r1, brainpoolP384r1 or brainpoolP512r1 (RFC 3279, section
+/// 2.3.5). [`object_name`](crate::object_name) and [`object_text`](crate::object_text) return its
+/// name.
+///
+/// `None` for other keys and other parameters.
 pub fn key_curve<'a>(info: SubjectPublicKeyInfo<'a>) -> Option<ObjectIdentifier<'a>>
-    ensures { option_map (λ o. o.content.now) result ≡ curve_of
-        (key_of (view_key_info info.entry)) }
+    ensures { option_map (λ o. o.content.now) result ≡ key_curve_of (view_key_info info.entry) }
 {
     match info.public_key() {
         Ok(PublicKey::Ec(curve)) => Some(curve),
-        _ => None,
+        _ => described_curve(info.algorithm),
     }
 }

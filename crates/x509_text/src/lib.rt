@@ -20,7 +20,9 @@ mod key;
 mod name;
 mod number;
 mod object;
+mod parameters;
 mod signature;
+mod strict;
 mod tables;
 mod time;
 mod usage;
@@ -30,7 +32,7 @@ mod value;
 pub use certificate::{
     is_chain_in_order, is_self_issued, signature_algorithms_agree, version_number,
 };
-pub use exponent::{key_exponent, natural_number, natural_text};
+pub use exponent::{key_exponent, natural_fault, natural_number, natural_text};
 pub use fault::{ListFault, extensions_fault, general_names_fault, name_fault, purposes_fault};
 pub use general_name::{decoded_name_text, general_name_text};
 pub use host::matches_host;
@@ -39,6 +41,7 @@ pub use name::name_text;
 pub use number::serial_number_text;
 pub use object::{object_name, object_short_name, object_text};
 pub use signature::is_weak_signature;
+pub use strict::{ca_fault, critical_fault};
 pub use time::time_text;
 pub use usage::{key_usage_bits, purpose_id};
 pub use validity::{has_expired, is_not_yet_valid, validity_days};

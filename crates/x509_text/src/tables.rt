@@ -7,6 +7,7 @@ mod directory_attributes;
 mod extensions;
 mod further_curves;
 mod further_directory_attributes;
+mod known_curves;
 mod national_algorithms;
 mod nist_algorithms;
 mod older_curves;
@@ -21,6 +22,7 @@ pub(crate) use directory_attributes::DIRECTORY_ATTRIBUTES;
 pub(crate) use extensions::EXTENSIONS;
 pub(crate) use further_curves::FURTHER_CURVES;
 pub(crate) use further_directory_attributes::FURTHER_DIRECTORY_ATTRIBUTES;
+pub(crate) use known_curves::KNOWN_CURVES;
 pub(crate) use national_algorithms::NATIONAL_ALGORITHMS;
 pub(crate) use nist_algorithms::NIST_ALGORITHMS;
 pub(crate) use older_curves::OLDER_CURVES;
@@ -46,6 +48,25 @@ pub(crate) struct CurveSize {
     pub(crate) content: &'static [u8],
     /// The bits of the order of the curve's base point.
     pub(crate) bits: u32,
+}
+
+/// An elliptic curve that has a name, and its parameters: the contents of their elements.
+#[derive(Clone, Copy, Debug)]
+pub(crate) struct KnownCurve {
+    /// The content of the object identifier.
+    pub(crate) content: &'static [u8],
+    /// The prime of the field.
+    pub(crate) prime: &'static [u8],
+    /// The coefficient a.
+    pub(crate) a: &'static [u8],
+    /// The coefficient b.
+    pub(crate) b: &'static [u8],
+    /// The base point.
+    pub(crate) base: &'static [u8],
+    /// The base point in its compressed form.
+    pub(crate) compressed: &'static [u8],
+    /// The order of the base point.
+    pub(crate) order: &'static [u8],
 }
 
 /// The rows of a table: the content of an object identifier, its short name and its long name.
