@@ -1,6 +1,6 @@
 -- What is noted of extensions that can be read, by RFC 5280's names of fields and the broken rule.
 use Rattle.std.specs.Prelude.{◌≡◌, ◌++◌, List, [], ◌∷◌, decimal, codes, Option, Some, None, ⊤}
-use Rattle.std.specs.Option.{option_and_then, option_map}
+use Rattle.std.specs.Option.{option_and_then}
 use Rattle.layouts.specs.Bytes.{Bytes}
 use Rattle.layouts.specs.Items.{items_in}
 use Rattle.layouts.specs.declared.result.ErrorKind.{ErrorKind}

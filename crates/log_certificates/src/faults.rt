@@ -268,7 +268,12 @@ fn add_noted(
 {
     add_list(alloc, all, "critical", critical_fault(extensions))?;
     add_unread(alloc, all, "cA", ca_fault_in(extensions))?;
-    add_unread(alloc, all, "pathLenConstraint", path_length_fault(extensions))
+    add_unread(
+        alloc,
+        all,
+        "pathLenConstraint",
+        path_length_fault(extensions),
+    )
 }
 
 /// Returns the fields that can't be read, or not to their end.
