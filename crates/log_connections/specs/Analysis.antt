@@ -1,5 +1,5 @@
 -- What is analyzed of a connection's bytes.
-use Rattle.std.specs.Prelude.{◌≡◌, ◌==◌, ◌&&◌, ◌||◌, if◌then◌else◌, ℕ, Bool, true, false, not, Option, Some, None, List, [], is_some, length, drop}
+use Rattle.std.specs.Prelude.{◌≡◌, ◌==◌, ◌&&◌, ◌||◌, if◌then◌else◌, ℕ, Bool, true, false, not, Option, Some, None, List, [], ◌∷◌, is_some, length, drop}
 use Rattle.std.specs.Option.{option_map}
 use Rattle.std.specs.Global.{Box}
 use Rattle.layouts.specs.Bytes.{Bytes}
@@ -25,6 +25,7 @@ use Rattle.dtls_analyzer.specs.Senders.{deciding_direction}
 use Rattle.tls_observer.specs.Ends.{is_13}
 use Rattle.tls_analyzer.specs.Records.{no_records, with_bytes}
 use Rattle.tls_summary.specs.Fields.{connection_id_length}
+use Rattle.tls_summary.specs.HandshakeSummary.{view_summary}
 use Rattle.tunnels.specs.Tunnel.{listed}
 use Rattle.tunnels.specs.declared.tunnel.Tunnel.{Tunnel}
 use Rattle.tunnels.specs.declared.tunnel.Tunnels.{Tunnels}
@@ -34,8 +35,9 @@ use Rattle.log_connections.specs.declared.analysis.TlsAnalysis.{TlsAnalysis}
 use Rattle.log_connections.specs.declared.analysis.TransportAnalyzer.{TransportAnalyzer}
 use Rattle.log_connections.specs.declared.analysis.TransportAnalyzer.TheVariants as transport
 use Rattle.preambles.specs.declared.phase.Protocol.{Protocol as Preceding}
-use Rattle.log_connections.specs.Dialogue.{is_followed, protocol_in, state_of}
-use Rattle.log_connections.specs.Fronts.{At, InSsl2, IsFollowedBy, Next, Nowhere, PassesOver as Passes, Start, Waits, beginning, no_preambles, passing, preamble, with_preamble, without_dialogue}
+use Rattle.log_connections.specs.Dialogue.{awaits, is_followed, protocol_in, state_of}
+use Rattle.log_connections.specs.Fit.{do_hellos_fit}
+use Rattle.log_connections.specs.Fronts.{At, BehindFirst, InSsl2, IsBehindMissing, IsFollowedBy, Next, Nowhere, PassesOver as Passes, Start, Waits, beginning, no_preambles, passing, preamble, speaker_of, with_preamble, without_dialogue}
 use Rattle.log_connections.specs.Tds.{behind_tls, tls_in}
 use Rattle.log_connections.specs.declared.fronts.Preambles.{Preambles}
 
@@ -132,16 +134,35 @@ abbrev pub is_followed_in : TransportAnalyzer → Bool
 is_followed_in (transport.Stream x f) = is_followed f.dialogue
 is_followed_in (transport.Datagrams x) = false
 
+-- Of a side it isn't known whether it speaks TLS, and its missing bytes are skipped.
+abbrev pub awaits_in : Side → Direction → TransportAnalyzer → Bool
+awaits_in s d (transport.Stream x f) = is_unknown x d && awaits (speaker_of s) (state_of f.dialogue)
+awaits_in s d (transport.Datagrams x) = false
+
+-- Of one of the sides it isn't known whether it speaks TLS.
+abbrev pub is_front_in : TransportAnalyzer → Bool
+is_front_in (transport.Stream x f) = is_unknown x ToServer || is_unknown x FromServer
+is_front_in (transport.Datagrams x) = false
+
+-- Bytes of a side were skipped since some were missing.
+abbrev pub IsBehindMissingIn : TransportAnalyzer → TransportAnalyzer → Side → ℕ → Type 0
+IsBehindMissingIn (transport.Stream x f) (transport.Stream y g) s n =
+    (y ≡ x) × IsBehindMissing s n f g
+IsBehindMissingIn (transport.Stream x f) (transport.Datagrams y) s n = ⊥
+IsBehindMissingIn (transport.Datagrams x) y s n = y ≡ transport.Datagrams x
+
 -- No more bytes of it come.
 abbrev pub without_dialogue_in : TransportAnalyzer → TransportAnalyzer
 without_dialogue_in (transport.Stream x f) = transport.Stream x (without_dialogue f)
 without_dialogue_in (transport.Datagrams x) = transport.Datagrams x
 
 -- A side with other bytes before its TLS is answered if they are a dialogue's, or the other speaks
--- TLS.
+-- TLS and their hellos fit.
 abbrev pub is_answered : Side → Side → Bool → TransportAnalyzer → Bool
 is_answered s other turned (transport.Stream x f) =
-    preamble s f == 0 || is_some (protocol_in f.dialogue) || is_tls_on x (direction_of turned other)
+    preamble s f == 0 || is_some (protocol_in f.dialogue)
+    || (is_tls_on x (direction_of turned other)
+    && do_hellos_fit (view_summary x.conversation_state.handshake))
 is_answered s other turned (transport.Datagrams t) = true
 
 -- Whether it is TLS, which both sides have to speak if other bytes came before it; or DTLS.
@@ -253,6 +274,12 @@ module _ {K : Type 0} where
   AnalyzesAt s opened n t u a b = AnalyzesTls s (drop n (next_bytes t t.reading)) t u
       (begun_at s n (seeing_client s opened (drop n (next_bytes t t.reading)) a)) b
 
+  -- TLS began with a byte in front of the next ones, which isn't in the stream.
+  abbrev pub AnalyzesBehindFirst : Side → Bool → Stream → Stream → TlsAnalysis K → TlsAnalysis K
+      → Type 0
+  AnalyzesBehindFirst s opened t u a b = AnalyzesTls s (22 ∷ next_bytes t t.reading) t u
+      (begun_at s 0 (seeing_client s opened (22 ∷ next_bytes t t.reading) a)) b
+
   -- How far the packets are behind these bytes of a side, if its TLS comes in packets.
   abbrev pub behind_tls_of : Side → Bytes → TlsAnalysis K → TlsAnalysis K
   behind_tls_of s b a = record a { transport = behind_tls_in s b a.transport }
@@ -316,6 +343,14 @@ module _ {K : Type 0} where
       → Type 0
   FollowsOnce t t' u u' a b = FollowsOnceIn a.transport t t' u u' a b
 
+  abbrev pub awaits_of : Side → TlsAnalysis K → Bool
+  awaits_of s a = awaits_in s (direction_of a.is_turned s) a.transport
+
+  -- Bytes of a side were skipped since some were missing, if there are any.
+  abbrev pub PassesMissing : Side → ℕ → TlsAnalysis K → TlsAnalysis K → Type 0
+  PassesMissing s n a b = IsBehindMissingIn a.transport b.transport s n
+      × (b ≡ record a { transport = b.transport })
+
   -- No more bytes of a dialogue in front of TLS come.
   abbrev pub undialogued : TlsAnalysis K → TlsAnalysis K
   undialogued a = record a { transport = without_dialogue_in a.transport }
@@ -325,6 +360,7 @@ module _ {K : Type 0} where
   AnalyzesBy Waits s opened t u a b = (u ≡ t) × (b ≡ a)
   AnalyzesBy (Passes n) s opened t u a b = PassesOver s n t u a b
   AnalyzesBy (At n) s opened t u a b = AnalyzesAt s opened n t u a b
+  AnalyzesBy BehindFirst s opened t u a b = AnalyzesBehindFirst s opened t u a b
   AnalyzesBy (InSsl2 hello n) s opened t u a b = AnalyzesHello s hello a b × (u ≡ handing_on n t)
   AnalyzesBy Next s opened t u a b = AnalyzesAll s opened t u a b
   AnalyzesBy Nowhere s opened t u a b = AnalyzesNone s t u a b

@@ -1,5 +1,6 @@
 pub mod Dialogue
 pub mod Fronts
+pub mod Fit
 pub mod Tds
 pub mod Analysis
 pub mod Accessors

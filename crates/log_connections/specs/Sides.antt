@@ -1,7 +1,8 @@
 -- What a segment does to its connection's analysis.
-use Rattle.std.specs.Prelude.{◌≡◌, Bool, true, false, ◌&&◌, Option}
-use Rattle.connections.specs.Connection.{AcceptsKept, has_opening, side_of}
-use Rattle.connections.specs.Segment.{has_data, header_of}
+use Rattle.std.specs.Prelude.{◌≡◌, ℕ, ◌==◌, Bool, true, false, not, ◌&&◌, if◌then◌else◌, Option}
+use Rattle.connections.specs.Connection.{AcceptsKept, has_opening, side_of, stream_of}
+use Rattle.connections.specs.Lost.{lost_of, skipping_lost_of}
+use Rattle.connections.specs.Segment.{first_of, has_data, header_of}
 use Rattle.connections.specs.Stream.{is_cut_short}
 use Rattle.connections.specs.Waiting.{Kept}
 use Rattle.connections.specs.declared.connection.Connection.{Connection}
@@ -9,9 +10,13 @@ use Rattle.connections.specs.declared.connection.Side.{Side}
 use Rattle.connections.specs.declared.connection.Side.TheVariants.{Originator, Responder}
 use Rattle.connections.specs.declared.segment.Segment.{Segment}
 use Rattle.tunnels.specs.declared.tunnel.Tunnels.{Tunnels}
-use Rattle.log_connections.specs.Analysis.{AnalyzesOn, AnalyzesStream, FollowsOnce, IsPrepared, is_followed_in, undialogued}
+use Rattle.log_connections.specs.Analysis.{AnalyzesOn, AnalyzesStream, FollowsOnce, IsPrepared, PassesMissing, awaits_of, is_followed_in, is_front_in, undialogued}
 use Rattle.log_connections.specs.declared.analysis.PieceKind.{PieceKind}
 use Rattle.log_connections.specs.declared.analysis.TlsAnalysis.{TlsAnalysis}
+
+abbrev pub other_of : Side → Side
+other_of Originator = Responder
+other_of Responder = Originator
 
 module _ {K : Type 0} where
   -- Nothing changes but a connection's streams and its analysis.
@@ -89,12 +94,59 @@ module _ {K : Type 0} where
   FollowsIf true side c d = FollowsOpened (has_opening c) side c d
   FollowsIf false side c d = d ≡ c
 
-  -- A segment's data leads the dialogue in front of TLS on, if one is followed. Then the next bytes
-  -- of its sender are analyzed.
+  -- How many bytes of a side are skipped because its receiver acknowledged missing ones.
+  abbrev pub missing_of : Side → ℕ → Connection (TlsAnalysis K) → ℕ
+  missing_of side n c = if awaits_of side c.attachment then lost_of side n c else 0
+
+  -- They are skipped in the stream, and noted; or there are none.
+  abbrev pub PassesUnless : Bool → Side → ℕ → Connection (TlsAnalysis K)
+      → Connection (TlsAnalysis K) → Type 0
+  PassesUnless true side n c d = d ≡ skipping_lost_of side n c
+  PassesUnless false side n c d = (a : TlsAnalysis K)
+      × PassesMissing side (lost_of side n c) c.attachment a
+      × (d ≡ record (skipping_lost_of side n c) { attachment = a })
+
+  abbrev pub SkipsIf : Bool → Side → ℕ → Connection (TlsAnalysis K) → Connection (TlsAnalysis K)
+      → Type 0
+  SkipsIf true side n c d = PassesUnless (lost_of side n c == 0) side n c d
+  SkipsIf false side n c d = d ≡ c
+
+  -- No pending segment of the side that begins before this number may hold them.
+  abbrev pub SkipsMissing : Side → ℕ → Connection (TlsAnalysis K) → Connection (TlsAnalysis K)
+      → Type 0
+  SkipsMissing side n c d = SkipsIf (awaits_of side c.attachment) side n c d
+
+  abbrev pub AnalyzesIf : Bool → Side → Connection (TlsAnalysis K) → Connection (TlsAnalysis K)
+      → Type 0
+  AnalyzesIf true side c d = AnalyzesWaiting side c d
+  AnalyzesIf false side c d = d ≡ c
+
+  -- With a segment of this side, missing bytes in front of TLS are skipped that their receiver
+  -- acknowledged: the other side's, and its own in front of the segment. Then the dialogue is followed; or, if none is, TLS is searched for in the
+  -- other side's bytes behind missing ones.
+  pub record FollowsFront (s : Segment) (side : Side) (c d : Connection (TlsAnalysis K))
+      : Type 0 where
+    pub first : Connection (TlsAnalysis K)
+    pub second : Connection (TlsAnalysis K)
+    pub third : Connection (TlsAnalysis K)
+    pub skips_other : SkipsMissing (other_of side) (stream_of (other_of side) c).last c first
+    pub skips_own : SkipsMissing side (first_of s) first second
+    pub searches :
+        AnalyzesIf (not (missing_of (other_of side) (stream_of (other_of side) c).last c == 0)
+        && not (is_followed_in second.attachment.transport)) side second third
+    pub follows : FollowsIf (is_followed_in third.attachment.transport) side third d
+
+  abbrev pub FollowsFrontIf : Bool → Segment → Side → Connection (TlsAnalysis K)
+      → Connection (TlsAnalysis K) → Type 0
+  FollowsFrontIf true s side c d = FollowsFront s side c d
+  FollowsFrontIf false s side c d = d ≡ c
+
+  -- A segment's data leads on what is in front of TLS. Then the next bytes of its sender are
+  -- analyzed.
   abbrev pub AnalyzesSide : (TlsAnalysis K → TlsAnalysis K → Type 0) → Segment → Side
       → Connection (TlsAnalysis K) → Connection (TlsAnalysis K) → Type 0
   AnalyzesSide Prepares s side c c' = (d : Connection (TlsAnalysis K))
-      × FollowsIf (has_data s && is_followed_in c.attachment.transport) side c d
+      × FollowsFrontIf (has_data s && is_front_in c.attachment.transport) s side c d
       × AnalyzesSender Prepares s side d c'
 
   -- A pending segment is added to its sender's stream, whose next bytes are analyzed.

@@ -5,12 +5,13 @@ ghost use Rattle.std.specs.Borrow.{sem};
 ghost use Rattle.tls_detection.specs.Front.{held_datagram as held_datagram_of};
 ghost use Rattle.tls_summary.specs.HandshakeSummary.{view_summary};
 ghost use Rattle.log_connections.specs.Accessors.{BeginsAnother, HasHandshake, HasHistory, HasOutcome, HasStop, IsEstablishedBy, IsResumedBy, LacksFront, records_of};
-ghost use Rattle.log_connections.specs.Analysis.{IsBegun as IsBegunAs, IsPrepared, IsTlsBy, Keeps, are_passed as are_passed_on, behind_tls_of, direction_of as direction_by, is_answered as is_answered_in, is_responder as is_responder_side, is_silent_in, noted_tunnels, preamble_of, stopped_if, tls_in_transport, tunnels_in, turned_by as turned_by_message, FollowsOnce, dialogue_of, is_followed_in, without_dialogue_in};
+ghost use Rattle.log_connections.specs.Analysis.{IsBegun as IsBegunAs, IsPrepared, IsTlsBy, Keeps, PassesMissing, awaits_of, is_front_in, are_passed as are_passed_on, behind_tls_of, direction_of as direction_by, is_answered as is_answered_in, is_responder as is_responder_side, is_silent_in, noted_tunnels, preamble_of, stopped_if, tls_in_transport, tunnels_in, turned_by as turned_by_message, FollowsOnce, dialogue_of, is_followed_in, without_dialogue_in};
 ghost use Rattle.log_connections.specs.Capacity.{buffers_of as buffers_by, least_bytes_of, least_of_transport, most_bytes_of, most_of_transport, of_collector as of_collector_in, of_tunnels as of_tunnels_in};
 ghost use Rattle.log_connections.specs.Lends.{lends_collector};
 ghost use Rattle.log_connections.specs.Tds.{tls_of as tls_by};
 
-use crate::fronts::Preambles;
+use crate::fit::do_hellos_fit;
+use crate::fronts::{Preambles, speaker};
 use connections::{Attachment, Protocol, Side, Stream};
 use dtls_analyzer::{DatagramAnalyzer, DatagramRecordCounter};
 use std::alloc::{AllocError, Global};
@@ -270,8 +271,8 @@ impl<K: PieceCollector> TlsAnalysis<K> {
     }
 
     /// Returns whether a side's TLS counts: it has no other bytes in front, TLS began behind a
-    /// dialogue, or the other side answers in TLS. A lone hello may be part of another protocol's
-    /// content, such as a file.
+    /// dialogue, or the other side answers in TLS, and its hello fits. A lone hello may be part of
+    /// another protocol's content, such as a file.
     fn is_answered(&self, side: Side, other: Side) -> bool
         ensures { result ≡ is_answered_in side other self.now.is_turned self.now.transport }
     {
@@ -280,6 +281,7 @@ impl<K: PieceCollector> TlsAnalysis<K> {
                 preambles.of(side) == 0
                     || preambles.dialogue.protocol().is_some()
                     || analyzer.is_tls_on(self.direction(other))
+                        && do_hellos_fit(analyzer.handshake())
             }
             TransportAnalyzer::Datagrams(_) => true,
         }
@@ -496,6 +498,42 @@ impl<K: PieceCollector> TlsAnalysis<K> {
         match &self.transport {
             TransportAnalyzer::Stream(_, preambles) => preambles.dialogue.is_followed(),
             TransportAnalyzer::Datagrams(_) => false,
+        }
+    }
+
+    /// Returns whether of one of the sides it isn't known whether it speaks TLS.
+    #[inline(always)]
+    pub(crate) fn is_in_front(&self) -> bool
+        ensures { result ≡ is_front_in self.now.transport }
+    {
+        match &self.transport {
+            TransportAnalyzer::Stream(analyzer, _) => {
+                analyzer.is_unknown(Direction::ToServer)
+                    || analyzer.is_unknown(Direction::FromServer)
+            }
+            TransportAnalyzer::Datagrams(_) => false,
+        }
+    }
+
+    /// Returns whether missing bytes of a side are skipped: it isn't known whether it speaks TLS.
+    pub(crate) fn awaits(&self, side: Side) -> bool
+        ensures { result ≡ awaits_of side self.now }
+    {
+        match &self.transport {
+            TransportAnalyzer::Stream(analyzer, preambles) => {
+                analyzer.is_unknown(self.direction(side))
+                    && preambles.dialogue.awaits(speaker(side))
+            }
+            TransportAnalyzer::Datagrams(_) => false,
+        }
+    }
+
+    /// Notes that bytes of a side were skipped, since some were missing.
+    pub(crate) fn pass_missing(&mut self, side: Side, skipped: usize)
+        ensures { PassesMissing side skipped self.old self.new }
+    {
+        if let TransportAnalyzer::Stream(_, preambles) = &mut self.transport {
+            preambles.pass_missing(side, skipped);
         }
     }
 

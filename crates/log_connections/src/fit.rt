@@ -66,8 +66,8 @@ fn offers_suite(suites: Items<'_, TlsCipherSuiteID>, chosen: Option<TlsCipherSui
 
 /// Returns whether there are two session IDs, and they are the same.
 fn are_same(client: Option<&[u8]>, server: Option<&[u8]>) -> bool
-    ensures { result ≡ are_same_of (option_map (λ x. x.now) client)
-        (option_map (λ x. x.now) server) }
+    ensures { result ≡ are_same_of (option_map (λ x. x.now) client.entry)
+        (option_map (λ x. x.now) server.entry) }
 {
     match (client, server) {
         (Some(id), Some(other)) => id == other,
@@ -84,7 +84,11 @@ pub(crate) fn do_hellos_fit(handshake: &HandshakeSummary) -> bool
         return true;
     };
     let version = handshake.version();
-    if !offers_version(handshake.client_version(), handshake.client_versions(), version) {
+    if !offers_version(
+        handshake.client_version(),
+        handshake.client_versions(),
+        version,
+    ) {
         return false;
     }
     offers_suite(handshake.client_ciphers(), handshake.cipher())

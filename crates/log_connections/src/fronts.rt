@@ -1,9 +1,9 @@
 //! Where TLS begins in a side's stream: behind a dialogue that is known, or else by a search.
 ghost use Rattle.std.specs.Prelude.{◌≡◌};
 ghost use Rattle.log_connections.specs.Dialogue.{state_of};
-ghost use Rattle.log_connections.specs.Fronts.{IsFollowedBy, begins_there, beginning as begins, beginning_at_once, beginning_behind, beginning_by_search, beginning_in, found as found_in, is_waiting, may_begin as may_begin_in, no_preambles, passing, preamble as preamble_in, view_beginning, with_preamble, without_dialogue};
+ghost use Rattle.log_connections.specs.Fronts.{IsBehindMissing, IsFollowedBy, begins_there, beginning as begins, beginning_at_once, beginning_behind, beginning_by_search, beginning_in, found as found_in, is_hello_front as is_front_of_hello, is_waiting, lacks_first as lacks_first_of, may_begin as may_begin_in, no_preambles, passing, preamble as preamble_in, speaker_of, view_beginning, with_first as with_first_of, with_preamble, without_dialogue};
 
-use crate::dialogue::Dialogue;
+use crate::dialogue::{Dialogue, HANDSHAKE};
 use connections::Side;
 use preambles::TdsReader;
 use ssl2_hello::{Ssl2ClientHello, begins_ssl2_hello, parse_ssl2_client_hello};
@@ -35,6 +35,8 @@ pub(crate) enum Beginning<'a> {
     PassesOver(usize),
     /// After this many bytes, where it was found.
     At(usize),
+    /// With a first byte that isn't in the stream, since it was taken for a keep-alive.
+    BehindFirst,
     /// At once, with this ClientHello in the SSL 2.0 format, in a record of this many bytes.
     InSsl2(Ssl2ClientHello<'a>, usize),
     /// With the next byte, whatever that is, behind a dialogue; or it began before.
@@ -66,6 +68,35 @@ fn begins_at_front(bytes: &[u8], are_last: bool) -> bool
     ensures { result ≡ begins_there bytes.now are_last }
 {
     (bytes.len() > HEADER_LEN || are_last) && begins_tls(bytes)
+}
+
+/// Returns whether these are the first bytes of a handshake record with a hello.
+fn is_hello_front(front: &[u8]) -> bool
+    ensures { result ≡ is_front_of_hello front.now }
+{
+    place_behind(front, false).is_some() || place_behind(front, true).is_some()
+}
+
+/// Returns the first byte of a handshake record and the first 10 of these; `None` if there are fewer.
+fn with_first(bytes: &[u8]) -> Option<[u8; HELLO_FRONT_LEN]>
+    ensures { result ≡ with_first_of bytes.now }
+{
+    match bytes {
+        [a, b, c, d, e, f, g, h, i, j, ..] => {
+            Some([HANDSHAKE, *a, *b, *c, *d, *e, *f, *g, *h, *i, *j])
+        }
+        _ => None,
+    }
+}
+
+/// Returns whether a stream lacks the first byte of a handshake record that begins with a hello.
+fn lacks_first(bytes: &[u8]) -> bool
+    ensures { result ≡ lacks_first_of bytes.now }
+{
+    match with_first(bytes) {
+        Some(front) => is_hello_front(&front),
+        None => false,
+    }
 }
 
 /// Returns whether TLS may begin at the first of these bytes once more come: there are too few to
@@ -101,6 +132,9 @@ fn begins_at_once(answers: bool, are_last: bool, skipped: u64, bytes: &[u8]) -> 
     if begins_at_front(bytes, are_last) {
         return Beginning::At(0);
     }
+    if lacks_first(bytes) {
+        return Beginning::BehindFirst;
+    }
     match parse_ssl2_client_hello(bytes) {
         Ok((rest, hello)) => Beginning::InSsl2(hello, bytes.len().saturating_sub(rest.len())),
         Err(_) => begins_behind(answers, are_last, skipped, bytes),
@@ -130,7 +164,7 @@ fn begins_in<'a>(
         ≡ beginning_in (state_of dialogue.now) answers are_last skipped bytes.now }
 {
     match dialogue {
-        Dialogue::New | Dialogue::GoesOn(_) => Beginning::Waits,
+        Dialogue::New | Dialogue::GoesOn(_) | Dialogue::Resumes(_, _) => Beginning::Waits,
         // (the client may be either side)
         Dialogue::Tls(_) if bytes.len() <= HEADER_LEN && !are_last => Beginning::Waits,
         Dialogue::Tls(_) => Beginning::Next,
@@ -157,6 +191,16 @@ pub(crate) fn begins_at<'a>(
         return Beginning::Next;
     }
     begins_in(dialogue, answers, are_last, skipped, bytes)
+}
+
+/// Returns as which side of a dialogue a side speaks.
+pub(crate) fn speaker(side: Side) -> preambles::Side
+    ensures { result ≡ speaker_of side }
+{
+    match side {
+        Side::Originator => preambles::Side::Client,
+        Side::Responder => preambles::Side::Server,
+    }
 }
 
 impl Preambles {
@@ -217,6 +261,14 @@ impl Preambles {
         self.pass(Side::Responder, step.server);
         self.dialogue = step.dialogue;
         (step.client, step.server)
+    }
+
+    /// Skips bytes of a side, since some were missing.
+    pub(crate) fn pass_missing(&mut self, side: Side, skipped: usize)
+        ensures { IsBehindMissing side skipped self.old self.new }
+    {
+        self.pass(side, skipped);
+        self.dialogue = self.dialogue.behind_missing(speaker(side));
     }
 
     /// Ends a dialogue that goes on, since no more bytes of it come.

@@ -1,24 +1,35 @@
 //! How the bytes of a stream are analyzed.
-ghost use Rattle.std.specs.Prelude.{◌≡◌, ◌||◌, OnErr, OnOk, Some, drop, false};
+ghost use Rattle.std.specs.Prelude.{◌≡◌, ◌||◌, ◌∷◌, IfOk, OnErr, OnOk, Some, drop, false};
 ghost use Rattle.std.specs.Option.{option_map};
 ghost use Rattle.connections.specs.Stream.{is_cut_short, next_bytes};
 ghost use Rattle.ssl2_hello.specs.ClientHello.{view_client_hello as view_ssl2_hello};
-ghost use Rattle.log_connections.specs.Analysis.{AnalyzesAll, AnalyzesAt, AnalyzesFurther, AnalyzesHello, AnalyzesNone, AnalyzesStream, AnalyzesTls, IsCut, IsCutIn, PassesOver, begins_in, begun_at, counting, direction_of as direction_by, is_done as is_done_in, is_over_in, seeing_client, turned};
+ghost use Rattle.log_connections.specs.Analysis.{AnalyzesAll, AnalyzesAt, AnalyzesBehindFirst, AnalyzesFurther, AnalyzesHello, AnalyzesNone, AnalyzesStream, AnalyzesTls, IsCut, IsCutIn, PassesOver, begins_in, begun_at, counting, direction_of as direction_by, is_done as is_done_in, is_over_in, seeing_client, turned};
 ghost use Rattle.log_connections.specs.Fronts.{view_beginning};
 ghost use Rattle.log_connections.specs.Tds.{tls_of as tls_by};
 
 use crate::analysis::{
     PieceCollector, TlsAnalysis, TransportAnalyzer, behind, is_responder, stop_if, turned_by,
 };
+use crate::dialogue::HANDSHAKE;
 use crate::fronts::{Beginning, begins_at};
 use crate::piece_observer::PieceObserver;
 use crate::tds::tls_of;
 use connections::{Side, Stream};
 use ssl2_hello::Ssl2ClientHello;
-use std::alloc::AllocError;
+use std::alloc::{AllocError, Global};
 use std::mem;
 use tls_detection::first_message;
 use tls_summary::CertificateCache;
+
+/// Returns the first byte of a handshake record, and the bytes behind it.
+fn with_first(alloc: Global, rest: &[u8]) -> Result<Vec<u8>, AllocError>
+    ensures { IfOk result (λ v. v.items ≡ 22 ∷ rest.now) }
+{
+    let mut bytes = Vec::new(alloc);
+    bytes.push(HANDSHAKE)?;
+    bytes.extend_from_slice(rest)?;
+    Ok(bytes)
+}
 
 impl<K: PieceCollector> TlsAnalysis<K> {
     /// Decides which side is the client, if the next bytes of a side's stream, behind the first
@@ -136,6 +147,24 @@ impl<K: PieceCollector> TlsAnalysis<K> {
         self.see_client(stream, side, n, &taken, is_opened);
         self.begin_at(side, n);
         self.analyze_behind(stream, side, n, &taken, known)
+    }
+
+    /// Analyzes a side's bytes behind the first one of its TLS, which isn't in the stream.
+    fn analyze_behind_first(
+        &mut self,
+        stream: &mut Stream,
+        side: Side,
+        is_opened: bool,
+        known: &mut CertificateCache,
+    ) -> Result<(), AllocError>
+        ensures analysis { OnOk result
+            (AnalyzesBehindFirst side is_opened stream.old stream.new self.old self.new) }
+        ensures cut { OnErr result (IsCut stream.old stream.new self.old self.new) }
+    {
+        let taken = Some(with_first(self.alloc, stream.available())?);
+        self.see_client(stream, side, 0, &taken, is_opened);
+        self.begin_at(side, 0);
+        self.analyze_behind(stream, side, 0, &taken, known)
     }
 
     /// Analyzes all next bytes of a side whose TLS began, or begins with them, whatever they are.
@@ -283,6 +312,7 @@ impl<K: PieceCollector> TlsAnalysis<K> {
                 Ok(())
             }
             Beginning::At(n) => self.analyze_at(stream, side, is_opened, n, known),
+            Beginning::BehindFirst => self.analyze_behind_first(stream, side, is_opened, known),
             Beginning::Next => self.analyze_all(stream, side, is_opened, known),
             Beginning::InSsl2(hello, n) => {
                 self.analyze_ssl2(side, &hello)?;

@@ -27,7 +27,7 @@ returns-clause-analysis g c =
       accepts = c.in_ok-accept_pending.ensures.taken;
       receives = analyzed_behind IsOnItsOwn c.segment-segment.result c.accept_pending.new.self
           c.follow_front.new.connection c.analyze_sender_at_end.new.connection
-          c.in_ok-follow_front.ensures.dialogue analyzes;
+          c.in_ok-follow_front.ensures.front analyzes;
     }) c.analyze_sender_at_end.ensures.analysis
 
 pub returns-clause-refused : goal.returns-clause-refused

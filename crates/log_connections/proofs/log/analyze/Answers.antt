@@ -9,7 +9,7 @@ returns-clause-prepared g c =
     IfOk-weaker c.analyze_sender.result _ _
     (λ _ analyzes. analyzed_behind (IsPrepared c.args.tunnels.now c.args.kept) c.args.segment.now
     c.args.connection.now c.follow_front.new.connection c.analyze_sender.new.connection
-    c.in_ok-follow_front.ensures.dialogue analyzes)
+    c.in_ok-follow_front.ensures.front analyzes)
     c.analyze_sender.ensures.analysis
 
 pub returns-clause-analysis : goal.returns-clause-analysis
@@ -20,5 +20,5 @@ returns-clause-analysis g c =
     c.analyze_sender.new.connection
     (analyzed_behind (IsPrepared c.args.tunnels.now c.args.kept) c.args.segment.now
     c.args.connection.now c.follow_front.new.connection c.analyze_sender.new.connection
-    c.in_ok-follow_front.ensures.dialogue analyzes))
+    c.in_ok-follow_front.ensures.front analyzes))
     c.analyze_sender.ensures.analysis
