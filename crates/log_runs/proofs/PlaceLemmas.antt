@@ -1,6 +1,6 @@
 -- Where an arrival leaves its connection among those of a table.
 use Rattle.std.proofs.Common.{◌≡◌, ℕ, ◌-◌, Bool, true, false, Option, Some, None, List, [], ◌∷◌, refl, sym, ap, ◌∙◌, subst}
-use Rattle.std.specs.Prelude.{◌&&◌, ◌||◌, not, is_some, if◌then◌else◌}
+use Rattle.std.specs.Prelude.{◌&&◌, ◌||◌, ◌==◌, not, is_some, if◌then◌else◌}
 use Rattle.std.specs.Map.{set_value}
 use Rattle.std.specs.Option.{option_map}
 use Rattle.arrivals.specs.Arrival.{five_tuple_in, time_of}
@@ -8,11 +8,11 @@ use Rattle.arrivals.specs.declared.arrival.Arrival.{Arrival}
 use Rattle.arrivals.specs.declared.arrival.Arrival.TheVariants as arrival
 use Rattle.connections.proofs.DropLemmas.{dropping_alone, waiting_alone}
 use Rattle.connections.proofs.TableLemmas.{at_first, at_written, is_five_tuple-refl, others-first}
-use Rattle.connections.specs.Connection.{adds_nothing, counted, counted_from, counts_from, dropped_from, dropping, has_opening, judgement_of, keeping_data, keeping_data_if, is_taken, noting, noting_from, part_by, side_of, silent, verdict_of, with_waiting, Accepts as TakesIn, PutsData, PutsFrom, PutsPart, TakesBehind as CountsBehind}
+use Rattle.connections.specs.Connection.{adds_nothing, counted, counted_from, counts_from, dropped_from, dropping, has_opening, judgement_of, keeping_data, keeping_data_if, is_taken, noting, noting_from, part_by, side_of, silent, stream_of, verdict_of, with_waiting, Accepts as TakesIn, PutsData, PutsFrom, PutsPart, TakesBehind as CountsBehind}
 use Rattle.connections.specs.Datagram.{five_tuple_of_datagram}
 use Rattle.connections.specs.FiveTuple.{is_five_tuple}
 use Rattle.connections.specs.Memory.{IsSettled}
-use Rattle.connections.specs.Segment.{begins, begins_one, five_tuple_of, has_data, is_refused}
+use Rattle.connections.specs.Segment.{begins, begins_one, first_of, five_tuple_of, has_data, is_refused}
 use Rattle.connections.specs.Table.{BeginsAfter, ComesFirst, DropsDatagramOf, IsAnewAt, Replaced, Table, TakesDatagram, TakesSegment, at, belongs, changing, changing_at, ended, others, weight_of, without_pending_segment}
 use Rattle.connections.specs.declared.connection.Connection.{Connection}
 use Rattle.connections.specs.declared.connection.Side.{Side}
@@ -26,7 +26,9 @@ use Rattle.connections.specs.declared.receiver.Judgement.{Judgement}
 use Rattle.connections.specs.declared.receiver.Judgement.TheVariants as judgement
 use Rattle.connections.specs.declared.segment.Segment.{Segment}
 use Rattle.connections.specs.Waiting.{Kept}
-use Rattle.log_connections.specs.Analysis.{is_followed_in}
+use Rattle.connections.specs.Lost.{end_of_side, lost_of, skipping_on, waits_before}
+use Rattle.log_connections.specs.Analysis.{awaits_of, is_followed_in, is_front_in}
+use Rattle.log_connections.specs.Sides.{AnalyzesIf, FollowsFrontIf, PassesUnless, SkipsIf, missing_of, other_of}
 use Rattle.log_connections.specs.declared.analysis.TlsAnalysis.{TlsAnalysis}
 use Rattle.log_connections.specs.declared.exchanges.Delivery.{Delivery}
 use Rattle.log_connections.specs.declared.exchanges.Delivery.TheVariants as delivery
@@ -240,11 +242,49 @@ module _ {K : Type 0} (s : Segment) where
   followed_time true side c d h = opened_time (has_opening c) side c d h
   followed_time false side c d h = ap {A = Connection (TlsAnalysis K)} (λ x. x.last_time) h
 
+  lost_time : (b : Bool) (side : Side) (c : Connection (TlsAnalysis K))
+      → (if b then c else skipping_on side c).last_time ≡ c.last_time
+  lost_time true side c = refl
+  lost_time false Originator c = refl
+  lost_time false Responder c = refl
+
+  passed_time : (b : Bool) (side : Side) (n : ℕ) (c d : Connection (TlsAnalysis K))
+      → PassesUnless b side n c d → d.last_time ≡ c.last_time
+  passed_time true side n c d h =
+      ap {A = Connection (TlsAnalysis K)} (λ x. x.last_time) h
+      ∙ lost_time (waits_before (end_of_side side c) n c.waiting) side c
+  passed_time false side n c d h =
+      ap {A = Connection (TlsAnalysis K)} (λ x. x.last_time) h.2
+      ∙ lost_time (waits_before (end_of_side side c) n c.waiting) side c
+
+  skipped_time : (b : Bool) (side : Side) (n : ℕ) (c d : Connection (TlsAnalysis K))
+      → SkipsIf b side n c d → d.last_time ≡ c.last_time
+  skipped_time true side n c d h = passed_time (lost_of side n c == 0) side n c d h
+  skipped_time false side n c d h = ap {A = Connection (TlsAnalysis K)} (λ x. x.last_time) h
+
+  searched_time : (b : Bool) (side : Side) (c d : Connection (TlsAnalysis K))
+      → AnalyzesIf b side c d → d.last_time ≡ c.last_time
+  searched_time true side c d h = waiting_time side c d h
+  searched_time false side c d h = ap {A = Connection (TlsAnalysis K)} (λ x. x.last_time) h
+
+  front_time : (b : Bool) (side : Side) (c d : Connection (TlsAnalysis K))
+      → FollowsFrontIf b s side c d → d.last_time ≡ c.last_time
+  front_time true side c d h =
+      followed_time (is_followed_in h.third.attachment.transport) side h.third d h.follows
+      ∙ searched_time
+      (not (missing_of (other_of side) (stream_of (other_of side) c).last c == 0)
+      && not (is_followed_in h.second.attachment.transport)) side h.second h.third h.searches
+      ∙ skipped_time (awaits_of side h.first.attachment) side (first_of s) h.first h.second
+      h.skips_own
+      ∙ skipped_time (awaits_of (other_of side) c.attachment) (other_of side)
+      (stream_of (other_of side) c).last c h.first h.skips_other
+  front_time false side c d h = ap {A = Connection (TlsAnalysis K)} (λ x. x.last_time) h
+
   analyzed_time : (side : Side) (c c' : Connection (TlsAnalysis K)) → AnalyzesSide IsReady s side c c'
       → c'.last_time ≡ c.last_time
   analyzed_time side c c' h =
       sender_time side h.0 c' h.2
-      ∙ followed_time (has_data s && is_followed_in c.attachment.transport) side c h.0 h.1
+      ∙ front_time (has_data s && is_front_in c.attachment.transport) side c h.0 h.1
 
   segment_time : (old new : Table (TlsAnalysis K)) (h : AnalyzesSegment IsReady s old new)
       → h.its.last_time ≡ s.time
